@@ -4,3 +4,8 @@ mod Ends
 mod Crash
 mod Output
 mod Silent
+mod Advance
+mod Runs
+mod Follow
+mod Groups
+mod Ending

@@ -3,19 +3,34 @@
 //!
 //! [`Journal`] keeps lines over a [`Host`], which is a file and an output in one: [`Disk`] is a file of the operating
 //! system, [`Memory`] one in memory. `rbbank site` keeps its history so.
-//! Tests: rb_tests, journal.rt.
+//!
+//! [`serve`] answers the lines of a reader by a [`JournaledResponder`], whose state is the run of a journal's lines:
+//! what a read brings is answered, its entries go to the disk together, and then the answers are put out. So nothing
+//! is put out that a crash takes back.
+//! Tests: rb_tests, journal.rt; tests/sites.py, tests/crash.py.
 #![tactic(auto)]
 
 mod batch;
 mod calls;
 mod disk;
+mod fault;
+mod group;
 mod host;
 mod journal;
 mod memory;
+mod no_answer;
 mod record;
+mod responder;
+mod run;
+mod waiting;
+mod work;
 
 pub use batch::{LineBatch, is_line};
 pub use disk::{Disk, open_disk};
+pub use fault::ServeFault;
 pub use host::{Host, HostError};
 pub use journal::{Journal, end_of_lines, recover};
 pub use memory::Memory;
+pub use no_answer::NoAnswer;
+pub use responder::JournaledResponder;
+pub use run::serve;

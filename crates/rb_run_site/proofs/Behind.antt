@@ -4,9 +4,9 @@ use Rattle.std.specs.Prelude.{IfSome}
 use Rattle.rb_journal.specs.Lines.{recovered}
 use Rattle.rb_lines.specs.Lines.{lines_of}
 use Rattle.rb_site.specs.Seen.{SeenSite}
-use Rattle.rb_serve.specs.Ends.{IsFull}
-use Rattle.rb_serve.specs.Run.{served_input}
-use Rattle.rb_serve.specs.declared.fault.ServeFault.{ServeFault}
+use Rattle.rb_journal.specs.Ends.{IsFull}
+use Rattle.rb_journal.specs.Run.{served_input}
+use Rattle.rb_journal.specs.declared.fault.ServeFault.{ServeFault}
 use Rattle.rb_run_site.specs.Ends.{AnswersAll, AnswersBehind, IsFullBehind, RunsTo}
 use Rattle.rb_run_site.specs.Faults.{IsOpeningFault}
 use Rattle.rb_run_site.specs.Journals.{SiteAnswers, journal_of}

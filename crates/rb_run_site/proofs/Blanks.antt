@@ -10,7 +10,7 @@ use Rattle.rb_lines.specs.declared.limits.TheConstants.{LINE_LIMIT}
 use Rattle.rb_lines.proofs.Public.LongLines.{long_line}
 use Rattle.rb_lines.proofs.Public.Walks.{Walks}
 use Rattle.rb_lines.proofs.Public.Walks as walk
-use Rattle.rb_serve.specs.Turns.{not_blank}
+use Rattle.rb_journal.specs.Turns.{not_blank}
 use Rattle.rb_run_site.specs.declared.fault.SiteFault.TheVariants.{NoConfig, LongLine, Read, OutOfMemory}
 use Rattle.rb_run_site.specs.FirstLines.{FindsFirst}
 

@@ -12,11 +12,11 @@ use Rattle.rb_journal.proofs.Public.Lines.{line_alone, still_lines}
 use Rattle.rb_site.specs.Seen.{SeenSite}
 use Rattle.rb_history.specs.ConfigLines.{config_json}
 use Rattle.rb_history.specs.OneLine.{ConfigsAreLines}
-use Rattle.rb_serve.specs.Ends.{EndsAs, IsPutOut}
-use Rattle.rb_serve.specs.Run.{AreFirst, IsRunOfTurns}
-use Rattle.rb_serve.specs.Turns.{Turn, not_blank, texts}
-use Rattle.rb_serve.specs.declared.fault.ServeFault.{ServeFault}
-use Rattle.rb_serve.specs.declared.fault.ServeFault.TheVariants.{BadLine, LongLine, Read, Write, Journal as JournalStopped, OutOfMemory}
+use Rattle.rb_journal.specs.Ends.{EndsAs, IsPutOut}
+use Rattle.rb_journal.specs.Run.{AreFirst, IsRunOfTurns}
+use Rattle.rb_journal.specs.Turns.{Turn, not_blank, texts}
+use Rattle.rb_journal.specs.declared.fault.ServeFault.{ServeFault}
+use Rattle.rb_journal.specs.declared.fault.ServeFault.TheVariants.{BadLine, LongLine, Read, Write, Journal as JournalStopped, OutOfMemory}
 use Rattle.rb_lines.specs.Lines.{lines_of}
 use Rattle.rb_run_site.specs.Ends.{AnswersAll}
 use Rattle.rb_run_site.specs.Faults.{fault_of_serve}

@@ -19,7 +19,7 @@ use Rattle.rb_history.specs.Fits.{Each}
 use Rattle.rb_history.proofs.Public.Each.{each_both}
 use Rattle.rb_node.specs.Laws.{AnswersAreReplayed, AreReplayed}
 use Rattle.rb_node.specs.Replays.{IsReadBack, IsReadWhole}
-use Rattle.rb_serve.specs.Turns.{AreTurns, Turn, lines_added, state_after}
+use Rattle.rb_journal.specs.Turns.{AreTurns, Turn, lines_added, state_after}
 use Rattle.rb_run_site.specs.Journals.{SiteAnswers, journal_head, journal_of, lines_of_entries}
 use Rattle.rb_run_site.specs.Openings.{EndsFile}
 use Rattle.rb_run_site.specs.Restarts.{Again, HasRestarted, Idle, Once, RestartedRunsAreOne, RestartsAreTaken, RestartsGoOn}

@@ -17,7 +17,7 @@ use Rattle.rb_site.proofs.Public.Seen.{entries_replayed, history-state, replayed
 use Rattle.rb_crashes.specs.Crashes.{DiskSite, DiskStep, MayAllHappen, MayHappenAlone, Reports, Syncs, after_step, after_steps, with_event}
 use Rattle.rb_crashes.proofs.Public.StepLists.{after_both, both_may}
 use Rattle.rb_journal.specs.Lines.{recovered}
-use Rattle.rb_serve.specs.Turns.{AreTurns, Turn, lines_added, state_after}
+use Rattle.rb_journal.specs.Turns.{AreTurns, Turn, lines_added, state_after}
 use Rattle.rb_run_site.specs.Journals.{SiteAnswers, journal_of}
 use Rattle.rb_run_site.specs.Runs.{IsSiteRun}
 use Rattle.rb_run_site.specs.Steps.{AreSteps, AreStepsOf, IsRunOfSteps, IsTurnInSteps, journal_on_disk, restarted, step_of}

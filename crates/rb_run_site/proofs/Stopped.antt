@@ -2,10 +2,10 @@
 use Rattle.std.proofs.Common.{◌≡◌, ℕ, Result, Err, refl, subst, sym, inl}
 use Rattle.rb_journal.specs.declared.host.HostError.{HostError}
 use Rattle.rb_journal.specs.declared.host.HostError.TheVariants.{Memory, DiskFailed as DiskError, OutputFailed, Full}
-use Rattle.rb_serve.specs.Ends.{EndsAtRest}
-use Rattle.rb_serve.specs.Faults.{fault_of_host}
-use Rattle.rb_serve.specs.declared.fault.ServeFault.{ServeFault}
-use Rattle.rb_serve.specs.declared.fault.ServeFault.TheVariants.{BadLine, LongLine, Read, Write, Journal, OutOfMemory}
+use Rattle.rb_journal.specs.Ends.{EndsAtRest}
+use Rattle.rb_journal.specs.Faults.{fault_of_host}
+use Rattle.rb_journal.specs.declared.fault.ServeFault.{ServeFault}
+use Rattle.rb_journal.specs.declared.fault.ServeFault.TheVariants.{BadLine, LongLine, Read, Write, Journal, OutOfMemory}
 use Rattle.rb_run_site.specs.Ends.{RunsTo}
 use Rattle.rb_run_site.specs.Faults.{fault_of_serve}
 use Rattle.rb_run_site.specs.declared.fault.SiteFault.{SiteFault}

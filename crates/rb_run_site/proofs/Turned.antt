@@ -12,7 +12,7 @@ use Rattle.rb_site.specs.Seen.{SeenSite, next_site, next_sites, state_of, steppe
 use Rattle.rb_site.proofs.Public.Seen.{settings-next}
 use Rattle.rb_history.specs.OneLine.{EntriesAreLines}
 use Rattle.rb_journal.specs.Lines.{IsBatch, recovered}
-use Rattle.rb_serve.specs.Turns.{IsTurn}
+use Rattle.rb_journal.specs.Turns.{IsTurn}
 use Rattle.rb_node.specs.Answers.{IsSiteAnswer}
 use Rattle.rb_run_site.specs.Journals.{SiteAnswers, journal_head, journal_of, lines_of_entries}
 use Rattle.rb_run_site.proofs.EntryLines.{are_theirs, fed, joined_lines}

@@ -3,10 +3,10 @@ use Rattle.std.specs.Prelude.{◌≡◌, ◌⊎◌, ℕ, List, ◌++◌, Option,
 use Rattle.rb_journal.specs.Host.{Only}
 use Rattle.rb_journal.specs.Lines.{at_rest, recovered}
 use Rattle.rb_site.specs.Seen.{SeenSite}
-use Rattle.rb_serve.specs.Ends.{EndsAs, IsFull, IsPutOut}
-use Rattle.rb_serve.specs.Turns.{Turn}
-use Rattle.rb_serve.specs.declared.fault.ServeFault.{ServeFault}
-use Rattle.rb_serve.specs.declared.fault.ServeFault.TheVariants.{BadLine as BadInput, LongLine as LongInput, Read as NotRead}
+use Rattle.rb_journal.specs.Ends.{EndsAs, IsFull, IsPutOut}
+use Rattle.rb_journal.specs.Turns.{Turn}
+use Rattle.rb_journal.specs.declared.fault.ServeFault.{ServeFault}
+use Rattle.rb_journal.specs.declared.fault.ServeFault.TheVariants.{BadLine as BadInput, LongLine as LongInput, Read as NotRead}
 use Rattle.rb_run_site.specs.Journals.{SiteAnswers, journal_of}
 use Rattle.rb_run_site.specs.Runs.{AreBytesBehind}
 use Rattle.rb_run_site.specs.Starts.{Starts, sent_again}

@@ -1,8 +1,8 @@
 -- What a run of a site that stops says on standard error, and its status.
 use Rattle.std.specs.Prelude.{ℕ, List, ◌++◌, codes, decimal}
-use Rattle.rb_serve.specs.declared.fault.ServeFault.{ServeFault}
-use Rattle.rb_serve.specs.declared.fault.ServeFault.TheVariants.{BadLine as BadInput, LongLine as LongInput, Read as NotRead}
-use Rattle.rb_serve.specs.declared.fault.ServeFault.TheVariants.{Write as NotWritten, Journal as DiskFailed, OutOfMemory as NoMemory}
+use Rattle.rb_journal.specs.declared.fault.ServeFault.{ServeFault}
+use Rattle.rb_journal.specs.declared.fault.ServeFault.TheVariants.{BadLine as BadInput, LongLine as LongInput, Read as NotRead}
+use Rattle.rb_journal.specs.declared.fault.ServeFault.TheVariants.{Write as NotWritten, Journal as DiskFailed, OutOfMemory as NoMemory}
 use Rattle.rb_run_site.specs.declared.fault.SiteFault.{SiteFault}
 use Rattle.rb_run_site.specs.declared.fault.SiteFault.TheVariants.{NoConfig, BadConfig, NoSite, AnotherJournal, BadEntry, WrongReply}
 use Rattle.rb_run_site.specs.declared.fault.SiteFault.TheVariants.{InUse, BadLine, LongLine, Read, Write, Journal, OutOfMemory}

@@ -1,7 +1,7 @@
 -- The first line of an input that isn't blank.
 use Rattle.std.specs.Prelude.{◌≡◌, ℕ, ◌+◌, true, List, [], ◌∷◌, ◌++◌, length, Option, Some, Result, Ok, Err}
 use Rattle.rb_lines.specs.Lines.{is_long, lines_of, whole_lines}
-use Rattle.rb_serve.specs.Turns.{not_blank}
+use Rattle.rb_journal.specs.Turns.{not_blank}
 use Rattle.rb_run_site.specs.declared.fault.SiteFault.{SiteFault}
 use Rattle.rb_run_site.specs.declared.fault.SiteFault.TheVariants.{NoConfig}
 use Rattle.rb_run_site.specs.declared.fault.SiteFault.TheVariants.{LongLine, Read, OutOfMemory}

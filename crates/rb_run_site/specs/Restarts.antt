@@ -2,7 +2,7 @@
 use Rattle.std.specs.Prelude.{◌≡◌, ℕ, List, ◌++◌, Option, Some}
 use Rattle.rb_history.specs.Configurations.{config_on}
 use Rattle.rb_journal.specs.Lines.{recovered}
-use Rattle.rb_serve.specs.Turns.{AreTurns, Turn, state_after}
+use Rattle.rb_journal.specs.Turns.{AreTurns, Turn, state_after}
 use Rattle.rb_site.specs.Seen.{SeenSite}
 use Rattle.rb_run_site.specs.Journals.{SiteAnswers}
 use Rattle.rb_run_site.specs.Openings.{EndsOpening}

@@ -5,8 +5,8 @@ use Rattle.rb_journal.specs.Host.{AddsPrefix}
 use Rattle.rb_journal.specs.Journal.{IsLeftAs}
 use Rattle.rb_journal.specs.Lines.{recovered}
 use Rattle.rb_site.specs.Seen.{SeenSite}
-use Rattle.rb_serve.specs.Run.{AreFirst}
-use Rattle.rb_serve.specs.Turns.{AreTurns, Turn, lines_added, texts}
+use Rattle.rb_journal.specs.Run.{AreFirst}
+use Rattle.rb_journal.specs.Turns.{AreTurns, Turn, lines_added, texts}
 use Rattle.rb_run_site.specs.Journals.{SiteAnswers, journal_of}
 use Rattle.rb_run_site.specs.Starts.{IsBehind, Starts, sent_again}
 

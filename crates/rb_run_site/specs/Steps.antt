@@ -11,7 +11,7 @@ use Rattle.rb_crashes.specs.Crashes.{Acts, DiskSite, DiskStep, MayAllHappen, Rec
 use Rattle.rb_journal.specs.Journal.{IsLeftAs}
 use Rattle.rb_journal.specs.Lines.{recovered}
 use Rattle.rb_node.specs.Answers.{event_on}
-use Rattle.rb_serve.specs.Turns.{Turn}
+use Rattle.rb_journal.specs.Turns.{Turn}
 use Rattle.rb_run_site.specs.Journals.{journal_of}
 use Rattle.rb_run_site.specs.Runs.{HasRun}
 

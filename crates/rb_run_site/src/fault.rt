@@ -3,7 +3,7 @@ ghost use Rattle.std.specs.Prelude.{◌≡◌, string_bytes, IfOk};
 ghost use Rattle.rb_run_site.specs.Faults.{fault_of_serve, site_message_of, site_status_of};
 ghost use Rattle.rb_run_site.specs.declared.fault.SiteFault.TheVariants.{OutOfMemory};
 
-use rb_serve::ServeFault;
+use rb_journal::ServeFault;
 use std::alloc::{AllocError, Global};
 use std::fmt;
 use thiserror::Error;

@@ -6,15 +6,15 @@
 mod entries;
 mod fault;
 mod first_line;
-mod machine;
 mod opening;
 mod replay;
+mod responder;
 mod run;
 
 ghost use Rattle.rb_run_site.specs.Restarts.{RestartedRunsAreOne, RestartsAreTaken, RestartsGoOn};
 
 pub use fault::{SiteFault, site_message, site_status};
-pub use machine::SiteMachine;
+pub use responder::SiteResponder;
 pub use run::{Ran, run_site};
 
 /// However often a site ran and crashed, each run over the file that the crash before it left: the next run starts with

@@ -17,8 +17,8 @@ ghost use Rattle.rb_run_site.specs.declared.fault.SiteFault.TheVariants.{Read as
 use crate::entries::entries_in;
 use crate::fault::SiteFault;
 use crate::first_line::first_line;
-use crate::machine::SiteMachine;
 use crate::replay::{count_lines, replay_all};
+use crate::responder::SiteResponder;
 use rb_history::lines_are_single;
 use rb_lines::{Buffers, Source, ToBytes};
 use rb_node::{Node, NodeFault};
@@ -26,7 +26,7 @@ use std::alloc::Global;
 
 /// A site before its first event line.
 pub struct Opened {
-    pub machine: SiteMachine,
+    pub responder: SiteResponder,
     /// The configuration's line with its line feed, where the journal doesn't have it yet; else nothing.
     pub first: Vec<u8>,
     /// The lines of what is sent again.
@@ -37,11 +37,11 @@ impl Opened {
     /// Closes the site.
     pub fn close(self) {
         let Opened {
-            machine,
+            responder,
             first: _,
             sends: _,
         } = self;
-        machine.close();
+        responder.close();
     }
 }
 
@@ -108,7 +108,7 @@ pub fn open_site<S: Source>(
     ensures buffered { IfOk result (λ _. buffers.new.buffered.items ≡ []) }
     ensures number { IfOk result (λ r. r.1 + length buffers.new.pending < 2 ^ 63) }
     ensures opened { IfOk result (λ r. (config : List ℕ) × OpensSite config me resend bytes.now
-        r.0.machine.node.site r.0.first.items r.0.sends.items
+        r.0.responder.node.site r.0.first.items r.0.sends.items
         × IfSome (S.remaining reader.old) (WaitsBehind config r.1 buffers.new.pending (S.remaining reader.new))) }
     ensures only { IfErr result IsOpeningFault }
     ensures cause { IfErr result (IsOpeningCause me (S.remaining reader.old) (S.remaining reader.new) bytes.now) }
@@ -122,10 +122,10 @@ pub fn open_site<S: Source>(
     let mut sends = Vec::new(alloc);
     match replay_file(alloc, &mut node, bytes, resend, &mut sends) {
         Ok(first) => {
-            let machine = SiteMachine::new(alloc, node);
+            let responder = SiteResponder::new(alloc, node);
             Ok((
                 Opened {
-                    machine,
+                    responder,
                     first,
                     sends,
                 },

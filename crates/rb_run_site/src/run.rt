@@ -6,10 +6,10 @@ ghost use Rattle.rb_journal.specs.Journal.{IsSettled};
 ghost use Rattle.rb_journal.specs.Lines.{recovered};
 ghost use Rattle.rb_lines.specs.Buffers.{Counts};
 ghost use Rattle.rb_lines.specs.declared.limits.TheConstants.{MOST_READS};
-ghost use Rattle.rb_serve.specs.Ends.{EndsAtRest, IsFull};
-ghost use Rattle.rb_serve.specs.declared.fault.ServeFault.TheVariants.{Journal as JournalStopped, Read as ReadStopped};
-ghost use Rattle.rb_serve.specs.declared.fault.ServeFault.TheVariants.{Write as WriteStopped};
-ghost use Rattle.rb_serve.specs.Run.{served_input};
+ghost use Rattle.rb_journal.specs.Ends.{EndsAtRest, IsFull};
+ghost use Rattle.rb_journal.specs.declared.fault.ServeFault.TheVariants.{Journal as JournalStopped, Read as ReadStopped};
+ghost use Rattle.rb_journal.specs.declared.fault.ServeFault.TheVariants.{Write as WriteStopped};
+ghost use Rattle.rb_journal.specs.Run.{served_input};
 ghost use Rattle.rb_run_site.specs.Ends.{AnswersAll, AnswersBehind, IsAtRest, IsFullBehind, RunsTo};
 ghost use Rattle.rb_run_site.specs.Openings.{IsOpeningCause, IsToBegin};
 ghost use Rattle.rb_run_site.specs.Runs.{IsLeftOrAnswered, IsSiteRun};
@@ -22,9 +22,8 @@ ghost use Rattle.rb_run_site.specs.declared.fault.SiteFault.TheVariants.{Write a
 use crate::fault::SiteFault;
 use crate::opening::{Opened, open_site};
 use rb_history::lines_are_single;
-use rb_journal::{Host, Journal};
+use rb_journal::{Host, Journal, ServeFault, serve};
 use rb_lines::{Buffers, Source};
-use rb_serve::{ServeFault, serve};
 use std::alloc::Global;
 
 /// What a run came to: the host that it ran over, and how many lines were answered, or why it stopped.
@@ -44,32 +43,39 @@ fn go_on<S: Source, H: Host>(
     reader: &mut S,
 ) -> Result<u64, ServeFault>
     requires settled { IsSettled H.is_usable H.content H.may_leave journal.old }
-    requires begins { IsToBegin (recovered (H.content journal.old.host)) opened.old.machine.node.site
+    requires begins { IsToBegin (recovered (H.content journal.old.host)) opened.old.responder.node.site
         opened.old.first.items }
-    requires journal { IsJournalOf (recovered (H.content journal.old.host)) opened.old.machine.node.site }
+    requires journal { IsJournalOf (recovered (H.content journal.old.host)) opened.old.responder.node.site }
     requires counted { Counts (S.calls reader.old) buffers.old.reads }
     requires end { buffers.old.ended ≡ true → IsAtEnd (S.remaining reader.old) }
     requires buffered { buffers.old.buffered.items ≡ [] }
     requires number { number + length buffers.old.pending < 2 ^ 63 }
     ensures settled { EndsAtRest result → IsSettled H.is_usable H.content H.may_leave journal.new }
-    ensures text { EndsAtRest result → AnswersAll opened.old.machine.node.site opened.old.sends.items number
+    ensures text { EndsAtRest result → AnswersAll opened.old.responder.node.site opened.old.sends.items number
         (served_input buffers.old.pending (S.remaining reader.old)) (S.remaining reader.new)
         (H.output journal.old.host) (recovered (H.content journal.new.host)) (H.output journal.new.host) result }
     ensures any_moment { LeavesOnly H.moment H.left_since journal.old.host journal.new.host
-        (IsLeftOrAnswered (recovered (H.content journal.old.host)) opened.old.machine.node.site opened.old.sends.items
+        (IsLeftOrAnswered (recovered (H.content journal.old.host)) opened.old.responder.node.site opened.old.sends.items
         (served_input buffers.old.pending (S.remaining reader.old)) (H.output journal.old.host)) }
     ensures read { result ≡ Err ReadStopped → (S.failed reader.new ≡ true) ⊎ (S.calls reader.new ≡ MOST_READS) }
     ensures write { result ≡ Err WriteStopped → H.faults journal.old.host < H.faults journal.new.host }
     ensures journal { result ≡ Err JournalStopped → (H.faults journal.old.host < H.faults journal.new.host)
         ⊎ IsFull SiteAnswers (served_input buffers.old.pending (S.remaining reader.old))
-        opened.old.machine.node.site (journal_of opened.old.machine.node.site) }
+        opened.old.responder.node.site (journal_of opened.old.responder.node.site) }
     ensures calls { S.calls reader.new ≤ MOST_READS }
 {
     // For a fact alone: the line of a configuration is a line.
     lines_are_single();
-    let _sites = opened.machine.node.config().sites();
+    let _sites = opened.responder.node.config().sites();
     journal.commit_and_put_out(&opened.first, &opened.sends)?;
-    serve(alloc, &mut opened.machine, journal, buffers, number, reader)
+    serve(
+        alloc,
+        &mut opened.responder,
+        journal,
+        buffers,
+        number,
+        reader,
+    )
 }
 
 /// Runs an opened site over a file, whose bytes these are.
@@ -85,26 +91,26 @@ fn run_opened<S: Source, H: Host>(
     requires usable { H.is_usable host }
     requires bytes { bytes.now ≡ H.content host }
     requires durable { Only (H.content host) (H.may_leave host) }
-    requires begins { IsToBegin (recovered bytes.now) opened.machine.node.site opened.first.items }
-    requires journal { IsJournalOf (recovered bytes.now) opened.machine.node.site }
+    requires begins { IsToBegin (recovered bytes.now) opened.responder.node.site opened.first.items }
+    requires journal { IsJournalOf (recovered bytes.now) opened.responder.node.site }
     requires counted { Counts (S.calls reader.old) buffers.old.reads }
     requires end { buffers.old.ended ≡ true → IsAtEnd (S.remaining reader.old) }
     requires buffered { buffers.old.buffered.items ≡ [] }
     requires number { number + length buffers.old.pending < 2 ^ 63 }
     ensures ended { RunsTo
-        (λ end. AnswersAll opened.machine.node.site opened.sends.items number
+        (λ end. AnswersAll opened.responder.node.site opened.sends.items number
         (served_input buffers.old.pending (S.remaining reader.old)) (S.remaining reader.new) (H.output host)
         (recovered (H.content result.host)) (H.output result.host) end
         × IsAtRest (H.content result.host) (H.may_leave result.host))
         (λ _. ⊥) result.ended }
     ensures any_moment { LeavesOnly H.moment H.left_since host result.host
-        (IsLeftOrAnswered (recovered bytes.now) opened.machine.node.site opened.sends.items
+        (IsLeftOrAnswered (recovered bytes.now) opened.responder.node.site opened.sends.items
         (served_input buffers.old.pending (S.remaining reader.old)) (H.output host)) }
     ensures read { result.ended ≡ Err NotRead → (S.failed reader.new ≡ true) ⊎ (S.calls reader.new ≡ MOST_READS) }
     ensures write { result.ended ≡ Err NotWritten → H.faults host < H.faults result.host }
     ensures journal { result.ended ≡ Err DiskFailed → (H.faults host < H.faults result.host)
         ⊎ IsFull SiteAnswers (served_input buffers.old.pending (S.remaining reader.old))
-        opened.machine.node.site (journal_of opened.machine.node.site) }
+        opened.responder.node.site (journal_of opened.responder.node.site) }
     ensures calls { S.calls reader.new ≤ MOST_READS }
 {
     match Journal::open(host, bytes) {

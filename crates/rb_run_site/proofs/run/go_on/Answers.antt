@@ -3,8 +3,8 @@ use Rattle.std.proofs.Common.{arith, ◌≡◌, ◌∙◌, ◌++◌, ◌<◌, �
 use Rattle.rb_money.specs.Settings.{IsConfigured}
 use Rattle.rb_journal.specs.Journal.{IsDurable}
 use Rattle.rb_journal.specs.Lines.{recovered}
-use Rattle.rb_serve.specs.Ends.{IsFull}
-use Rattle.rb_serve.specs.Run.{IsRunOfTurns, served_input}
+use Rattle.rb_journal.specs.Ends.{IsFull}
+use Rattle.rb_journal.specs.Run.{IsRunOfTurns, served_input}
 use Rattle.rb_run_site.specs.Journals.{SiteAnswers, journal_of}
 use Rattle.rb_run_site.specs.Openings.{IsToBegin}
 use Rattle.rb_run_site.specs.Runs.{IsLeftOrAnswered}
@@ -14,7 +14,7 @@ use Rattle.rb_run_site.proofs.run.go_on.Goals as goal
 
 pub commit_and_put_out-requires-clause-lines : goal.commit_and_put_out-requires-clause-lines
 commit_and_put_out-requires-clause-lines g c =
-    let x = c.args.opened.now.machine.node.site in
+    let x = c.args.opened.now.responder.node.site in
     let lines = recovered (g.H.Host.content c.args.journal.now.host) in
     let is = begins c.lines_are_single.ensures.configs lines x c.deref.result.now
     (subst IsConfigured c.config.ensures c.sites-sites.ensures.configured)
@@ -25,7 +25,7 @@ pub returns-in_err-commit_and_put_out-clause-any_moment :
     goal.returns-in_err-commit_and_put_out-clause-any_moment
 returns-in_err-commit_and_put_out-clause-any_moment g c =
     let host = g.H.Host in
-    let x = c.args.opened.now.machine.node.site in
+    let x = c.args.opened.now.responder.node.site in
     let was = c.args.journal.now.host in
     let mid = c.commit_and_put_out.new.self.host in
     let lines = recovered (host.content was) in
@@ -41,7 +41,7 @@ returns-in_err-commit_and_put_out-clause-any_moment g c =
 
 pub serve-requires-clause-same : goal.serve-requires-clause-same
 serve-requires-clause-same g c =
-    let x = c.args.opened.now.machine.node.site in
+    let x = c.args.opened.now.responder.node.site in
     let lines = recovered (g.H.Host.content c.args.journal.now.host) in
     let is = begins c.lines_are_single.ensures.configs lines x c.deref.result.now
     (subst IsConfigured c.config.ensures c.sites-sites.ensures.configured)
@@ -51,7 +51,7 @@ serve-requires-clause-same g c =
 pub returns-clause-text : goal.returns-clause-text
 returns-clause-text g c = λ at_rest.
     let host = g.H.Host in
-    let x = c.args.opened.now.machine.node.site in
+    let x = c.args.opened.now.responder.node.site in
     let was = c.args.journal.now.host in
     let mid = c.commit_and_put_out.new.self.host in
     let new = c.serve.new in
@@ -70,7 +70,7 @@ returns-clause-text g c = λ at_rest.
 pub returns-clause-any_moment : goal.returns-clause-any_moment
 returns-clause-any_moment g c =
     let host = g.H.Host in
-    let x = c.args.opened.now.machine.node.site in
+    let x = c.args.opened.now.responder.node.site in
     let was = c.args.journal.now.host in
     let mid = c.commit_and_put_out.new.self.host in
     let new = c.serve.new in
@@ -93,7 +93,7 @@ returns-clause-any_moment g c =
 pub returns-clause-journal : goal.returns-clause-journal
 returns-clause-journal g c = λ failed.
     let host = g.H.Host in
-    let x = c.args.opened.now.machine.node.site in
+    let x = c.args.opened.now.responder.node.site in
     let was = c.args.journal.now.host in
     let mid = c.commit_and_put_out.new.self.host in
     let new = c.serve.new.journal.host in

@@ -3,10 +3,10 @@ use Rattle.std.proofs.Common.{rules, arith, ◌≡◌, ◌<◌, ◌∙◌, ⊎_e
 use Rattle.rb_journal.specs.Host.{LeavesOnly}
 use Rattle.rb_journal.specs.Journal.{IsLeftAs}
 use Rattle.rb_journal.specs.Lines.{recovered}
-use Rattle.rb_serve.specs.Ends.{IsFull}
-use Rattle.rb_serve.specs.Run.{served_input}
-use Rattle.rb_serve.specs.declared.fault.ServeFault.TheVariants.{Journal as JournalStopped}
-use Rattle.rb_serve.specs.Faults.{fault_of_host}
+use Rattle.rb_journal.specs.Ends.{IsFull}
+use Rattle.rb_journal.specs.Run.{served_input}
+use Rattle.rb_journal.specs.declared.fault.ServeFault.TheVariants.{Journal as JournalStopped}
+use Rattle.rb_journal.specs.Faults.{fault_of_host}
 use Rattle.rb_run_site.specs.Ends.{AnswersAll, IsAtRest}
 use Rattle.rb_run_site.specs.Faults.{fault_of_serve}
 use Rattle.rb_run_site.specs.Journals.{SiteAnswers, journal_of}
@@ -23,7 +23,7 @@ use Rattle.rb_run_site.proofs.run.run_opened.Goals as goal
 -- a crash leaves the journal and the output as they were, or with some of the lines answered
 run : (g : Over) (c : After-go_on-ended g) → LeavesOnly g.H.Host.moment g.H.Host.left_since c.args.host
     c.go_on-ended.new.journal.host
-    (IsLeftOrAnswered (recovered c.args.bytes.now) c.args.opened.machine.node.site c.args.opened.sends.items
+    (IsLeftOrAnswered (recovered c.args.bytes.now) c.args.opened.responder.node.site c.args.opened.sends.items
     (served_input c.args.buffers.now.pending (g.S.Source.remaining c.args.reader.now)) (g.H.Host.output c.args.host))
 run g c =
     let host = g.H.Host in
@@ -48,7 +48,7 @@ returns-in-Err-ended-clause-journal g c = λ failed.
     let host = g.H.Host in
     let mid = c.in-Ok.journal.host in
     let new = c.go_on-ended.new.journal.host in
-    let x = c.args.opened.machine.node.site in
+    let x = c.args.opened.responder.node.site in
     let input = served_input c.args.buffers.now.pending (g.S.Source.remaining c.args.reader.now) in
     let fault = c.in-Err-ended.fault in
     let same : c.from.result ≡ fault_of_serve fault = search rules in
@@ -60,7 +60,7 @@ returns-in-Err-ended-clause-journal g c = λ failed.
 
 pub go_on-ended-requires-clause-begins : goal.go_on-ended-requires-clause-begins
 go_on-ended-requires-clause-begins g c =
-    subst (λ ls. IsToBegin ls c.args.opened.machine.node.site c.args.opened.first.items) (sym c.in-Ok.ensures.lines) c.requires.begins
+    subst (λ ls. IsToBegin ls c.args.opened.responder.node.site c.args.opened.first.items) (sym c.in-Ok.ensures.lines) c.requires.begins
 
 pub returns-in-Ok-ended-clause-ended : goal.returns-in-Ok-ended-clause-ended
 returns-in-Ok-ended-clause-ended g c =
@@ -77,7 +77,7 @@ returns-in-Err-ended-clause-ended g c =
     let fault = c.in-Err-ended.fault in
     let text = rw c.in-Ok.ensures.output at c.in-Err-ended.ensures.text in
     let settled = c.in-Err-ended.ensures.settled in
-    stopped (λ ended. AnswersAll opened.machine.node.site opened.sends.items c.args.number input
+    stopped (λ ended. AnswersAll opened.responder.node.site opened.sends.items c.args.number input
     (g.S.Source.remaining c.go_on-ended.new.reader) (host.output c.args.host) (recovered (host.content new)) (host.output new) ended
     × IsAtRest (host.content new) (host.may_leave new)) fault c.from.result c.from.ensures
     (λ at. (text at, ((settled at).file, (settled at).durable)))
@@ -88,7 +88,7 @@ returns-in-Err-clause-ended g c =
     let new = c.in-Err.host in
     let opened = c.args.opened in
     let left = g.S.Source.remaining c.args.reader.now in
-    not_begun (λ ended. AnswersAll opened.machine.node.site opened.sends.items c.args.number
+    not_begun (λ ended. AnswersAll opened.responder.node.site opened.sends.items c.args.number
     (served_input c.args.buffers.now.pending left) left (host.output c.args.host) (recovered (host.content new)) (host.output new) ended
     × IsAtRest (host.content new) (host.may_leave new)) c.in-Err.error c.from-in-Err-2.result
     (passed g (goal.at.returns-in-Err-clause-ended g c).After-from-in-Err-2)
@@ -101,7 +101,7 @@ returns-in-Err-clause-any_moment g c =
     let opened = c.args.opened in
     let input = served_input c.args.buffers.now.pending (g.S.Source.remaining c.args.reader.now) in
     weaker host.moment host.left_since was c.in-Err.host (IsLeftAs lines (host.output was))
-    (IsLeftOrAnswered lines opened.machine.node.site opened.sends.items input (host.output was)) c.in-Err.ensures.any_moment_err
+    (IsLeftOrAnswered lines opened.responder.node.site opened.sends.items input (host.output was)) c.in-Err.ensures.any_moment_err
     (λ f d at. inl at)
 
 pub returns-in-Err-clause-read : goal.returns-in-Err-clause-read

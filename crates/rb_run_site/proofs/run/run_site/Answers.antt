@@ -2,8 +2,8 @@
 use Rattle.std.proofs.Common.{◌≡◌, ◌<◌, ◌∙◌, ⊎_elim, ap, inl, inr, refl, sym, ℕ, List}
 use Rattle.rb_journal.specs.Host.{LeavesOnly}
 use Rattle.rb_journal.specs.Lines.{recovered}
-use Rattle.rb_serve.specs.Ends.{IsFull}
-use Rattle.rb_serve.specs.Run.{served_input}
+use Rattle.rb_journal.specs.Ends.{IsFull}
+use Rattle.rb_journal.specs.Run.{served_input}
 use Rattle.rb_run_site.specs.Ends.{AnswersAll, AnswersBehind, IsAtRest}
 use Rattle.rb_run_site.specs.Journals.{SiteAnswers, journal_of}
 use Rattle.rb_run_site.specs.Openings.{IsOpeningCause}
@@ -25,7 +25,7 @@ run g c =
     let is = c.in-Ok.ensures.opened in
     weaker g.H.Host.moment g.H.Host.left_since _ _ _ _ c.run_opened.ensures.any_moment
     (λ f d run. run_behind _ _ c.in-Ok.number _ (g.S.Source.remaining c.open_site.new.reader) c.args.bytes.now is.0
-    c.open_site.new.buffers.pending c.in-Ok.opened.machine.node.site c.in-Ok.opened.first.items
+    c.open_site.new.buffers.pending c.in-Ok.opened.responder.node.site c.in-Ok.opened.first.items
     c.in-Ok.opened.sends.items is.1 is.2 _ f d run)
 
 -- a crash before the run leaves the lines and the output as they were
@@ -45,7 +45,7 @@ returns-in-Ok-clause-ended g c =
     let left = g.S.Source.remaining mid.reader in
     let still = g.S.Source.remaining c.run_opened.new.reader in
     let new = c.run_opened.result.host in
-    let x = c.in-Ok.opened.machine.node.site in
+    let x = c.in-Ok.opened.responder.node.site in
     let first = c.in-Ok.opened.first.items in
     let sends = c.in-Ok.opened.sends.items in
     let output = host.output c.args.host in
@@ -80,7 +80,7 @@ returns-in-Ok-clause-journal g c = λ failed.
     let is = c.in-Ok.ensures.opened in
     let mid = c.open_site.new in
     let left = g.S.Source.remaining mid.reader in
-    let x = c.in-Ok.opened.machine.node.site in
+    let x = c.in-Ok.opened.responder.node.site in
     ⊎_elim (λ (more : host.faults c.args.host < host.faults c.run_opened.result.host). inl more)
     (λ (full : IsFull SiteAnswers (served_input mid.buffers.pending left) x (journal_of x)). inr
     (full_behind c.args.me c.args.resend c.in-Ok.number (g.S.Source.remaining c.args.reader.now) left c.args.bytes.now is.0

@@ -1,0 +1,162 @@
+-- Turns one after another, and lines that are taken off what waits.
+use Rattle.std.proofs.Common.{◌≡◌, ◌<◌, ◌≤◌, ◌+◌, ◌⊎◌, ℕ, Bool, true, false, cond, not}
+use Rattle.std.proofs.Common.{List, [], ◌∷◌, ◌++◌, length, take, drop, inl, inr, refl, sym}
+use Rattle.std.proofs.Common.{ap, ◌∙◌, arith, subst, append_assoc, append-nil, length-append}
+use Rattle.std.proofs.lemmas.List.{map-append}
+use Rattle.std.proofs.lemmas.List.Concat.{flat_map-append}
+use Rattle.std.proofs.lemmas.List.Elements.{filter-append}
+use Rattle.rb_lines.specs.Lines.{is_blank, line_len, lines_of, whole_lines}
+use Rattle.rb_lines.proofs.Public.LongLines.{len_is, first}
+use Rattle.rb_lines.proofs.Public.Walks.{Walks, after_line}
+use Rattle.rb_journal.specs.Turns.{Answers, AreTurns, IsTurn, Turn, lines_added, lines_answered, not_blank, state_after, texts}
+use Rattle.rb_journal.specs.Steps.{Advances, IsTaken, Point}
+
+-- turns, and then turns in the state that they left
+pub turns_then : {S : Type 0} (answers : Answers S) (s : S) (xs ys : List (Turn S)) → AreTurns answers s xs
+    → AreTurns answers (state_after s xs) ys → AreTurns answers s (xs ++ ys)
+turns_then answers s [] ys a b = b
+turns_then answers s (x ∷ xs) ys a b = (a.0, turns_then answers x.after xs ys a.1 b)
+
+-- the state after some turns and then others
+pub state_then : {S : Type 0} (s now new : S) (xs ys : List (Turn S)) → now ≡ state_after s xs → new ≡ state_after now ys
+    → new ≡ state_after s (xs ++ ys)
+state_then s now new [] ys a b = b ∙ ap (λ t. state_after t ys) a
+state_then s now new (x ∷ xs) ys a b = state_then x.after now new xs ys a b
+
+-- the lines that turns add, behind those that others added
+pub added_then : {S : Type 0} (lines now new : List (List ℕ)) (xs ys : List (Turn S)) → now ≡ lines ++ lines_added xs
+    → new ≡ now ++ lines_added ys
+    → new ≡ lines ++ lines_added (xs ++ ys)
+added_then {S} lines now new xs ys a b =
+    b ∙ ap (λ ls. ls ++ lines_added ys) a ∙ append_assoc lines (lines_added xs) (lines_added ys)
+    ∙ ap (λ ls. lines ++ ls) (sym (flat_map-append (λ (t : Turn S). t.added) xs ys))
+
+-- the text of turns, behind that of others
+pub texts_then : {S : Type 0} (text now new : List ℕ) (xs ys : List (Turn S)) → now ≡ text ++ texts xs → new ≡ now ++ texts ys
+    → new ≡ text ++ texts (xs ++ ys)
+texts_then {S} text now new xs ys a b =
+    b ∙ ap (λ l. l ++ texts ys) a ∙ append_assoc text (texts xs) (texts ys)
+    ∙ ap (λ l. text ++ l) (sym (flat_map-append (λ (t : Turn S). t.text) xs ys))
+
+-- the lines that turns answer, behind those that others answered
+pub answered_then : {S : Type 0} (xs ys : List (Turn S)) (before behind : List (List ℕ)) → lines_answered xs ≡ not_blank before
+    → lines_answered ys ≡ not_blank behind
+    → lines_answered (xs ++ ys) ≡ not_blank (before ++ behind)
+answered_then {S} xs ys before behind a b =
+    map-append (λ (t : Turn S). t.line) xs ys ∙ ap (λ ls. ls ++ lines_answered ys) a ∙ ap (λ ls. not_blank before ++ ls) b
+    ∙ sym (filter-append (λ line. not (is_blank line)) before behind)
+
+-- ---- lines that are taken
+
+nothing_taken : (p : List ℕ) (e : Bool) → IsTaken p e [] p
+nothing_taken p e = record { lines = λ rest end. refl; whole = λ going tail. refl }
+
+taken_then : (p q r : List ℕ) (e : Bool) (xs ys : List (List ℕ)) → IsTaken p e xs q → IsTaken q e ys r → IsTaken p e (xs ++ ys) r
+taken_then p q r e xs ys a b = record {
+  lines = λ rest end. a.lines rest end ∙ ap (λ ls. xs ++ ls) (b.lines rest end) ∙ sym (append_assoc xs ys (lines_of (r ++ rest)));
+  whole = λ going tail. a.whole going tail ∙ ap (λ ls. xs ++ ls) (b.whole going tail)
+      ∙ sym (append_assoc xs ys (whole_lines (r ++ tail)));
+}
+
+-- a line of n bytes is at the front, with its line feed or at the end
+abbrev pub IsFirst : List ℕ → Bool → ℕ → Type 0
+IsFirst p e n = (n < length p) ⊎ ((n ≡ length p) × (0 < n) × (e ≡ true))
+
+whole_one : (p tail : List ℕ) (e : Bool) (n : ℕ) → n ≡ line_len p → IsFirst p e n → e ≡ false
+    → whole_lines (p ++ tail) ≡ take n p ∷ whole_lines (drop (n + 1) p ++ tail)
+whole_one p tail e n len (inl more) going =
+    subst (λ k. whole_lines (p ++ tail) ≡ take k p ∷ whole_lines (drop (k + 1) p ++ tail)) (len_is p ∙ sym len)
+    (first p tail (omega (arith, len_is p, len, more))).1
+whole_one p tail e n len (inr last) going = absurd (cc (going, last.2))
+
+-- before any line is taken: all bytes are those that wait and the rest
+pub start : (p rest : List ℕ) (e : Bool) → Walks (p ++ rest) [] p rest e
+start p rest e = record { got = p; lines = refl; bytes = refl; whole = λ going tail. refl }
+
+one_taken : (p : List ℕ) (e : Bool) (n : ℕ) → n ≡ line_len p → n ≤ length p → IsFirst p e n → IsTaken p e (take n p ∷ []) (drop (n + 1) p)
+one_taken p e n len fits at_front = record {
+  lines = λ rest end. (after_line (p ++ rest) [] p rest e n (start p rest e) len fits at_front end).lines;
+  whole = λ going tail. whole_one p tail e n len at_front going;
+}
+
+-- ---- steps
+
+-- no step: no line was taken and none was answered
+pub no_step : {S : Type 0} (answers : Answers S) (e : Bool) (p : Point S) → Advances answers e p p
+no_step answers e p = record {
+  turns = [];
+  taken = [];
+  are = tt;
+  state_is = refl;
+  lines_are = sym (append-nil p.lines);
+  text_is = sym (append-nil p.text);
+  count_is = omega arith;
+  number_is = omega arith;
+  answered = refl;
+  taken_is = nothing_taken p.pending e;
+}
+
+-- some steps, and then others
+pub steps_then : {S : Type 0} (answers : Answers S) (e : Bool) (p q r : Point S) → Advances answers e p q → Advances answers e q r
+    → Advances answers e p r
+steps_then answers e p q r a b = record {
+  turns = a.turns ++ b.turns;
+  taken = a.taken ++ b.taken;
+  are = turns_then answers p.state a.turns b.turns a.are (subst (λ s. AreTurns answers s b.turns) a.state_is b.are);
+  state_is = state_then p.state q.state r.state a.turns b.turns a.state_is b.state_is;
+  lines_are = added_then p.lines q.lines r.lines a.turns b.turns a.lines_are b.lines_are;
+  text_is = texts_then p.text q.text r.text a.turns b.turns a.text_is b.text_is;
+  count_is = omega (arith, a.count_is, b.count_is, length-append a.turns b.turns);
+  number_is = omega (arith, a.number_is, b.number_is, length-append a.taken b.taken);
+  answered = answered_then a.turns b.turns a.taken b.taken a.answered b.answered;
+  taken_is = taken_then p.pending q.pending r.pending e a.taken b.taken a.taken_is b.taken_is;
+}
+
+-- a blank line is skipped
+pub skips : {S : Type 0} (answers : Answers S) (e : Bool) (p q : Point S) (n : ℕ) → n ≡ line_len p.pending → n ≤ length p.pending
+    → IsFirst p.pending e n
+    → is_blank (take n p.pending) ≡ true
+    → q.state ≡ p.state → q.lines ≡ p.lines → q.text ≡ p.text → q.pending ≡ drop (n + 1) p.pending → q.number ≡ p.number + 1
+    → q.count ≡ p.count
+    → Advances answers e p q
+skips answers e p q n len fits at_front blank state lines text left number count = record {
+  turns = [];
+  taken = take n p.pending ∷ [];
+  are = tt;
+  state_is = state;
+  lines_are = lines ∙ sym (append-nil p.lines);
+  text_is = text ∙ sym (append-nil p.text);
+  count_is = omega (arith, count);
+  number_is = omega (arith, number);
+  answered = sym (ap (λ b. cond (not b) (take n p.pending ∷ []) []) blank);
+  taken_is = subst (λ l. IsTaken p.pending e (take n p.pending ∷ []) l) (sym left) (one_taken p.pending e n len fits at_front);
+}
+
+-- a line is answered
+pub answers_one : {S : Type 0} (answers : Answers S) (e : Bool) (p q : Point S) (n : ℕ) (new : S)
+    (lines_new batch batch_new : List (List ℕ))
+    (text_new : List ℕ)
+    → n ≡ line_len p.pending → n ≤ length p.pending → IsFirst p.pending e n → is_blank (take n p.pending) ≡ false
+    → IsTurn answers p.state new p.lines lines_new batch batch_new (take n p.pending) p.text text_new
+    → q.state ≡ new → q.lines ≡ lines_new → q.text ≡ text_new → q.pending ≡ drop (n + 1) p.pending → q.number ≡ p.number + 1
+    → q.count ≡ p.count + 1
+    → Advances answers e p q
+answers_one answers e p q n new lines_new batch batch_new text_new len fits at_front some turn state lines text left number count = record {
+  turns = record { line = take n p.pending; added = turn.added; text = turn.words; after = new } ∷ [];
+  taken = take n p.pending ∷ [];
+  are = (turn.answered, tt);
+  state_is = state;
+  lines_are = lines ∙ turn.lines_are ∙ ap (λ ls. p.lines ++ ls) (sym (append-nil turn.added));
+  text_is = text ∙ turn.text_is ∙ ap (λ l. p.text ++ l) (sym (append-nil turn.words));
+  count_is = omega (arith, count);
+  number_is = omega (arith, number);
+  answered = sym (ap (λ b. cond (not b) (take n p.pending ∷ []) []) some);
+  taken_is = subst (λ l. IsTaken p.pending e (take n p.pending ∷ []) l) (sym left) (one_taken p.pending e n len fits at_front);
+}
+
+-- what a line adds to the journal's lines is in the batch too
+pub batch_more : {S : Type 0} (answers : Answers S) (old new : S) (lines lines_new batch batch_new before : List (List ℕ))
+    (line text text_new : List ℕ) → IsTurn answers old new lines lines_new batch batch_new line text text_new
+    → lines ≡ before ++ batch → lines_new ≡ before ++ batch_new
+batch_more answers old new lines lines_new batch batch_new before line text text_new turn is =
+    turn.lines_are ∙ ap (λ ls. ls ++ turn.added) is ∙ append_assoc before batch turn.added ∙ ap (λ ls. before ++ ls) (sym turn.batch_is)

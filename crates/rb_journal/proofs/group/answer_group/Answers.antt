@@ -1,0 +1,70 @@
+-- A group of lines is answered and committed.
+use Rattle.std.proofs.Common.{rules, ◌≡◌, ◌++◌, ⊎_elim, inl, inr, Some, Err, ap, sym, subst, ℕ, List, [], true}
+use Rattle.rb_journal.specs.Host.{LeavesOnly}
+use Rattle.rb_journal.specs.Lines.{IsBatch, recovered}
+use Rattle.rb_journal.specs.declared.host.HostError.TheVariants.{DiskFailed, Full}
+use Rattle.rb_journal.specs.Faults.{fault_of_host}
+use Rattle.rb_journal.specs.Run.{IsRunOfTurns}
+use Rattle.rb_journal.specs.Steps.{Advances, point_of}
+use Rattle.rb_journal.specs.declared.fault.ServeFault.TheVariants.{Journal}
+use Rattle.rb_journal.proofs.Public.Moments.{weaker}
+use Rattle.rb_journal.proofs.Runs.{durable_is_run, is_full, journal_cause}
+use Rattle.rb_journal.proofs.group.answer_group.Given.{Over}
+use Rattle.rb_journal.proofs.group.answer_group.Goals.{After-answer_waiting-answered, After-commit_and_put_out}
+use Rattle.rb_journal.proofs.group.answer_group.Goals as goal
+
+-- the lines are answered, and what they add waits in the batch
+steps : (g : Over) (c : After-answer_waiting-answered g) → Advances g.R.JournaledResponder.answers c.args.buffers.now.ended
+    (point_of (g.R.JournaledResponder.state c.args.responder.now) (recovered (g.H.Host.content c.args.journal.now.host))
+    c.args.buffers.now.buffered.items c.args.work.now c.args.buffers.now)
+    (point_of c.answer_waiting-answered.ensures.answered.0
+    (recovered (g.H.Host.content c.args.journal.now.host)
+    ++ recovered c.answer_waiting-answered.new.work.batch.bytes.items)
+    c.answer_waiting-answered.new.buffers.buffered.items c.answer_waiting-answered.new.work
+    c.answer_waiting-answered.new.buffers)
+steps g c =
+    let now = c.answer_waiting-answered.new in
+    let old = c.args.buffers.now in
+    let begin = g.R.JournaledResponder.state c.args.responder.now in
+    let last = c.answer_waiting-answered.ensures.answered.0 in
+    subst (λ ls. Advances g.R.JournaledResponder.answers old.ended (point_of begin ls old.buffered.items c.args.work.now old)
+    (point_of last (ls ++ recovered now.work.batch.bytes.items) now.buffers.buffered.items now.work now.buffers))
+    c.requires.same c.answer_waiting-answered.ensures.answered.1
+
+-- a crash leaves a run over the lines
+run : (g : Over) (c : After-commit_and_put_out g) (rest : List ℕ) → (c.args.buffers.now.ended ≡ true → rest ≡ [])
+    → LeavesOnly g.H.Host.moment g.H.Host.left_since c.args.journal.now.host c.commit_and_put_out.new.self.host
+    (IsRunOfTurns g.R.JournaledResponder.answers (Some (c.args.buffers.now.pending ++ rest))
+    (g.R.JournaledResponder.state c.args.responder.now)
+    (recovered (g.H.Host.content c.args.journal.now.host)) (g.H.Host.output c.args.journal.now.host))
+run g c rest end =
+    let lines = recovered (g.H.Host.content c.args.journal.now.host) in
+    let advances = steps g (goal.at.After-commit_and_put_out g c).After-answer_waiting-answered in
+    weaker g.H.Host.moment g.H.Host.left_since _ _ _ _ c.commit_and_put_out.ensures.any_moment
+    (λ f d kept. durable_is_run g.R.JournaledResponder.answers _ _ _ rest c.deref.result.now _ c.deref-2.result.now f d advances
+    end (ap (λ l. lines ++ recovered l) (sym c.deref.ensures.value)) c.requires.buffered
+    (sym c.deref-2.ensures.value) kept)
+
+pub returns-in_err-commit_and_put_out-clause-any_moment : goal.returns-in_err-commit_and_put_out-clause-any_moment
+returns-in_err-commit_and_put_out-clause-any_moment g c =
+    run g (goal.at.returns-in_err-commit_and_put_out-clause-any_moment g c).After-commit_and_put_out
+
+pub returns-clause-any_moment : goal.returns-clause-any_moment
+returns-clause-any_moment g c = run g (goal.at.returns-clause-any_moment g c).After-commit_and_put_out
+
+pub returns-in_err-commit_and_put_out-clause-journal : goal.returns-in_err-commit_and_put_out-clause-journal
+returns-in_err-commit_and_put_out-clause-journal g c = λ is.
+    let why = c.in_err-commit_and_put_out.ensures in
+    let error = c.in_err-commit_and_put_out.field-0.0 in
+    let passed : c.from_residual.result ≡ Err (fault_of_host error) = search rules in
+    let journal : fault_of_host error ≡ Journal = cc (passed, is) in
+    let lines = recovered (g.H.Host.content c.args.journal.now.host) in
+    let p = goal.at.returns-in_err-commit_and_put_out-clause-journal g c in
+    let advances = steps g p.After-answer_waiting-answered in
+    let batch : c.deref.result.now ≡ c.answer_waiting-answered.new.work.batch.bytes.items = c.deref.ensures.value in
+    ⊎_elim (λ (disk : error ≡ DiskFailed). inl (why.failed (ap Err disk)))
+    (λ (full : error ≡ Full). inr (λ rest end. is_full g.R.JournaledResponder.answers _ _ _ rest c.deref.result.now
+    c.args.journal.now.end advances end (ap (λ l. lines ++ recovered l) (sym batch))
+    (subst IsBatch (sym batch) c.answer_waiting-answered.new.work.batch.whole)
+    c.requires.settled.end (why.full (ap Err full))))
+    (journal_cause error journal)

@@ -1,0 +1,39 @@
+-- Between two reads: all that was answered is committed and put out.
+use Rattle.std.proofs.Common.{◌≡◌, ◌≤◌, ◌+◌, [], true}
+use Rattle.std.specs.Io.KnownBytes.{IsAtEnd}
+use Rattle.rb_journal.specs.Host.{LeavesOnly}
+use Rattle.rb_journal.specs.Lines.{recovered}
+use Rattle.rb_journal.specs.Journal.{IsSettled}
+use Rattle.rb_lines.specs.Buffers.{Counts, left}
+use Rattle.rb_journal.specs.Run.{IsRunOfTurns, served_input}
+use Rattle.rb_journal.specs.Steps.{point_of}
+use Rattle.rb_journal.proofs.Follow.{Follows}
+use Rattle.rb_journal.proofs.run.serve.Given as goal
+
+abbrev pub invariant-reads : goal.invariant-reads
+invariant-reads g l =
+    let host = g.H.Host in
+    let answers = g.R.JournaledResponder.answers in
+    let input = served_input l.fn.buffers.pending (g.S.Source.remaining l.fn.reader) in
+    let lines = recovered (host.content l.fn.journal.host) in
+    let output = host.output l.fn.journal.host in
+    let begin = g.R.JournaledResponder.state l.fn.responder in
+    record {
+      settled : IsSettled host.is_usable host.content host.may_leave l.journal;
+      same : g.R.JournaledResponder.lines (g.R.JournaledResponder.state l.responder) ≡ recovered (host.content l.journal.host);
+      batch : l.work.batch.bytes.items ≡ [];
+      buffered : l.buffers.buffered.items ≡ [];
+      counted : Counts (g.S.Source.calls l.reader) l.buffers.reads;
+      end : l.buffers.ended ≡ true → IsAtEnd (g.S.Source.remaining l.reader);
+      number : l.work.number + left l.buffers ≤ l.fn.number + left l.fn.buffers;
+      count : l.work.count ≤ l.work.number;
+      later : host.faults l.fn.journal.host ≤ host.faults l.journal.host;
+      follows : Follows answers input begin lines output l.fn.number
+          (point_of (g.R.JournaledResponder.state l.responder) (recovered (host.content l.journal.host))
+          (host.output l.journal.host) l.work l.buffers)
+          (g.S.Source.remaining l.reader) l.buffers.ended;
+      any_moment : LeavesOnly host.moment host.left_since l.fn.journal.host l.journal.host (IsRunOfTurns answers input begin lines output);
+    }
+
+abbrev pub decreases-reads : goal.decreases-reads
+decreases-reads g l = l.buffers.reads

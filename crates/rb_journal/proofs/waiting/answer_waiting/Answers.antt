@@ -1,0 +1,90 @@
+-- One line more.
+use Rattle.std.proofs.Common.{rules, arith, ◌≡◌, ◌++◌, ◌∙◌, [], Err, length, ap, sym, subst, append-nil}
+use Rattle.rb_journal.specs.Lines.{recovered}
+use Rattle.rb_lines.specs.declared.buffers.Buffers.{Buffers}
+use Rattle.rb_journal.specs.Steps.{Advances, Point, point_of}
+use Rattle.rb_journal.proofs.Advance.{no_step, steps_then}
+use Rattle.rb_journal.proofs.waiting.answer_waiting.Goals as goal
+
+pub lines-init : goal.lines-init
+lines-init g c =
+    let state = g.R.JournaledResponder.state c.args.responder.now in
+    let lines = g.R.JournaledResponder.lines state in
+    record {
+      answered = no_step g.R.JournaledResponder.answers c.args.buffers.now.ended
+          (point_of state lines c.args.buffers.now.buffered.items c.args.work.now c.args.buffers.now);
+      batch = sym (append-nil lines) ∙ ap (λ l. lines ++ recovered l) (sym c.requires.batch);
+      reads = search rules;
+      ended = search rules;
+      number = omega arith;
+      count = c.requires.count;
+    }
+
+pub lines-preserved : goal.lines-preserved
+lines-preserved g c =
+    let inv = c.lines.invariant in
+    let step = c.in_ok-answer_next.ensures in
+    let same = c.next_waiting.ensures.same in
+    let state = g.R.JournaledResponder.state in
+    let lines = g.R.JournaledResponder.lines in
+    let first = state c.args.responder.now in
+    let now = state c.lines.responder in
+    let new = state c.answer_next.new.responder in
+    let start = point_of first (lines first) c.args.buffers.now.buffered.items c.args.work.now c.args.buffers.now in
+    let mid = point_of now (lines now) c.lines.buffers.buffered.items c.lines.work c.lines.buffers in
+    let end = point_of new (lines new) c.answer_next.new.buffers.buffered.items c.answer_next.new.work
+    c.answer_next.new.buffers in
+    let next : Advances g.R.JournaledResponder.answers c.args.buffers.now.ended mid end =
+    subst (λ e. Advances g.R.JournaledResponder.answers e mid end) inv.ended
+    (subst (λ (b : Buffers). Advances g.R.JournaledResponder.answers b.ended
+    (point_of now (lines now) b.buffered.items c.lines.work b) end) same step.answered) in
+    record {
+      answered = steps_then g.R.JournaledResponder.answers c.args.buffers.now.ended start mid end inv.answered next;
+      batch = step.batch (lines first) inv.batch;
+      reads = step.reads ∙ ap (λ (b : Buffers). b.reads) same ∙ inv.reads;
+      ended = step.ended ∙ ap (λ (b : Buffers). b.ended) same ∙ inv.ended;
+      number = omega (arith, step.number.0, step.number.1, ap (λ (b : Buffers). length b.pending) same, inv.number);
+      count = step.count;
+    }
+
+-- what was answered before the line that isn't
+pub returns-in_err-answer_next-clause-answered : goal.returns-in_err-answer_next-clause-answered
+returns-in_err-answer_next-clause-answered g c =
+    let inv = c.lines.invariant in
+    let state = g.R.JournaledResponder.state in
+    let lines = g.R.JournaledResponder.lines (state c.args.responder.now) in
+    let last = state c.lines.responder in
+    let step = c.in_err-answer_next.ensures in
+    let start = point_of (state c.args.responder.now) lines c.args.buffers.now.buffered.items c.args.work.now c.args.buffers.now in
+    let e = c.args.buffers.now.ended in
+    let work = c.lines.work in
+    let passed : c.from_residual.result ≡ Err c.in_err-answer_next.field-0.0 = search rules in (
+      last,
+      subst (Advances g.R.JournaledResponder.answers e start) (sym (step.same last lines))
+          (subst (λ (b : Buffers). Advances g.R.JournaledResponder.answers e start
+          (point_of last (lines ++ recovered work.batch.bytes.items) b.buffered.items work b)) (sym c.next_waiting.ensures.same)
+          (subst (λ ls. Advances g.R.JournaledResponder.answers e start
+          (point_of last ls c.lines.buffers.buffered.items work c.lines.buffers)) inv.batch inv.answered)),
+      λ other. step.responder (λ no_memory. other (passed ∙ no_memory)),
+    )
+
+pub returns-in_err-answer_next-clause-responder : goal.returns-in_err-answer_next-clause-responder
+returns-in_err-answer_next-clause-responder g c = λ other.
+    let state = g.R.JournaledResponder.state in
+    let lines = g.R.JournaledResponder.lines (state c.args.responder.now) in
+    let step = c.in_err-answer_next.ensures in
+    let passed : c.from_residual.result ≡ Err c.in_err-answer_next.field-0.0 = search rules in
+    ap g.R.JournaledResponder.lines (step.responder (λ no_memory. other (passed ∙ no_memory))) ∙ c.lines.invariant.batch
+    ∙ ap (λ (p : Point g.R.JournaledResponder.State). p.lines) (sym (step.same (state c.lines.responder) lines))
+
+pub returns-in_err-answer_next-clause-number : goal.returns-in_err-answer_next-clause-number
+returns-in_err-answer_next-clause-number g c =
+    let state = g.R.JournaledResponder.state c.lines.responder in
+    let same = c.in_err-answer_next.ensures.same state [] in
+    omega (
+      arith,
+      ap (λ (p : Point g.R.JournaledResponder.State). p.number) same,
+      ap (λ (p : Point g.R.JournaledResponder.State). length p.pending) same,
+      ap (λ (b : Buffers). length b.pending) c.next_waiting.ensures.same,
+      c.lines.invariant.number,
+    )

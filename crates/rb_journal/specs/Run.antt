@@ -1,0 +1,24 @@
+-- What a run over a journal may leave at any moment.
+use Rattle.std.specs.Prelude.{◌≡◌, ℕ, List, ◌++◌, Option, Some, None, IfSome}
+use Rattle.rb_lines.specs.Lines.{lines_of}
+use Rattle.rb_journal.specs.Host.{AddsPrefix}
+use Rattle.rb_journal.specs.Lines.{recovered}
+use Rattle.rb_journal.specs.Turns.{Answers, AreTurns, Turn, lines_added, lines_answered, not_blank, texts}
+
+-- what was read and not yet answered, and then what is still to be read, where that is known
+abbrev pub served_input : List ℕ → Option (List ℕ) → Option (List ℕ)
+served_input pending None = None
+served_input pending (Some rest) = Some (pending ++ rest)
+
+-- the turns answer the first lines of the input, in order, and skip none of them
+abbrev pub AreFirst : {S : Type 0} → List (Turn S) → List ℕ → Type 0
+AreFirst turns input = (later : List (List ℕ)) × (not_blank (lines_of input) ≡ lines_answered turns ++ later)
+
+-- the file has the lines and all that some turns add, and what is put out are texts of these turns, from the first on
+pub record IsRunOfTurns {S : Type 0} (answers : Answers S) (input : Option (List ℕ)) (start : S) (lines : List (List ℕ))
+    (output c d : List ℕ) : Type 0 where
+  pub turns : List (Turn S)
+  pub are : AreTurns answers start turns
+  pub in_order : IfSome input (AreFirst turns)
+  pub lines_are : recovered c ≡ lines ++ lines_added turns
+  pub output_is : AddsPrefix output (texts turns) d

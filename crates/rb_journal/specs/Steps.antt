@@ -1,0 +1,72 @@
+-- Some lines of a run: what waits before and after them, and why no more were answered.
+use Rattle.std.specs.Prelude.{◌≡◌, ℕ, ◌+◌, ◌<◌, Bool, true, false, List, [], ◌++◌, length, take, Result, Ok, Err}
+use Rattle.rb_lines.specs.Buffers.{IsWholeLine}
+use Rattle.rb_lines.specs.Lines.{is_blank, line_len, lines_of, whole_lines}
+use Rattle.rb_lines.specs.declared.buffers.Buffers.{Buffers}
+use Rattle.rb_lines.specs.declared.limits.TheConstants.{LINE_LIMIT}
+use Rattle.rb_journal.specs.Turns.{Answers, AreTurns, HasNoAnswer, Turn, lines_added, lines_answered, not_blank, state_after, texts}
+use Rattle.rb_journal.specs.declared.fault.ServeFault.{ServeFault}
+use Rattle.rb_journal.specs.declared.fault.ServeFault.TheVariants.{BadLine, LongLine, Read, Write, Journal, OutOfMemory}
+use Rattle.rb_journal.specs.declared.waiting.Waiting.{Waiting}
+use Rattle.rb_journal.specs.declared.waiting.Waiting.TheVariants.{Line, Long, Nothing}
+use Rattle.rb_journal.specs.declared.work.Work.{Work}
+
+-- what was answered by some moment: the state, the journal's lines, the text, what waits, the number of its first line,
+-- and how many answers there were
+pub record Point (S : Type 0) : Type 0 where
+  pub state : S
+  pub lines : List (List ℕ)
+  pub text : List ℕ
+  pub pending : List ℕ
+  pub number : ℕ
+  pub count : ℕ
+
+abbrev pub point_of : {S : Type 0} → S → List (List ℕ) → List ℕ → Work → Buffers → Point S
+point_of state lines text work buffers = record {
+  state = state;
+  lines = lines;
+  text = text;
+  pending = buffers.pending;
+  number = work.number;
+  count = work.count;
+}
+
+-- these lines were taken off what waits, whatever is read behind it; behind the end of the input nothing is
+pub record IsTaken (pending : List ℕ) (ended : Bool) (taken : List (List ℕ)) (left : List ℕ) : Type 0 where
+  pub lines : (rest : List ℕ) → (ended ≡ true → rest ≡ []) →
+      lines_of (pending ++ rest) ≡ taken ++ lines_of (left ++ rest)
+  pub whole : ended ≡ false → (tail : List ℕ) → whole_lines (pending ++ tail) ≡ taken ++ whole_lines (left ++ tail)
+
+-- some lines were taken, and each that isn't blank was answered
+pub record Advances {S : Type 0} (answers : Answers S) (ended : Bool) (old new : Point S) : Type 0 where
+  pub turns : List (Turn S)
+  pub taken : List (List ℕ)
+  pub are : AreTurns answers old.state turns
+  pub state_is : new.state ≡ state_after old.state turns
+  pub lines_are : new.lines ≡ old.lines ++ lines_added turns
+  pub text_is : new.text ≡ old.text ++ texts turns
+  pub count_is : new.count ≡ old.count + length turns
+  pub number_is : new.number ≡ old.number + length taken
+  pub answered : lines_answered turns ≡ not_blank taken
+  pub taken_is : IsTaken old.pending ended taken new.pending
+
+-- what is at the front of the bytes that wait
+abbrev pub IsWaiting : Buffers → Waiting → Type 0
+IsWaiting b (Line n) = IsWholeLine b n
+IsWaiting b Long = LINE_LIMIT < line_len b.pending
+IsWaiting b Nothing = (line_len b.pending ≡ length b.pending) × (b.ended ≡ true → b.pending ≡ [])
+
+-- the line at the front has no answer
+abbrev pub IsBadLine : {S : Type 0} → Answers S → S → Buffers → Type 0
+IsBadLine answers s b = (n : ℕ) × IsWholeLine b n × (is_blank (take n b.pending) ≡ false)
+    × HasNoAnswer answers s (take n b.pending)
+
+-- why no more of the lines that wait were answered; of running out of memory, and of what failed, nothing is said here
+abbrev pub StopsAt : {S T : Type 0} → Answers S → S → ℕ → Buffers → Result T ServeFault → Type 0
+StopsAt answers s number b (Ok x) = IsWaiting b Nothing
+StopsAt answers s number b (Err (BadLine k)) = (k ≡ number) × IsBadLine answers s b
+StopsAt answers s number b (Err (LongLine k)) = (k ≡ number) × IsWaiting b Long
+StopsAt answers s number b (Err OutOfMemory) = Unit {0}
+StopsAt answers s number b (Err Write) = Unit {0}
+StopsAt answers s number b (Err Journal) = Unit {0}
+StopsAt answers s number b (Err Read) = ⊥

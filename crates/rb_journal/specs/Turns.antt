@@ -1,0 +1,53 @@
+-- What is answered over a journal: turns, one after another.
+use Rattle.std.specs.Prelude.{◌≡◌, ℕ, not, List, [], ◌∷◌, ◌++◌, map}
+use Rattle.std.specs.List.{filter, flat_map}
+use Rattle.rb_lines.specs.Lines.{is_blank}
+
+-- an input line, the lines that it adds to the journal, the text of its answer, and the state that it leaves
+pub record Turn (S : Type 0) : Type 0 where
+  pub line : List ℕ
+  pub added : List (List ℕ)
+  pub text : List ℕ
+  pub after : S
+
+abbrev pub lines_answered : {S : Type 0} → List (Turn S) → List (List ℕ)
+lines_answered {S} turns = map (λ (t : Turn S). t.line) turns
+
+abbrev pub lines_added : {S : Type 0} → List (Turn S) → List (List ℕ)
+lines_added {S} turns = flat_map (λ (t : Turn S). t.added) turns
+
+abbrev pub texts : {S : Type 0} → List (Turn S) → List ℕ
+texts {S} turns = flat_map (λ (t : Turn S). t.text) turns
+
+-- what a responder may answer: in the first state, this input line adds these lines, with this text, and leaves the
+-- second state
+abbrev pub Answers : Type 0 → Type 1
+Answers S = S → List ℕ → List (List ℕ) → List ℕ → S → Type 0
+
+-- the state after turns
+abbrev pub state_after : {S : Type 0} → S → List (Turn S) → S
+state_after s [] = s
+state_after s (t ∷ turns) = state_after t.after turns
+
+-- each turn is an answer in the state that the one before it left
+abbrev pub AreTurns : {S : Type 0} → Answers S → S → List (Turn S) → Type 0
+AreTurns answers s [] = Unit {0}
+AreTurns answers s (t ∷ turns) = answers s t.line t.added t.text t.after × AreTurns answers t.after turns
+
+-- a blank line has no answer, and is no fault
+abbrev pub not_blank : List (List ℕ) → List (List ℕ)
+not_blank lines = filter (λ line. not (is_blank line)) lines
+
+-- no text answers this line, whatever it adds
+abbrev pub HasNoAnswer : {S : Type 0} → Answers S → S → List ℕ → Type 0
+HasNoAnswer {S} answers s line = (added : List (List ℕ)) (text : List ℕ) (after : S) → ¬ answers s line added text after
+
+-- the responder took a line: what it adds is in the batch too, and its text is behind the others
+pub record IsTurn {S : Type 0} (answers : Answers S) (old new : S) (lines lines_new batch batch_new : List (List ℕ))
+    (line text text_new : List ℕ) : Type 0 where
+  pub added : List (List ℕ)
+  pub words : List ℕ
+  pub answered : answers old line added words new
+  pub lines_are : lines_new ≡ lines ++ added
+  pub batch_is : batch_new ≡ batch ++ added
+  pub text_is : text_new ≡ text ++ words

@@ -1,0 +1,83 @@
+//! All lines of a reader.
+ghost use Rattle.std.specs.Prelude.{◌≡◌, ◌+◌, ◌^◌, ◌<◌, ◌≤◌, ◌⊎◌, List, [], true, Err, length};
+ghost use Rattle.std.specs.Io.KnownBytes.{IsAtEnd};
+ghost use Rattle.rb_journal.specs.Host.{LeavesOnly};
+ghost use Rattle.rb_journal.specs.Lines.{recovered};
+ghost use Rattle.rb_journal.specs.Journal.{IsSettled};
+ghost use Rattle.rb_lines.specs.Buffers.{Counts};
+ghost use Rattle.rb_lines.specs.declared.limits.TheConstants.{MOST_READS};
+ghost use Rattle.rb_journal.specs.Ends.{EndsAs, EndsAtRest, IsFull, IsPutOut};
+ghost use Rattle.rb_journal.specs.Run.{IsRunOfTurns, served_input};
+ghost use Rattle.rb_journal.specs.Turns.{Turn};
+ghost use Rattle.rb_journal.specs.declared.fault.ServeFault.TheVariants.{Journal as JournalFailed, Read, Write};
+
+use crate::fault::ServeFault;
+use crate::group::answer_group;
+use crate::host::Host;
+use crate::journal::Journal;
+use crate::responder::JournaledResponder;
+use crate::work::Work;
+use rb_lines::{Buffers, NoLine, Source};
+use std::alloc::Global;
+
+/// Answers each line of what waits in `buffers` and of what the reader still gives, and says how many were answered;
+/// `number` is that of the first of them. Blank lines are counted and not answered, and a last line without a line
+/// feed is a line.
+///
+/// The whole lines of one read are answered, their entries are committed together, and their text is put out; then
+/// comes the next read. At a fault of a line this is done for those before it, and then the fault is returned.
+pub fn serve<R: JournaledResponder, H: Host, S: Source>(
+    alloc: Global,
+    responder: &mut R,
+    journal: &mut Journal<H>,
+    buffers: &mut Buffers,
+    number: u64,
+    reader: &mut S,
+) -> Result<u64, ServeFault>
+    requires settled { IsSettled H.is_usable H.content H.may_leave journal.old }
+    requires same { R.lines (R.state responder.old) ≡ recovered (H.content journal.old.host) }
+    requires counted { Counts (S.calls reader.old) buffers.old.reads }
+    requires end { buffers.old.ended ≡ true → IsAtEnd (S.remaining reader.old) }
+    requires buffered { buffers.old.buffered.items ≡ [] }
+    requires number { number + length buffers.old.pending < 2 ^ 63 }
+
+    // Where nothing has failed but a line or a read, the journal is at rest, and the responder is the run of its lines.
+    ensures settled { EndsAtRest result → IsSettled H.is_usable H.content H.may_leave journal.new }
+    ensures same { EndsAtRest result → R.lines (R.state responder.new) ≡ recovered (H.content journal.new.host) }
+
+    // Then the lines and the text are those of the turns, and the turns are those of the lines of the input.
+    ensures text { EndsAtRest result → (turns : List (Turn R.State))
+        × IsPutOut R.answers (R.state responder.old) (recovered (H.content journal.old.host))
+        (H.output journal.old.host) turns (recovered (H.content journal.new.host)) (H.output journal.new.host)
+        × EndsAs R.answers (R.state responder.old) turns number
+        (served_input buffers.old.pending (S.remaining reader.old)) (S.remaining reader.new) result }
+
+    // A crash at any moment leaves a file and an output of a run: nothing is put out that it takes back, and no line
+    // of the journal is skipped or there in part.
+    ensures any_moment { LeavesOnly H.moment H.left_since journal.old.host journal.new.host
+        (IsRunOfTurns R.answers (served_input buffers.old.pending (S.remaining reader.old)) (R.state responder.old)
+        (recovered (H.content journal.old.host)) (H.output journal.old.host)) }
+
+    // Each other fault comes only for its cause.
+    ensures read { result ≡ Err Read → (S.failed reader.new ≡ true) ⊎ (S.calls reader.new ≡ MOST_READS) }
+    ensures write { result ≡ Err Write → H.faults journal.old.host < H.faults journal.new.host }
+    ensures journal { result ≡ Err JournalFailed → (H.faults journal.old.host < H.faults journal.new.host)
+        ⊎ IsFull R.answers (served_input buffers.old.pending (S.remaining reader.old)) (R.state responder.old)
+        (recovered (H.content journal.old.host)) }
+    // At most `MOST_READS` reads are made, whatever is answered.
+    ensures calls { S.calls reader.new ≤ MOST_READS }
+{
+    let mut work = Work::new(alloc, number);
+    'reads: loop {
+        answer_group(responder, journal, buffers, &mut work)?;
+        if buffers.ended {
+            return Ok(work.count);
+        }
+        match buffers.read_more(reader) {
+            Ok(()) => {}
+            Err(NoLine::Read) => return Err(ServeFault::Read),
+            Err(NoLine::OutOfMemory) => return Err(ServeFault::OutOfMemory),
+            Err(NoLine::TooLong | NoLine::Write) => unreachable!(),
+        }
+    }
+}

@@ -1,0 +1,119 @@
+//! The lines that wait, answered one after another.
+ghost use Rattle.std.specs.Prelude.{◌≡◌, ◌≢◌, ◌+◌, ◌^◌, ◌<◌, ◌≤◌, ◌++◌, List, ℕ, [], Err, length, OnOk, OnErr};
+ghost use Rattle.rb_journal.specs.Lines.{recovered};
+ghost use Rattle.rb_lines.specs.Buffers.{IsWholeLine};
+ghost use Rattle.rb_journal.specs.Steps.{Advances, IsWaiting, StopsAt, point_of};
+ghost use Rattle.rb_journal.specs.declared.fault.ServeFault.TheVariants.{Journal, OutOfMemory, Write};
+
+use crate::fault::ServeFault;
+use crate::no_answer::NoAnswer;
+use crate::responder::JournaledResponder;
+use crate::work::Work;
+use rb_lines::{Buffers, LINE_LIMIT, is_blank};
+
+/// What is at the front of the bytes that wait.
+pub enum Waiting {
+    /// A line of this number of bytes, with its line feed or at the end of the input.
+    Line(usize),
+    /// More than `LINE_LIMIT` bytes without a line feed.
+    Long,
+    /// The beginning of a line at most.
+    Nothing,
+}
+
+/// What is at the front.
+fn next_waiting(buffers: &mut Buffers) -> Waiting
+    ensures waiting { IsWaiting buffers.old result }
+    ensures same { buffers.new ≡ buffers.old }
+{
+    let n = buffers.pending.first_line();
+    if n > LINE_LIMIT {
+        return Waiting::Long;
+    }
+    if n < buffers.pending.as_slice().len() || (buffers.ended && n > 0) {
+        return Waiting::Line(n);
+    }
+    Waiting::Nothing
+}
+
+/// Answers the line at the front, of this number of bytes, or skips it where it is blank.
+fn answer_next<R: JournaledResponder>(
+    responder: &mut R,
+    buffers: &mut Buffers,
+    work: &mut Work,
+    n: usize,
+) -> Result<(), ServeFault>
+    requires line { IsWholeLine buffers.old n }
+    requires number { work.old.number + 1 < 2 ^ 64 }
+    requires count { work.old.count ≤ work.old.number }
+    ensures answered { OnOk result (Advances R.answers buffers.old.ended
+        (point_of (R.state responder.old) (R.lines (R.state responder.old)) buffers.old.buffered.items work.old
+        buffers.old)
+        (point_of (R.state responder.new) (R.lines (R.state responder.new)) buffers.new.buffered.items work.new
+        buffers.new)) }
+    // What is added is added to the batch.
+    ensures batch { OnOk result ((before : List (List ℕ))
+        → R.lines (R.state responder.old) ≡ before ++ recovered work.old.batch.bytes.items
+        → R.lines (R.state responder.new) ≡ before ++ recovered work.new.batch.bytes.items) }
+    ensures responder { OnErr result (result ≢ Err OutOfMemory → R.state responder.new ≡ R.state responder.old) }
+    ensures same { OnErr result ((state : R.State) (lines : List (List ℕ)) →
+        point_of state (lines ++ recovered work.new.batch.bytes.items) buffers.new.buffered.items work.new buffers.new
+        ≡ point_of state (lines ++ recovered work.old.batch.bytes.items) buffers.old.buffered.items work.old
+        buffers.old) }
+    ensures stop { OnErr result (StopsAt R.answers (R.state responder.new) work.new.number buffers.new result) }
+    ensures not_write { result ≡ Err Write → ⊥ }
+    ensures not_journal { result ≡ Err Journal → ⊥ }
+    ensures reads { buffers.new.reads ≡ buffers.old.reads }
+    ensures ended { buffers.new.ended ≡ buffers.old.ended }
+    ensures number { OnOk result ((work.new.number ≡ work.old.number + 1)
+        × (length buffers.new.pending < length buffers.old.pending)) }
+    ensures count { work.new.count ≤ work.new.number }
+{
+    let line = &buffers.pending.as_slice()[..n];
+    if !is_blank(line) {
+        match responder.answer_line(line, &mut work.batch, &mut buffers.buffered) {
+            Ok(()) => {}
+            Err(NoAnswer::Bad) => return Err(ServeFault::BadLine { line: work.number }),
+            Err(NoAnswer::OutOfMemory) => return Err(ServeFault::OutOfMemory),
+        }
+        work.count += 1;
+    }
+    buffers.skip_line(n);
+    work.number += 1;
+    Ok(())
+}
+
+/// Answers all lines that wait whole.
+pub fn answer_waiting<R: JournaledResponder>(
+    responder: &mut R,
+    buffers: &mut Buffers,
+    work: &mut Work,
+) -> Result<(), ServeFault>
+    requires batch { work.old.batch.bytes.items ≡ [] }
+    requires number { work.old.number + length buffers.old.pending < 2 ^ 64 }
+    requires count { work.old.count ≤ work.old.number }
+    // Of a responder without memory nothing is said: then there is the state before the line that it didn't answer.
+    ensures answered { (state : R.State) × Advances R.answers buffers.old.ended
+        (point_of (R.state responder.old) (R.lines (R.state responder.old)) buffers.old.buffered.items work.old
+        buffers.old)
+        (point_of state (R.lines (R.state responder.old) ++ recovered work.new.batch.bytes.items)
+        buffers.new.buffered.items work.new buffers.new) × (result ≢ Err OutOfMemory → R.state responder.new ≡ state) }
+    ensures responder { result ≢ Err OutOfMemory → R.lines (R.state responder.new)
+        ≡ R.lines (R.state responder.old) ++ recovered work.new.batch.bytes.items }
+    ensures stop { StopsAt R.answers (R.state responder.new) work.new.number buffers.new result }
+    ensures not_write { result ≡ Err Write → ⊥ }
+    ensures not_journal { result ≡ Err Journal → ⊥ }
+    ensures reads { buffers.new.reads ≡ buffers.old.reads }
+    ensures ended { buffers.new.ended ≡ buffers.old.ended }
+    ensures number { work.new.number + length buffers.new.pending ≤ work.old.number + length buffers.old.pending }
+    ensures count { work.new.count ≤ work.new.number }
+{
+    'lines: loop {
+        let n = match next_waiting(buffers) {
+            Waiting::Line(n) => n,
+            Waiting::Long => return Err(ServeFault::LongLine { line: work.number }),
+            Waiting::Nothing => return Ok(()),
+        };
+        answer_next(responder, buffers, work, n)?;
+    }
+}

@@ -1,5 +1,0 @@
-mod Advance
-mod Runs
-mod Follow
-mod Groups
-mod Ending
