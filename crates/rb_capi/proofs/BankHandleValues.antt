@@ -16,9 +16,9 @@ use Rattle.core.proofs.cell.Inside.{Good}
 use Rattle.std.specs.declared.option.Option.{Option}
 use Rattle.std.specs.declared.alloc.Global.{Global}
 use Rattle.std.specs.contracts.alloc.Global as heap
-use Rattle.rb_slot.specs.Slots.{slot_owns}
-use Rattle.rb_slot.proofs.Public.RawBoxValues.{both}
-use Rattle.rb_slot.proofs.Public.SlotValues.{Z, al}
+use Rattle.rb_capi.specs.Slots.{slot_owns}
+use Rattle.rb_capi.proofs.RawBoxValues.{both}
+use Rattle.rb_capi.proofs.SlotValues.{Z, al}
 use Rattle.rb_capi.specs.contracts.bank.Bank.{the_row as bank_row}
 use Rattle.rb_capi.specs.contracts.bank_handle.BankHandle as handle
 

@@ -1,2 +1,4 @@
 mod BankHandleValues
+mod RawBoxValues
 mod SiteHandleValues
+mod SlotValues

@@ -5,3 +5,4 @@ pub mod Endings
 pub mod Migrate
 pub mod Script
 pub mod Sites
+pub mod Slots

@@ -10,9 +10,11 @@ mod copy;
 mod ending;
 mod kept_site;
 mod migrate;
+mod raw_box;
 mod script;
 mod site;
 mod site_handle;
+mod slot;
 
 ghost use Rattle.rb_history.specs.Messages.{MessagesAreRead};
 

@@ -3,12 +3,12 @@ ghost use Rattle.std.specs.Prelude.{◌≡◌, MatchOption};
 ghost use Rattle.std.specs.declared.option.Option.{Option};
 ghost use Rattle.std.specs.declared.option.Option.TheVariants.{None, Some};
 ghost use Rattle.std.specs.Coded.{coded_option};
-ghost use Rattle.rb_slot.specs.Slots.{slot_owns};
+ghost use Rattle.rb_capi.specs.Slots.{slot_owns};
 ghost use Rattle.rb_capi.specs.Sites.{SeenKept};
 ghost use Rattle.rb_capi.specs.contracts.kept_site.KeptSite.{the_row as site_row};
 
 use crate::kept_site::KeptSite;
-use rb_slot::Slot;
+use crate::slot::Slot;
 use std::alloc::Global;
 use std::marker::Model;
 use std::mem::replace;

@@ -21,8 +21,8 @@ use denote.Triple.Walked.{Stays, stay_dropped, walk_of, Goes-dropped}
 use Rattle.core.proofs.atomic.Steps.{Ptr-Good}
 use Rattle.core.proofs.cell.Inside.{Good}
 use Rattle.std.proofs.raw_atomic.Walks.{proved_at, leaves}
-use Rattle.rb_slot.proofs.Public.RawBoxValues.{both, both_tt}
-use Rattle.rb_slot.proofs.Public.SlotValues.{Z, Slot, slot_in}
+use Rattle.rb_capi.proofs.RawBoxValues.{both, both_tt}
+use Rattle.rb_capi.proofs.SlotValues.{Z, Slot, slot_in}
 use Rattle.rb_capi.specs.contracts.bank.Bank.{the_row as bank_row}
 use Rattle.rb_capi.proofs.BankHandleValues.{BankHandle, handle_out}
 use Rattle.rb_capi.specs.contracts.bank_handle.BankHandle.into_slot.{ended, clauses}

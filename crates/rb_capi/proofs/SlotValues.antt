@@ -27,9 +27,9 @@ use Rattle.std.proofs.alloc.Global.TheLaws as heap_laws
 use Rattle.std.specs.contracts.impls.GlobalAllocator.TheImpl.{ghosts}
 use Rattle.std.proofs.GlobalToken.{dealloc_token-Testable}
 use Rattle.std_alloc.specs.Box.Ownership.{box_owns}
-use Rattle.rb_slot.specs.Slots.{slot_owns}
-use Rattle.rb_slot.specs.contracts.slot.Slot as slot
-use Rattle.rb_slot.proofs.Public.RawBoxValues.{both}
+use Rattle.rb_capi.specs.Slots.{slot_owns}
+use Rattle.rb_capi.specs.contracts.slot.Slot as slot
+use Rattle.rb_capi.proofs.RawBoxValues.{both}
 
 -- the type of the global allocator
 abbrev pub Z : RattleType

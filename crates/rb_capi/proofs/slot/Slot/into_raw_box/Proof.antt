@@ -30,12 +30,12 @@ use Rattle.std.specs.contracts.impls.GlobalAllocator.TheImpl.{ghosts}
 use Rattle.std.specs.declared.option.Option.TheVariants.{None, Some}
 use Rattle.std_alloc.proofs.ResultValues.{and_tt}
 use Rattle.std.proofs.raw_atomic.Walks.{proved_at, leaves}
-use Rattle.rb_slot.proofs.Public.RawBoxValues.{both, RawBox, raw_box_good, raw_box_in}
-use Rattle.rb_slot.proofs.Public.SlotValues.{Slot, slot_out, either_slot}
-use Rattle.rb_slot.specs.contracts.slot.Slot.into_raw_box.{ended, clauses}
-use Rattle.rb_slot.specs.contracts.slot.Slot.into_raw_box.Key.{name as #self}
-use Rattle.rb_slot.proofs.slot.Slot.into_raw_box.Statement.{statement}
-use Rattle.rb_slot.proofs.slot.Slot.into_raw_box.Code as code
+use Rattle.rb_capi.proofs.RawBoxValues.{both, RawBox, raw_box_good, raw_box_in}
+use Rattle.rb_capi.proofs.SlotValues.{Slot, slot_out, either_slot}
+use Rattle.rb_capi.specs.contracts.slot.Slot.into_raw_box.{ended, clauses}
+use Rattle.rb_capi.specs.contracts.slot.Slot.into_raw_box.Key.{name as #self}
+use Rattle.rb_capi.proofs.slot.Slot.into_raw_box.Statement.{statement}
+use Rattle.rb_capi.proofs.slot.Slot.into_raw_box.Code as code
 
 pub into_raw_box_spec : {M : Type 1} → statement M
 into_raw_box_spec 𝓤 𝓛 𝓜 𝓡 wired T L =

@@ -4,7 +4,7 @@ ghost use Rattle.std.specs.declared.option.Option.{Option};
 ghost use Rattle.std.specs.declared.option.Option.TheVariants.{None, Some};
 ghost use Rattle.std.specs.Option.{MatchOption};
 ghost use Rattle.std.specs.Coded.{coded_option};
-ghost use Rattle.rb_slot.specs.Slots.{slot_owns};
+ghost use Rattle.rb_capi.specs.Slots.{slot_owns};
 
 use crate::raw_box::RawBox;
 use std::alloc::Global;

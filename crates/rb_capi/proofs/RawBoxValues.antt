@@ -23,7 +23,7 @@ use Rattle.core.proofs.alloc.Calls.{Al, handle_tells}
 use Rattle.core.proofs.cell.Inside.{Good}
 use Rattle.std_alloc.specs.Box.Ownership.{box_owns}
 use Rattle.std_alloc.proofs.ResultValues.{and_tt}
-use Rattle.rb_slot.specs.contracts.raw_box.RawBox as raw_box
+use Rattle.rb_capi.specs.contracts.raw_box.RawBox as raw_box
 
 -- the machine value of a struct of two fields
 abbrev pub both : Val → Val → Val

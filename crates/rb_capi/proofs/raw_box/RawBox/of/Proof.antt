@@ -33,13 +33,13 @@ use Rattle.std_alloc.specs.Box.Ownership.{box_owns}
 use Rattle.std_alloc.proofs.BoxSteps.Form as box
 use Rattle.std_alloc.proofs.BoxSteps.Steps.{box_out, box_in}
 use Rattle.std.proofs.raw_atomic.Walks.{proved_at, leaves}
-use Rattle.rb_slot.proofs.Public.RawBoxValues.{both, raw_box_good, raw_box_in}
+use Rattle.rb_capi.proofs.RawBoxValues.{both, raw_box_good, raw_box_in}
 use Rattle.std_alloc.specs.contracts.boxed.Box.into_raw_with_allocator as callee
 use Rattle.std_alloc.proofs.boxed.Box.into_raw_with_allocator.Met.{met}
-use Rattle.rb_slot.specs.contracts.raw_box.RawBox.of.{ended, clauses}
-use Rattle.rb_slot.specs.contracts.raw_box.RawBox.of.Key.{name as #self}
-use Rattle.rb_slot.proofs.raw_box.RawBox.of.Statement.{statement}
-use Rattle.rb_slot.proofs.raw_box.RawBox.of.Code as code
+use Rattle.rb_capi.specs.contracts.raw_box.RawBox.of.{ended, clauses}
+use Rattle.rb_capi.specs.contracts.raw_box.RawBox.of.Key.{name as #self}
+use Rattle.rb_capi.proofs.raw_box.RawBox.of.Statement.{statement}
+use Rattle.rb_capi.proofs.raw_box.RawBox.of.Code as code
 
 pub of_spec : {M : Type 1} → statement M
 of_spec 𝓤 𝓛 𝓜 𝓡 wired T A L LA g d dx dd allocator glue glued =

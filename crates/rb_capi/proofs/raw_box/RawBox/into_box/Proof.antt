@@ -32,13 +32,13 @@ use Rattle.core.proofs.cell.Inside.{Good}
 use Rattle.std_alloc.proofs.BoxSteps.Form as box
 use Rattle.std_alloc.proofs.BoxSteps.Steps.{box_out, box_in}
 use Rattle.std.proofs.raw_atomic.Walks.{proved_at, leaves}
-use Rattle.rb_slot.proofs.Public.RawBoxValues.{both, RawBox, raw_box_good, raw_box_out}
+use Rattle.rb_capi.proofs.RawBoxValues.{both, RawBox, raw_box_good, raw_box_out}
 use Rattle.std_alloc.specs.contracts.boxed.Box.from_raw as callee
 use Rattle.std_alloc.proofs.boxed.Box.from_raw.Met.{met}
-use Rattle.rb_slot.specs.contracts.raw_box.RawBox.into_box.{ended, clauses}
-use Rattle.rb_slot.specs.contracts.raw_box.RawBox.into_box.Key.{name as #self}
-use Rattle.rb_slot.proofs.raw_box.RawBox.into_box.Statement.{statement}
-use Rattle.rb_slot.proofs.raw_box.RawBox.into_box.Code as code
+use Rattle.rb_capi.specs.contracts.raw_box.RawBox.into_box.{ended, clauses}
+use Rattle.rb_capi.specs.contracts.raw_box.RawBox.into_box.Key.{name as #self}
+use Rattle.rb_capi.proofs.raw_box.RawBox.into_box.Statement.{statement}
+use Rattle.rb_capi.proofs.raw_box.RawBox.into_box.Code as code
 
 pub into_box_spec : {M : Type 1} → statement M
 into_box_spec 𝓤 𝓛 𝓜 𝓡 wired T A L LA g d dx dd allocator glue glued =

@@ -25,12 +25,12 @@ use Rattle.std.proofs.alloc.Global.TheLaws as heap_laws
 use Rattle.std.specs.declared.option.Option.TheVariants.{None}
 use Rattle.std_alloc.proofs.ResultValues.{and_tt}
 use Rattle.std.proofs.raw_atomic.Walks.{proved_at, leaves}
-use Rattle.rb_slot.proofs.Public.RawBoxValues.{both}
-use Rattle.rb_slot.proofs.Public.SlotValues.{Slot, slot_in}
-use Rattle.rb_slot.specs.contracts.slot.Slot.none.{ended, clauses}
-use Rattle.rb_slot.specs.contracts.slot.Slot.none.Key.{name as #self}
-use Rattle.rb_slot.proofs.slot.Slot.none.Statement.{statement}
-use Rattle.rb_slot.proofs.slot.Slot.none.Code as code
+use Rattle.rb_capi.proofs.RawBoxValues.{both}
+use Rattle.rb_capi.proofs.SlotValues.{Slot, slot_in}
+use Rattle.rb_capi.specs.contracts.slot.Slot.none.{ended, clauses}
+use Rattle.rb_capi.specs.contracts.slot.Slot.none.Key.{name as #self}
+use Rattle.rb_capi.proofs.slot.Slot.none.Statement.{statement}
+use Rattle.rb_capi.proofs.slot.Slot.none.Code as code
 
 pub none_spec : {M : Type 1} → statement M
 none_spec 𝓤 𝓛 𝓜 𝓡 wired T L =

@@ -1,3 +1,0 @@
--- What other crates cite.
-pub mod RawBoxValues
-pub mod SlotValues
