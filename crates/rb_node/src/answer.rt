@@ -130,7 +130,7 @@ impl Node {
             (λ _. (take (length text.old.items) text.new.items ≡ text.old.items)
             × (take (length entries.old.items) entries.new.items ≡ entries.old.items)) }
     {
-        let reply = self.record(Event::Apply(name), entries)?;
+        let reply = self.step_within_limit(Event::Apply(name), entries)?;
         append_listed(text, comma, &reply)
     }
 

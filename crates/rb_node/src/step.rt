@@ -30,7 +30,7 @@ fn append_entry(
 impl Node {
     /// One event for which the history has spare capacity, and its reply. Its messages are added to those sent, and
     /// the line of its entry to the entries. After an `Err`, out of memory, nothing more may be asked of the site.
-    pub(crate) fn record(
+    pub(crate) fn step_within_limit(
         &mut self,
         event: Event,
         entries: &mut Vec<u8>,
@@ -61,6 +61,6 @@ impl Node {
         if self.site.is_full() {
             return Ok(Reply::Refused(Refusal::HistoryFull));
         }
-        self.record(event, entries)
+        self.step_within_limit(event, entries)
     }
 }

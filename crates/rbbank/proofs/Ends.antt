@@ -8,24 +8,24 @@ use Rattle.rb_lines.specs.declared.fault.ScriptFault.{ScriptFault}
 use Rattle.rb_lines.specs.declared.fault.ScriptFault.TheVariants.{NoConfig, OutOfMemory, Write}
 use Rattle.rb_lines.specs.Messages.{status_of}
 use Rattle.rb_run_site.specs.declared.fault.SiteFault.{SiteFault}
-use Rattle.rbbank.specs.declared.answer.Answered.{Answered}
-use Rattle.rbbank.specs.declared.answer.Answered.TheVariants.{Script, Audit, Migrate, Threads, SiteAsked}
+use Rattle.rbbank.specs.declared.on_streams.Streamed.{Streamed}
+use Rattle.rbbank.specs.declared.on_streams.Streamed.TheVariants.{Script, Audit, Migrate, Threads, SiteAsked}
 use Rattle.rbbank.specs.Statuses.{IsEnd, IsEndOf, IsEndOfAudit, IsEndOfScript, IsEndOfSite, IsEndOfThreads, IsEndOfWords}
-use Rattle.rbbank.specs.Statuses.{IsToldStatus, status_of_unread}
+use Rattle.rbbank.specs.Statuses.{IsReportedStatus, status_of_unread}
 
 -- memory ran out
 pub no_memory : (n : ℕ) → n ≡ 4 → IsEnd n
 no_memory n e = inr (inr (inl (OutOfMemory, e)))
 
-fault_end : (n : ℕ) (fault : ScriptFault) → IsToldStatus (status_of fault) n → IsEnd n
+fault_end : (n : ℕ) (fault : ScriptFault) → IsReportedStatus (status_of fault) n → IsEnd n
 fault_end n fault (inl e) = inr (inr (inl (fault, e)))
 fault_end n fault (inr e) = no_memory n e
 
-script_end : (n : ℕ) (answered : Result ℕ ScriptFault) → IsEndOfScript answered n → IsEnd n
+script_end : (n : ℕ) (ran : Result ℕ ScriptFault) → IsEndOfScript ran n → IsEnd n
 script_end n (Ok count) e = inl e
 script_end n (Err fault) e = fault_end n fault e
 
-audit_end : (n : ℕ) (answered : Result Bool ScriptFault) → IsEndOfAudit answered n → IsEnd n
+audit_end : (n : ℕ) (ran : Result Bool ScriptFault) → IsEndOfAudit ran n → IsEnd n
 audit_end n (Ok true) e = inl e
 audit_end n (Ok false) e = inr (inl e)
 audit_end n (Err fault) e = fault_end n fault e
@@ -40,14 +40,14 @@ site_end n (Err fault) (inl e) = inr (inr (inr (fault, e)))
 site_end n (Err fault) (inr e) = no_memory n e
 
 -- whatever was done
-pub any_end : (n : ℕ) (answered : Answered) → IsEndOf answered n → IsEnd n
+pub any_end : (n : ℕ) (streamed : Streamed) → IsEndOf streamed n → IsEnd n
 any_end n (Script ran) e = script_end n ran e
 any_end n (Audit ran) e = audit_end n ran e
 any_end n (Migrate ran) e = script_end n ran e
 any_end n (Threads ran) e = threads_end n ran e
 any_end n (SiteAsked me journal resend) e = site_end n e.0 e.1
 
-shown_end : (n : ℕ) → (n ≡ 0) ⊎ IsToldStatus (status_of Write) n → IsEnd n
+shown_end : (n : ℕ) → (n ≡ 0) ⊎ IsReportedStatus (status_of Write) n → IsEnd n
 shown_end n (inl e) = inl e
 shown_end n (inr e) = fault_end n Write e
 

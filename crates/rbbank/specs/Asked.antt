@@ -7,14 +7,14 @@ use Rattle.rb_run_script.specs.Run.{ScriptEndsAs}
 use Rattle.rb_run_audit.specs.Run.{AuditEndsAs}
 use Rattle.rb_run_migrate.specs.Run.{MigrationEndsAs}
 use Rattle.rb_run_threads.specs.Runs.{ThreadsEndAs}
-use Rattle.rbbank.specs.declared.answer.Answered.{Answered}
-use Rattle.rbbank.specs.declared.answer.Answered.TheVariants.{Script as ScriptRan, Audit as AuditRan, Migrate as MigrationRan}
-use Rattle.rbbank.specs.declared.answer.Answered.TheVariants.{Threads as TellersRan, SiteAsked}
+use Rattle.rbbank.specs.declared.on_streams.Streamed.{Streamed}
+use Rattle.rbbank.specs.declared.on_streams.Streamed.TheVariants.{Script as ScriptRan, Audit as AuditRan, Migrate as MigrationRan}
+use Rattle.rbbank.specs.declared.on_streams.Streamed.TheVariants.{Threads as TellersRan, SiteAsked}
 
 -- what was asked for was done, by the definition of its own run: a script on the reader's bytes, an audit of them or a
 -- migration, wherever these bytes are known, none of which gathers histories, or a run of tellers, which reads nothing;
 -- or a site is to run as asked, and nothing was read or written
-abbrev pub DoesAsAsked : Words → Answered → Option (List ℕ) → Option (List ℕ) → List ℕ → Type 0
+abbrev pub DoesAsAsked : Words → Streamed → Option (List ℕ) → Option (List ℕ) → List ℕ → Type 0
 DoesAsAsked Script (ScriptRan r) bytes left text = (r ≢ Err Gather) × IfSome bytes (λ input. ScriptEndsAs r input left text)
 DoesAsAsked Audit (AuditRan r) bytes left text = (r ≢ Err Gather) × IfSome bytes (λ input. AuditEndsAs r input left text)
 DoesAsAsked Migrate (MigrationRan r) bytes left text = (r ≢ Err Gather) × IfSome bytes (λ input. MigrationEndsAs r input left text)

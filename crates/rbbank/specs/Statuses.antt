@@ -9,8 +9,8 @@ use Rattle.rb_lines.specs.declared.fault.ScriptFault.TheVariants.{Write}
 use Rattle.rb_lines.specs.Messages.{status_of}
 use Rattle.rb_run_site.specs.declared.fault.SiteFault.{SiteFault}
 use Rattle.rb_run_site.specs.Faults.{site_status_of}
-use Rattle.rbbank.specs.declared.answer.Answered.{Answered}
-use Rattle.rbbank.specs.declared.answer.Answered.TheVariants.{Script, Audit, Migrate, Threads, SiteAsked}
+use Rattle.rbbank.specs.declared.on_streams.Streamed.{Streamed}
+use Rattle.rbbank.specs.declared.on_streams.Streamed.TheVariants.{Script, Audit, Migrate, Threads, SiteAsked}
 
 -- the status where the words can't be read
 abbrev pub status_of_unread : IoErrorKind → ℕ
@@ -19,38 +19,38 @@ status_of_unread _ = 2
 
 -- this status of a fault, or 4: its text takes memory, and no argument shows whether there is some. `print_line`, which
 -- is given the text, says by it which of the two
-abbrev pub IsToldStatus : ℕ → ℕ → Type 0
-IsToldStatus status n = (n ≡ status) ⊎ (n ≡ 4)
+abbrev pub IsReportedStatus : ℕ → ℕ → Type 0
+IsReportedStatus status n = (n ≡ status) ⊎ (n ≡ 4)
 
 -- the status where the words ask for nothing, by the kind of their error: 4 where memory ran out; for help and the
 -- version 0, or that of a write that failed, or 4; 2 for any other
 abbrev pub IsEndOfWords : ErrorKind → ℕ → Type 0
 IsEndOfWords NoMemory n = n ≡ 4
-IsEndOfWords DisplayHelp n = (n ≡ 0) ⊎ IsToldStatus (status_of Write) n
-IsEndOfWords DisplayVersion n = (n ≡ 0) ⊎ IsToldStatus (status_of Write) n
+IsEndOfWords DisplayHelp n = (n ≡ 0) ⊎ IsReportedStatus (status_of Write) n
+IsEndOfWords DisplayVersion n = (n ≡ 0) ⊎ IsReportedStatus (status_of Write) n
 IsEndOfWords _ n = n ≡ 2
 
 -- a script, or a migration, ends in 0 where it was answered whole, else in its fault's status or 4
 abbrev pub IsEndOfScript : Result ℕ ScriptFault → ℕ → Type 0
 IsEndOfScript (Ok count) n = n ≡ 0
-IsEndOfScript (Err fault) n = IsToldStatus (status_of fault) n
+IsEndOfScript (Err fault) n = IsReportedStatus (status_of fault) n
 
 -- an audit ends in 0 where it found an order, in 1 where it found that no world has the histories, else in its fault's
 -- status or 4
 abbrev pub IsEndOfAudit : Result Bool ScriptFault → ℕ → Type 0
 IsEndOfAudit (Ok true) n = n ≡ 0
 IsEndOfAudit (Ok false) n = n ≡ 1
-IsEndOfAudit (Err fault) n = IsToldStatus (status_of fault) n
+IsEndOfAudit (Err fault) n = IsReportedStatus (status_of fault) n
 
 -- a run of threads ends in 0 where its histories were written, else in its fault's status or 4
 abbrev pub IsEndOfThreads : Result Unit ScriptFault → ℕ → Type 0
 IsEndOfThreads (Ok u) n = n ≡ 0
-IsEndOfThreads (Err fault) n = IsToldStatus (status_of fault) n
+IsEndOfThreads (Err fault) n = IsReportedStatus (status_of fault) n
 
 -- a site ends in 0 where its lines were all answered, else in its fault's status or 4
 abbrev pub IsEndOfSite : Result ℕ SiteFault → ℕ → Type 0
 IsEndOfSite (Ok count) n = n ≡ 0
-IsEndOfSite (Err fault) n = IsToldStatus (site_status_of fault) n
+IsEndOfSite (Err fault) n = IsReportedStatus (site_status_of fault) n
 
 -- a status that a run of a site may end in, whatever the run was
 abbrev pub IsEndOfSomeSite : ℕ → Type 0
@@ -58,7 +58,7 @@ IsEndOfSomeSite n = (ran : Result ℕ SiteFault) × IsEndOfSite ran n
 
 -- whatever was done ends as a script, an audit, a migration or a run of threads does by what it came to, or as some run
 -- of a site
-abbrev pub IsEndOf : Answered → ℕ → Type 0
+abbrev pub IsEndOf : Streamed → ℕ → Type 0
 IsEndOf (Script ran) n = IsEndOfScript ran n
 IsEndOf (Audit ran) n = IsEndOfAudit ran n
 IsEndOf (Migrate ran) n = IsEndOfScript ran n
@@ -70,6 +70,6 @@ abbrev pub IsEnd : ℕ → Type 0
 IsEnd n = (n ≡ 0) ⊎ ((n ≡ 1) ⊎ (((fault : ScriptFault) × (n ≡ status_of fault)) ⊎ ((fault : SiteFault) × (n ≡ site_status_of fault))))
 
 -- a site is to run
-abbrev pub IsSiteAsked : Answered → Type 0
+abbrev pub IsSiteAsked : Streamed → Type 0
 IsSiteAsked (SiteAsked me journal resend) = Unit {0}
 IsSiteAsked _ = ⊥

@@ -11,14 +11,14 @@ ghost use Rattle.rb_lines.specs.Messages.{status_of};
 ghost use Rattle.rb_lines.specs.declared.fault.ScriptFault.TheVariants.{Write as NotWritten};
 ghost use Rattle.rbbank.specs.Statuses.{IsEnd, IsEndOf, IsEndOfAudit, IsEndOfScript, IsEndOfThreads, IsEndOfWords};
 ghost use Rattle.rbbank.specs.Statuses.{IsSiteAsked};
-ghost use Rattle.rbbank.specs.Statuses.{IsToldStatus, status_of_unread};
+ghost use Rattle.rbbank.specs.Statuses.{IsReportedStatus, status_of_unread};
 
-mod answer;
 mod on_disk;
+mod on_streams;
 
-use answer::{Answered, answer};
 use clap::error::ErrorKind;
 use on_disk::run_on_disk;
+use on_streams::{Streamed, run_on_streams};
 use rb_lines::{FromReader, ScriptFault, Source, ToWriter, message, status};
 use std::alloc::AllocError;
 use std::process::ExitCode;
@@ -57,14 +57,14 @@ pub(crate) fn print_line(rt: &HostRuntime, line: Result<String, AllocError>, sta
 
 /// Says why a script, an audit, a migration or a run of threads stopped.
 fn report_fault(rt: &HostRuntime, fault: ScriptFault) -> ExitCode
-    ensures { IsToldStatus (status_of fault) (exit_status result) }
+    ensures { IsReportedStatus (status_of fault) (exit_status result) }
 {
     print_line(rt, message(rt.alloc(), fault), status(fault))
 }
 
 /// Writes help or the version, which was asked for, to standard output.
 fn show(rt: &HostRuntime, asked: &clap::Error) -> ExitCode
-    ensures { (exit_status result ≡ 0) ⊎ IsToldStatus (status_of NotWritten) (exit_status result) }
+    ensures { (exit_status result ≡ 0) ⊎ IsReportedStatus (status_of NotWritten) (exit_status result) }
 {
     if rt.print(asked).is_err() {
         return report_fault(rt, ScriptFault::Write);
@@ -132,16 +132,16 @@ fn end_of_threads(rt: &HostRuntime, ran: Result<(), ScriptFault>) -> ExitCode
 }
 
 /// How whatever was asked for ends the program. A site that was asked for runs now.
-fn end<S: Source>(rt: &HostRuntime, reader: &mut S, answered: Answered) -> ExitCode
-    requires { IsSiteAsked answered → S.calls reader.old ≡ 0 }
-    ensures { IsEndOf answered.entry (exit_status result) }
+fn end<S: Source>(rt: &HostRuntime, reader: &mut S, streamed: Streamed) -> ExitCode
+    requires { IsSiteAsked streamed → S.calls reader.old ≡ 0 }
+    ensures { IsEndOf streamed.entry (exit_status result) }
 {
-    match answered {
-        Answered::Script(ran) => end_of_script(rt, ran),
-        Answered::Audit(ran) => end_of_audit(rt, ran),
-        Answered::Migrate(ran) => end_of_script(rt, ran),
-        Answered::Threads(ran) => end_of_threads(rt, ran),
-        Answered::SiteAsked {
+    match streamed {
+        Streamed::Script(ran) => end_of_script(rt, ran),
+        Streamed::Audit(ran) => end_of_audit(rt, ran),
+        Streamed::Migrate(ran) => end_of_script(rt, ran),
+        Streamed::Threads(ran) => end_of_threads(rt, ran),
+        Streamed::SiteAsked {
             me,
             journal,
             resend,
@@ -170,8 +170,8 @@ fn run<H: Threads + Wait + Sync>(rt: &HostRuntime, handle: &H) -> ExitCode
     };
     let mut reader = FromReader::new(rt.reader());
     let mut writer = ToWriter::new(io::writer(rt));
-    match answer(handle, alloc, views.as_slice(), &mut reader, &mut writer) {
-        Ok(answered) => end(rt, &mut reader, answered),
+    match run_on_streams(handle, alloc, views.as_slice(), &mut reader, &mut writer) {
+        Ok(streamed) => end(rt, &mut reader, streamed),
         Err(error) => report_words(rt, error),
     }
 }

@@ -1,4 +1,4 @@
-//! What the words ask for, done between any reader and any writer.
+//! What the words ask for, done between any reader and any writer, as far as these suffice.
 ghost use Rattle.std.specs.Prelude.{◌≡◌, ◌+◌, ◌≤◌, ℕ, List, false, map, IfOk, IfErr, OnErr};
 ghost use Rattle.std.specs.Io.KnownBytes.{Appends};
 ghost use Rattle.clap.specs.Words.{FailsBy, fault_of, kind_of};
@@ -20,9 +20,9 @@ use std::alloc::Global;
 use std::sync::Wait;
 use std::thread::Threads;
 
-/// What was done, and what it came to.
+/// What was done between a reader and a writer, and what it came to.
 #[derive(Clone, Copy)]
-pub enum Answered<'a> {
+pub enum Streamed<'a> {
     /// A script was answered.
     Script(Result<u64, ScriptFault>),
     /// Histories were audited.
@@ -42,19 +42,19 @@ pub enum Answered<'a> {
 /// Does what the words after the program's name ask for, from this reader to this writer. Tellers read nothing;
 /// the handle starts their threads, and waits for them. A site takes a disk as well, so it is the caller's to run.
 /// Where the words ask for nothing, the error says so, and nothing is read or written.
-pub fn answer<'a, H: Threads + Wait + Sync, S: Source, W: Sink>(
+pub fn run_on_streams<'a, H: Threads + Wait + Sync, S: Source, W: Sink>(
     handle: &H,
     alloc: Global,
     words: &'a [&'a str],
     reader: &mut S,
     writer: &mut W,
-) -> Result<Answered<'a>, clap::Error>
+) -> Result<Streamed<'a>, clap::Error>
     requires unread { S.calls reader.old ≡ 0 }
     requires fresh { W.failed writer.old ≡ false }
-    ensures done { IfOk result (λ answered. (asked : TheWords) × AreReadAs (map (λ word. word.now) words.entry.now) asked
+    ensures done { IfOk result (λ ran. (asked : TheWords) × AreReadAs (map (λ word. word.now) words.entry.now) asked
         × IsAsUsual (map (λ word. word.now) words.entry.now) asked
         × (text : List ℕ) × Appends (W.contents writer.old) (W.contents writer.new) text
-        × DoesAsAsked asked answered (S.remaining reader.old) (S.remaining reader.new) text) }
+        × DoesAsAsked asked ran (S.remaining reader.old) (S.remaining reader.new) text) }
     // Words in their usual spelling are refused for want of memory alone.
     ensures unasked { IfErr result
         (λ e. (asked : TheWords) → Ask (map (λ word. word.now) words.entry.now) asked → kind_of e ≡ OutOfMemory) }
@@ -63,13 +63,13 @@ pub fn answer<'a, H: Threads + Wait + Sync, S: Source, W: Sink>(
     ensures kinds { FailsBy (fault_of command_line (map (λ word. word.now) words.entry.now)) result }
     ensures untouched { OnErr result ((reader.new ≡ reader.old) × (writer.new ≡ writer.old)) }
     ensures asked { IfOk result
-        (λ answered. IsSiteAsked answered → (reader.new ≡ reader.old) × (writer.new ≡ writer.old)) }
+        (λ ran. IsSiteAsked ran → (reader.new ≡ reader.old) × (writer.new ≡ writer.old)) }
     ensures calls { S.calls reader.new ≤ S.calls reader.old + MOST_READS }
 {
     match read_words(alloc, words) {
-        Ok(Words::Script) => Ok(Answered::Script(run_script(alloc, reader, writer))),
-        Ok(Words::Audit) => Ok(Answered::Audit(run_audit(alloc, reader, writer))),
-        Ok(Words::Migrate) => Ok(Answered::Migrate(run_migrate(alloc, reader, writer))),
+        Ok(Words::Script) => Ok(Streamed::Script(run_script(alloc, reader, writer))),
+        Ok(Words::Audit) => Ok(Streamed::Audit(run_audit(alloc, reader, writer))),
+        Ok(Words::Migrate) => Ok(Streamed::Migrate(run_migrate(alloc, reader, writer))),
         Ok(
             Words::Threads {
                 sites,
@@ -78,7 +78,7 @@ pub fn answer<'a, H: Threads + Wait + Sync, S: Source, W: Sink>(
             },
         ) => {
             let ran = run_threads(handle, alloc, sites, tellers, seed, NoGate, writer);
-            Ok(Answered::Threads(ran))
+            Ok(Streamed::Threads(ran))
         }
         Ok(
             Words::Site {
@@ -86,7 +86,7 @@ pub fn answer<'a, H: Threads + Wait + Sync, S: Source, W: Sink>(
                 journal,
                 resend,
             },
-        ) => Ok(Answered::SiteAsked {
+        ) => Ok(Streamed::SiteAsked {
             me,
             journal,
             resend,

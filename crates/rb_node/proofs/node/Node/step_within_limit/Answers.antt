@@ -5,7 +5,7 @@ use Rattle.rb_history.specs.Entries.{entry_json}
 use Rattle.rb_node.specs.Answers.{SeenNode, line_of}
 use Rattle.rb_node.proofs.Failed.{kept, stayed}
 use Rattle.rb_node.proofs.Recorded.{me-next, recorded}
-use Rattle.rb_node.proofs.node.Node.record.Goals as goal
+use Rattle.rb_node.proofs.node.Node.step_within_limit.Goals as goal
 
 pub returns : goal.returns
 returns c =
