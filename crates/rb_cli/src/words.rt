@@ -110,6 +110,7 @@ pub fn read_words<'a>(alloc: Global, words: &'a [&'a str]) -> Result<Words<'a>, 
     let matches = command.try_get_matches_from_mut(words)?;
     match asked_by(&matches) {
         Some(asked) => Ok(asked),
+        // Words that the command line takes have one of its commands, with the options that it needs.
         None => unreachable!(),
     }
 }

@@ -77,6 +77,7 @@ pub fn serve<R: JournaledResponder, H: Host, S: Source>(
             Ok(()) => {}
             Err(NoLine::Read) => return Err(ServeFault::Read),
             Err(NoLine::OutOfMemory) => return Err(ServeFault::OutOfMemory),
+            // Reading more gives no other reason.
             Err(NoLine::TooLong | NoLine::Write) => unreachable!(),
         }
     }

@@ -73,8 +73,9 @@ fn replay_file(
         (λ first. OpensFile node.old.site node.new.site bytes.now first.items sends.new.items resend)
         (EndsFile node.old.site bytes.now) }
 {
-    // For facts alone: the line of a configuration is a line.
+    // For a fact alone: the line of a configuration is a line.
     lines_are_single();
+    // For a fact alone: the settings are those of a configuration.
     let _sites = node.config().sites();
     let first = node.config_line()?;
     match entries_in(bytes, &first)? {

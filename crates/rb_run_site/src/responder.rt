@@ -50,6 +50,7 @@ impl JournaledResponder for SiteResponder {
     ) -> Result<(), NoAnswer> {
         // For a fact alone: lines of entries are lines.
         lines_are_single();
+        // For a fact alone: the settings are those of a configuration.
         let _sites = self.node.config().sites();
         let before = text.len();
         self.entries.clear();

@@ -66,6 +66,7 @@ fn go_on<S: Source, H: Host>(
 {
     // For a fact alone: the line of a configuration is a line.
     lines_are_single();
+    // For a fact alone: the settings are those of a configuration.
     let _sites = opened.responder.node.config().sites();
     journal.commit_and_put_out(&opened.first, &opened.sends)?;
     serve(
