@@ -27,6 +27,7 @@ abbrev pub SiteHandle : RattleType
 SiteHandle = handle.the_row
 
 module _ {M : Type 1} {𝓤 : Ura M} {𝓛 : Logic 𝓤} {K : Type 0} {Γ : List (Item 𝓤)} {G : Goal 𝓤 𝓛.H} where
+  -- a handle is taken apart: a pointer and an allocator, and what the handle owns
   pub handle_out : K → (d : SiteHandle.Denot) (vs : List Val)
       → ((h : Val) → vs ≡ both (ptr_val d.at) h ∷ [] → Good (layout Z) h
       → Seq K 𝓛 (‵ (slot_owns site_row d.alloc d.at d.value) ∷ ‵ (Z.own_val d.alloc (h ∷ [])) ∷ Γ) G)
@@ -37,6 +38,7 @@ module _ {M : Type 1} {𝓤 : Ura M} {𝓛 : Logic 𝓤} {K : Type 0} {Γ : List
       k h (subst (λ (ws : List Val). vs ≡ vstruct (of_list (ptr_val d.at ∷ (ws ++ []))) ∷ []) ea
       (subst (λ (ps : List Val). vs ≡ vstruct (of_list (ps ++ (vss.1.0 ++ []))) ∷ []) ep ev)) fits))))
 
+  -- a pointer and an allocator, with what they own, are a handle
   pub handle_in : K → (p : Ptr) (h : Val) (a : Global) (x : Option site_row.Denot)
       → Step K 𝓛 (‵ (SiteHandle.own_val (record { at = p; alloc = a; value = x }) (both (ptr_val p) h ∷ [])) ∷ Γ) G
       (‵ (slot_owns site_row a p x) ∷ ‵ (Z.own_val a (h ∷ [])) ∷ Γ) G

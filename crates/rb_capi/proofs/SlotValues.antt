@@ -40,13 +40,16 @@ abbrev pub al : Al
 al = record { row = Z; laws = heap_laws.the_row_laws; g = ghosts; d = impl [] tnil dnil; drops = impl [] tnil dnil }
 
 module _ (R : RattleType) where
+  -- a slot, as its contract has it
   abbrev pub Slot : RattleType
   Slot = slot.the_row R
 
+  -- what a box at a place owns
   abbrev pub boxed : Global → Ptr → R.Denot → base.Fml.Fml
   boxed a = box_owns (ghosts.dealloc_token a) R
 
   module _ {M : Type 1} {𝓤 : Ura M} (𝓛 : Logic 𝓤) where
+    -- the pointer of a box may be compared with null
     pub tested : (a : Global) (p : Ptr) (x : R.Denot) → ent 𝓤 (sem 𝓛 (boxed a p x)) (guard 𝓤 (Testable p) (sem 𝓛 (boxed a p x)))
     tested a p x = let B : SProp 𝓤 = sem 𝓛 (boxed a p x) in
         fact_use 𝓤 (Testable p) (via 𝓤 _
@@ -54,6 +57,7 @@ module _ (R : RattleType) where
         (dealloc_token-Testable 𝓛 a (bare (lone R.mir)) p)) (guard_i 𝓤 (Testable p) B)
 
   module _ {M : Type 1} {𝓤 : Ura M} {𝓛 : Logic 𝓤} {K : Type 0} {Γ : List (Item 𝓤)} {G : Goal 𝓤 𝓛.H} where
+    -- a slot is taken apart: a pointer and an allocator, and what the slot owns
     pub slot_out : K → (d : Slot.Denot) (vs : List Val)
         → ((h : Val) → vs ≡ both (ptr_val d.at) h ∷ [] → Good (layout Z) h
         → Seq K 𝓛 (‵ (slot_owns R d.alloc d.at d.value) ∷ ‵ (Z.own_val d.alloc (h ∷ [])) ∷ Γ) G)
@@ -64,6 +68,7 @@ module _ (R : RattleType) where
         k h (subst (λ (ws : List Val). vs ≡ vstruct (of_list (ptr_val d.at ∷ (ws ++ []))) ∷ []) ea
         (subst (λ (ps : List Val). vs ≡ vstruct (of_list (ps ++ (vss.1.0 ++ []))) ∷ []) ep ev)) fits))))
 
+    -- a pointer and an allocator, with what they own, are a slot
     pub slot_in : K → (p : Ptr) (h : Val) (a : Global) (x : Option R.Denot)
         → Step K 𝓛 (‵ (Slot.own_val (record { at = p; alloc = a; value = x }) (both (ptr_val p) h ∷ [])) ∷ Γ) G
         (‵ (slot_owns R a p x) ∷ ‵ (Z.own_val a (h ∷ [])) ∷ Γ) G
@@ -75,6 +80,7 @@ module _ (R : RattleType) where
           (h ∷ [], tt),
         ) $ fjoin t $ s)
 
+    -- a slot has nothing, and null, or a box, and a pointer into a block
     pub either_slot : K → (a : Global) (p : Ptr) (v : Option R.Denot) → (p ≡ null_ptr → v ≡ None → Seq K 𝓛 Γ G)
         → ((b o : ℕ) (x : R.Denot) → p ≡ block_ptr b o → v ≡ Some x → Testable (block_ptr b o)
         → Seq K 𝓛 (‵ (boxed a (block_ptr b o) x) ∷ Γ) G) → Seq K 𝓛 (‵ (slot_owns R a p v) ∷ Γ) G

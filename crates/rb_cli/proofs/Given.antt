@@ -7,16 +7,19 @@ use Rattle.std.proofs.lemmas.Slice.Eq.{bytes_eq-Decides}
 use Rattle.clap.specs.Lexer.{long_of, long_of_rest, short_of, short_of_rest, strip_byte}
 use Rattle.clap.specs.Facts.{unwrap_or_range}
 use Rattle.clap.specs.Kinds.{Kinds, or_else}
-use Rattle.clap.specs.Faults.{bundle_fault, check_fault, defaults_fault, flag_word_fault, level_fault, settle_fault, step_fault, turn_fault, use_fault, walk_fault}
+use Rattle.clap.specs.Faults.{bundle_fault, check_fault, defaults_fault, flag_word_fault, level_fault, settle_fault}
+use Rattle.clap.specs.Faults.{step_fault, turn_fault, use_fault, walk_fault}
 use Rattle.clap.specs.Simple.{Shape}
 use Rattle.clap.specs.Takes.{value_passes}
-use Rattle.clap.specs.Walk.{Held, Row, Rule, Text, Walk, action_of, after_step, arg_by_id, has_row, idle, long_or_other, most_values, nothing_held, option, option_word, plain_word}
+use Rattle.clap.specs.Walk.{Held, Row, Rule, Text, Walk, action_of, after_step, arg_by_id, has_row, idle}
+use Rattle.clap.specs.Walk.{long_or_other, most_values, nothing_held, option, option_word, plain_word}
 use Rattle.clap.specs.Walk.{rows_after, settled_rows, short_or_plain, trailing, used, used_by_id, walked, with_default, word_met}
 use Rattle.clap.specs.declared.builder.action.ArgAction.TheVariants.{Set}
 use Rattle.clap.proofs.OnLiterals.{clap_on_literals}
 use Rattle.rb_cli.proofs.Options.{no_defaults}
 use Rattle.rb_cli.proofs.Passing.{Each, HasOptions, IsOption}
 
+-- of two checks that find no fault the first fault is none
 pub both_none : (a b : Kinds) → a ≡ [] → b ≡ [] → or_else a b ≡ []
 both_none a b e f = ap (λ k. or_else k b) e ∙ f
 
@@ -106,15 +109,18 @@ value_fault s id rows v plain =
 
 -- ---- options in turn
 
+-- an option as it is given: the word of its name, its rule, and the word of its value
 pub record Given : Type 0 where
   pub word : Text
   pub rule : Rule
   pub value : Text
 
+-- the words of options in turn
 abbrev pub spelled : List Given → List Text
 spelled [] = []
 spelled (g ∷ gs) = g.word ∷ g.value ∷ spelled gs
 
+-- the rows after them
 abbrev pub rows_with : List Row → List Given → List Row
 rows_with rows [] = rows
 rows_with rows (g ∷ gs) = rows_with (used g.rule (g.value ∷ []) rows) gs
@@ -122,7 +128,8 @@ rows_with rows (g ∷ gs) = rows_with (used g.rule (g.value ∷ []) rows) gs
 -- each is an option that is not given before, and has a value that passes
 abbrev pub AreGiven : Shape → List Row → List Given → Type 0
 AreGiven s rows [] = Unit {0}
-AreGiven s rows (g ∷ gs) = IsNamed s g.word g.rule × IsPlain g.value × (has_row g.rule.id rows ≡ false) × (value_passes g.rule g.value ≡ true)
+AreGiven s rows (g ∷ gs) = IsNamed s g.word g.rule × IsPlain g.value × (has_row g.rule.id rows ≡ false)
+    × (value_passes g.rule g.value ≡ true)
     × AreGiven s (used g.rule (g.value ∷ []) rows) gs
 
 used_once : (again : Bool) (a : Rule) (v : Text) (rows : List Row) → most_values a ≡ 1 → (unwrap_or_range a.range).start_inclusive ≡ 1
@@ -133,7 +140,8 @@ settled_is : (s : Shape) (g : Given) (rows : List Row) → IsNamed s g.word g.ru
     → settled_rows s.rules (Some (g.rule.id, g.value ∷ [])) rows ≡ used g.rule (g.value ∷ []) rows
 settled_is s g rows named = ap (λ found. used_by_id found (g.value ∷ []) rows) named.own
 
-settles : (s : Shape) (g : Given) (rows : List Row) → IsNamed s g.word g.rule → has_row g.rule.id rows ≡ false → value_passes g.rule g.value ≡ true
+settles : (s : Shape) (g : Given) (rows : List Row) → IsNamed s g.word g.rule → has_row g.rule.id rows ≡ false
+    → value_passes g.rule g.value ≡ true
     → settle_fault s.rules s.args_override_self (at rows (Some (g.rule.id, g.value ∷ []))).held ≡ []
 settles s g rows named new passes =
     ap (λ found. option_map_or (λ a. use_fault s.args_override_self a (g.value ∷ []) rows) found []) named.own

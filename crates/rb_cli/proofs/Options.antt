@@ -1,5 +1,6 @@
 -- What a command's options are after a parse that fails nowhere.
-use Rattle.std.proofs.Common.{◌≡◌, ◌∙◌, ◌&&◌, ◌⊎◌, ◌==◌, ℕ, Bool, cond, true, false, not, refl, sym, ap, subst, arith, List, [], ◌∷◌, drop, Option, Some, None, inl, inr, pos, rules}
+use Rattle.std.proofs.Common.{◌≡◌, ◌∙◌, ◌&&◌, ◌⊎◌, ◌==◌, ℕ, Bool, cond, true, false, not, refl, sym, ap, subst, arith}
+use Rattle.std.proofs.Common.{List, [], ◌∷◌, drop, Option, Some, None, inl, inr, pos, rules}
 use Rattle.std.specs.Prelude.{IfSome, find, fold, option_and_then, slice_get, unwrap_or}
 use Rattle.std.specs.List.{list_any}
 use Rattle.std.specs.Option.{option_map_or}
@@ -16,15 +17,18 @@ use Rattle.clap.specs.Faults.{check_fault, level_fault}
 use Rattle.clap.specs.Simple.{Shape}
 use Rattle.clap.specs.Takes.{is_given, value_passes}
 use Rattle.clap.specs.Values.{IsSignedIn, read_as}
-use Rattle.clap.specs.Walk.{Row, Rule, Text, arg_by_id, default_rows, first_of, has_row, nothing_held, one_of, reading_by, row_text, rows_after, walk, walk_from, with_default}
+use Rattle.clap.specs.Walk.{Row, Rule, Text, arg_by_id, default_rows, first_of, has_row, nothing_held, one_of}
+use Rattle.clap.specs.Walk.{reading_by, row_text, rows_after, walk, walk_from, with_default}
 use Rattle.clap.specs.declared.builder.value_parser.ValueParser.TheVariants.{Signed}
-use Rattle.clap.specs.declared.error.kind.ErrorKind.TheVariants.{DisplayHelpOnMissingArgumentOrSubcommand, MissingRequiredArgument, MissingSubcommand}
+use Rattle.clap.specs.declared.error.kind.ErrorKind.TheVariants.{DisplayHelpOnMissingArgumentOrSubcommand}
+use Rattle.clap.specs.declared.error.kind.ErrorKind.TheVariants.{MissingRequiredArgument, MissingSubcommand}
 use Rattle.clap.proofs.ValueTestLemmas.{accepts-Accepts}
 use Rattle.rb_cli.specs.Words.{IsNumberWithin}
 use Rattle.rb_cli.proofs.Passing.{Each, HasOptions, IsOption, Passes, found_in, never, none_of, settle_passes, walk_passes}
 
 -- ---- at the end of a parse
 
+-- options without a default add no row
 pub no_defaults : (c rules : List Rule) (rows : List Row) → Each (IsOption c) rules → fold with_default rows rules ≡ rows
 no_defaults c [] rows all = refl
 no_defaults c (a ∷ rules) rows all =
@@ -113,6 +117,7 @@ without_minus-cond (x ∷ xs) = go (x == 45)
     go true = refl
     go false = refl
 
+-- a numeral has no plus sign in front
 pub no_plus : (ds : Text) → IsNumeral 10 ds → without_leading_plus ds ≡ ds
 no_plus [] h = refl
 no_plus (d ∷ ds) h =

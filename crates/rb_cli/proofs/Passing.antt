@@ -1,5 +1,6 @@
 -- What a parse that fails nowhere leaves of a command's options: each that is given has a first value that its parser takes.
-use Rattle.std.proofs.Common.{◌≡◌, ◌≤◌, ◌&&◌, ◌⊎◌, ℕ, Bool, cond, true, false, not, zero, suc, refl, sym, ap, subst, List, [], ◌∷◌, ◌++◌, length, drop, Option, Some, None, inl, inr, is_some, rules}
+use Rattle.std.proofs.Common.{◌≡◌, ◌≤◌, ◌&&◌, ◌⊎◌, ℕ, Bool, cond, true, false, not, zero, suc, refl, sym, ap, subst}
+use Rattle.std.proofs.Common.{List, [], ◌∷◌, ◌++◌, length, drop, Option, Some, None, inl, inr, is_some, rules}
 use Rattle.std.specs.Prelude.{IfSome, encode_utf8, find, nat_lt, fold, slice_get}
 use Rattle.std.specs.Option.{option_map_or}
 use Rattle.std.specs.Str.{bytes_eq, chars}
@@ -8,15 +9,21 @@ use Rattle.clap.specs.Values.{refused_kind}
 use Rattle.clap.specs.declared.error.kind.ErrorKind.TheVariants.{DisplayHelp, InvalidValue, TooManyValues}
 use Rattle.clap.specs.declared.error.kind.ErrorKind.{ErrorKind}
 use Rattle.clap.specs.Facts.{parser_of_value, unwrap_or_range}
-use Rattle.clap.specs.Walk.{Held, Names, Outcome, Row, Rule, Step, Text, Waiting, Walk, action_of, arg_by_id, arg_by_index, arg_by_long, arg_by_short}
-use Rattle.clap.specs.Walk.{after_flag, after_step, at_row, attached_value, bundle, bundle_met, bundle_step, flag_met, has_long, has_short, is_pending, long_met}
-use Rattle.clap.specs.Walk.{long_or_other, more_values, most_values, next, option_met, option_word, plain_word, positional_held, pushed, reacted, reading_by, settled, settled_rows}
-use Rattle.clap.specs.Walk.{short_met, short_or_plain, subcommand, subcommand_met, subcommand_or_other, takes_several, takes_values, to_positional, trailing, used, used_as, used_by_id, value}
-use Rattle.clap.specs.Walk.{values_or_missing, walked, walked_from, with_values, without, word_met, done, waits, plain, refused, idle, option, positional}
+use Rattle.clap.specs.Walk.{Held, Names, Outcome, Row, Rule, Step, Text, Waiting, Walk, action_of, arg_by_id}
+use Rattle.clap.specs.Walk.{arg_by_index, arg_by_long, arg_by_short}
+use Rattle.clap.specs.Walk.{after_flag, after_step, at_row, attached_value, bundle, bundle_met, bundle_step, flag_met}
+use Rattle.clap.specs.Walk.{has_long, has_short, is_pending, long_met}
+use Rattle.clap.specs.Walk.{long_or_other, more_values, most_values, next, option_met, option_word, plain_word}
+use Rattle.clap.specs.Walk.{positional_held, pushed, reacted, reading_by, settled, settled_rows}
+use Rattle.clap.specs.Walk.{short_met, short_or_plain, subcommand, subcommand_met, subcommand_or_other, takes_several}
+use Rattle.clap.specs.Walk.{takes_values, to_positional, trailing, used, used_as, used_by_id, value}
+use Rattle.clap.specs.Walk.{values_or_missing, walked, walked_from, with_values, without, word_met, done, waits}
+use Rattle.clap.specs.Walk.{plain, refused, idle, option, positional}
 use Rattle.clap.specs.Kinds.{Kinds, or_else, range_kinds}
 use Rattle.clap.specs.Simple.{Shape}
 use Rattle.clap.specs.Takes.{value_passes}
-use Rattle.clap.specs.Faults.{action_fault, bundle_fault, bundle_step_fault, flag_word_fault, flags_fault, long_fault, option_fault, other_fault, positional_fault, react_fault, set_fault, settle_fault}
+use Rattle.clap.specs.Faults.{action_fault, bundle_fault, bundle_step_fault, flag_word_fault, flags_fault, long_fault}
+use Rattle.clap.specs.Faults.{option_fault, other_fault, positional_fault, react_fault, set_fault, settle_fault}
 use Rattle.clap.specs.Faults.{short_fault, step_fault, stray_fault, use_fault, values_fault, walk_fault, word_fault}
 use Rattle.clap.specs.declared.builder.action.ArgAction.TheVariants.{Set, Help}
 use Rattle.clap.specs.declared.parser.matches.ValueSource.TheVariants.{CommandLine}
@@ -45,10 +52,12 @@ found_in P p (x ∷ xs) e = go (p x) refl (found_in P p xs e.1)
 
 -- ---- kinds
 
+-- if there is no first fault, neither check finds one
 pub none_of : (a b : Kinds) → or_else a b ≡ [] → (a ≡ []) × (b ≡ [])
 none_of [] b e = (refl, e)
 none_of (k ∷ ks) b e = cc e
 
+-- some fault is not none
 pub never : (k : ErrorKind) (ks : Kinds) → k ∷ ks ≡ [] → ⊥
 never k ks e = cc e
 
@@ -167,6 +176,7 @@ module _ (c : List Rule) (again : Bool) (all : Each (IsOption c) c) where
       go None is fault = e
       go (Some a) is fault = use_passes c again a q.1 rows is fault e
 
+  -- rows that pass still do once the option that waits for its value is settled
   pub settle_passes : (h : Held) → settle_fault c again h ≡ [] → Each (Passes c) h.rows → Each (Passes c) (settled c h).rows
   settle_passes h none e = settle_rows h.pending h.rows none e
 
@@ -206,7 +216,8 @@ module _ (c : List Rule) (again : Bool) (all : Each (IsOption c) c) where
   short_passes (Some a) rest h next_fault then is later none e = go (takes_values a) none
     where
       go : (b : Bool)
-          → cond b (option_fault c again a (attached_value rest) h) (or_else (react_fault c again a [] h) (next_fault (reacted c a [] h))) ≡ []
+          → cond b (option_fault c again a (attached_value rest) h)
+          (or_else (react_fault c again a [] h) (next_fault (reacted c a [] h))) ≡ []
           → Each (Passes c) (cond b (option_met c a (attached_value rest) h) (then (reacted c a [] h))).0.rows
       go true fault = option_passes a (attached_value rest) h is fault e
       go false fault =

@@ -1,5 +1,6 @@
 -- Words that the command line takes ask for something, within its limits.
-use Rattle.std.proofs.Common.{◌≡◌, ◌∙◌, ◌≤◌, ◌&&◌, ◌||◌, ℕ, Bool, cond, codes, true, false, true≢false, not, refl, sym, subst, arith, List, [], ◌∷◌, Option, Some, None, inl, inr, is_some}
+use Rattle.std.proofs.Common.{◌≡◌, ◌∙◌, ◌≤◌, ◌&&◌, ◌||◌, ℕ, Bool, cond, codes, true, false, true≢false, not, refl}
+use Rattle.std.proofs.Common.{sym, subst, arith, List, [], ◌∷◌, Option, Some, None, inl, inr, is_some}
 use Rattle.std.specs.Prelude.{IfSome, find, fold, option_map}
 use Rattle.std.specs.Option.{option_map_or}
 use Rattle.std.specs.Str.{bytes_eq}
@@ -7,16 +8,22 @@ use Rattle.std.proofs.lemmas.Slice.Eq.{bytes_eq-Decides}
 use Rattle.clap.specs.Lexer.{long_of, short_of, without_minus}
 use Rattle.clap.specs.Kinds.{or_else}
 use Rattle.clap.specs.Faults.{check_fault, entered_fault, fault_of, level_fault, other_fault, step_fault, walk_fault, word_fault}
-use Rattle.clap.specs.Simple.{App, Shape, new_app, built, entered, label_of, names_of, built_leaf, filled, inherited, marked_built, rows_at, subcommand_of, with_leaf_noted}
+use Rattle.clap.specs.Simple.{App, Shape, new_app, built, entered, label_of, names_of, built_leaf, filled, inherited}
+use Rattle.clap.specs.Simple.{marked_built, rows_at, subcommand_of, with_leaf_noted}
 use Rattle.clap.specs.Takes.{is_given}
-use Rattle.clap.specs.Walk.{Held, Names, Outcome, Row, Rule, Step, Text, Waiting, Walk, after_flag, after_step, answers_to, arg_by_index, bundle, idle, long_met, arg_by_long}
-use Rattle.clap.specs.Walk.{done, long_or_other, next, nothing_held, one_of, option, plain, plain_word, positional, refused, rows_after, short_or_plain, stop_after, subcommand, subcommand_met, subcommand_or_other}
+use Rattle.clap.specs.Walk.{Held, Names, Outcome, Row, Rule, Step, Text, Waiting, Walk, after_flag, after_step}
+use Rattle.clap.specs.Walk.{answers_to, arg_by_index, bundle, idle, long_met, arg_by_long}
+use Rattle.clap.specs.Walk.{done, long_or_other, next, nothing_held, one_of, option, plain, plain_word, positional}
+use Rattle.clap.specs.Walk.{refused, rows_after, short_or_plain, stop_after, subcommand, subcommand_met}
+use Rattle.clap.specs.Walk.{subcommand_or_other}
 use Rattle.clap.specs.Walk.{to_positional, trailing, value, waits, walk_from, walked, walked_from, word_met}
 use Rattle.clap.specs.declared.error.kind.ErrorKind.TheVariants.{DisplayHelp, InvalidSubcommand, MissingSubcommand}
 use Rattle.clap.proofs.OnLiterals.{clap_on_literals}
 use Rattle.rb_money.specs.declared.limits.TheConstants.{MOST_HISTORY, MOST_SITES}
 use Rattle.rb_cli.specs.declared.words.TheConstants.{MOST_TELLERS}
-use Rattle.rb_cli.specs.Words.{AreFit, Asked, IsInRange, IsNumberWithin, command_line, option_rule, site_line, threads_line, within, numeral_value, words_of_matches, script, audit, migrate, threads, site}
+use Rattle.rb_cli.specs.Words.{AreFit, Asked, IsInRange, IsNumberWithin, command_line, option_rule, site_line}
+use Rattle.rb_cli.specs.Words.{threads_line, within, numeral_value, words_of_matches, script, audit, migrate, threads}
+use Rattle.rb_cli.specs.Words.{site}
 use Rattle.rb_cli.proofs.Options.{HasText, at_option, fits, given_text, none_missing, leaf_passes, number_of_text}
 use Rattle.rb_cli.proofs.Passing.{Each, HasOptions, Passes, found_in, never, none_of}
 
@@ -40,7 +47,8 @@ plain_step c idle word h = tt
 plain_step c (option id) word h = tt
 plain_step c positional word h = tt
 
-flag_step : (c : List Rule) (waiting : Waiting) (word : Text) (h : Held) (out : Outcome) → StepsElsewhere (after_flag c waiting word h out).1
+flag_step : (c : List Rule) (waiting : Waiting) (word : Text) (h : Held) (out : Outcome)
+    → StepsElsewhere (after_flag c waiting word h out).1
 flag_step c waiting word h done = tt
 flag_step c waiting word h (waits id) = tt
 flag_step c waiting word h plain = plain_step c waiting word h
@@ -57,7 +65,8 @@ long_step c waiting word (Some p) h =
     flag_step c waiting word (long_met c (arg_by_long c p.0) p.1 h).0 (long_met c (arg_by_long c p.0) p.1 h).1
 long_step c waiting word None h = short_step c waiting word (short_of word) h
 
-other_step : (s : Shape) → s.disable_help_subcommand ≡ false → (name : Option Text) (waiting : Waiting) (position : ℕ) (word : Text) (h : Held)
+other_step : (s : Shape) → s.disable_help_subcommand ≡ false
+    → (name : Option Text) (waiting : Waiting) (position : ℕ) (word : Text) (h : Held)
     → other_fault s name word h ≡ [] → StepsElsewhere (subcommand_or_other s.rules name waiting position word h).1
 other_step s has (Some name) waiting position word h none = go (bytes_eq name (codes "help")) s.disable_help_subcommand has none
   where
@@ -120,7 +129,8 @@ pub record Asks (met : Option (Text × List Row)) : Type 0 where
 other_text : (a b : Text) → bytes_eq a b ≡ false → a ≡ b → ⊥
 other_text a b differ same = true≢false (sym ((bytes_eq-Decides a b).1 same) ∙ differ)
 
-no_options : (name : Text) (its_rows : List Row) → bytes_eq name (codes "threads") ≡ false → bytes_eq name (codes "site") ≡ false → AreFit name its_rows
+no_options : (name : Text) (its_rows : List Row) → bytes_eq name (codes "threads") ≡ false
+    → bytes_eq name (codes "site") ≡ false → AreFit name its_rows
 no_options name its_rows no_threads no_site = record {
   sites = λ is. absurd (other_text _ _ no_threads is);
   tellers = λ is. absurd (other_text _ _ no_threads is);
@@ -139,9 +149,11 @@ nothing_missing false b d e = absurd (true≢false e)
 abbrev pub leaf : App → Shape
 leaf a = built_leaf (inherited (with_leaf_noted (marked_built command_line.top)) a.top)
 
+-- the rule of an option whose value is a number in a range
 abbrev pub numbers : Text → ℕ → ℕ → Bool → Rule
 numbers name least most required = filled (option_rule name (within least most) required)
 
+-- the rules of `threads` are options
 pub threads_options : HasOptions (leaf threads_line)
 threads_options = (
   record { own = refl; defaults = refl; kind = inl (refl, omega arith) },
@@ -154,6 +166,7 @@ threads_options = (
   ),
 )
 
+-- and so are those of `site`
 pub site_options : HasOptions (leaf site_line)
 site_options = (
   record { own = refl; defaults = refl; kind = inl (refl, omega arith) },
@@ -166,7 +179,8 @@ site_options = (
   ),
 )
 
-threads_given : (its_rows : List Row) → Each (Passes (leaf threads_line).rules) its_rows → check_fault (leaf threads_line) its_rows false ≡ []
+threads_given : (its_rows : List Row) → Each (Passes (leaf threads_line).rules) its_rows
+    → check_fault (leaf threads_line) its_rows false ≡ []
     → HasText (numbers (codes "sites") 2 MOST_SITES true) (codes "sites") its_rows
     × HasText (numbers (codes "tellers") 1 MOST_TELLERS true) (codes "tellers") its_rows
     × HasText (numbers (codes "seed") 0 4294967295 true) (codes "seed") its_rows
@@ -178,7 +192,8 @@ threads_given its_rows all none =
       given_text (leaf threads_line).rules _ _ its_rows all refl given.2,
     )
 
-threads_asks : (its_rows : List Row) → Each (Passes (leaf threads_line).rules) its_rows → check_fault (leaf threads_line) its_rows false ≡ []
+threads_asks : (its_rows : List Row) → Each (Passes (leaf threads_line).rules) its_rows
+    → check_fault (leaf threads_line) its_rows false ≡ []
     → Asks (Some (codes "threads", its_rows))
 threads_asks its_rows all none =
     let given = threads_given its_rows all none in
@@ -186,12 +201,14 @@ threads_asks its_rows all none =
     let tellers = number_of_text _ _ its_rows 1 MOST_TELLERS given.1 refl in
     let seed = number_of_text _ _ its_rows 0 4294967295 given.2 refl in
     let rules = (leaf threads_line).rules in record {
-      asked = threads (numeral_value (without_minus given.0.text)) (numeral_value (without_minus given.1.text)) (numeral_value (without_minus given.2.text));
+      asked = threads (numeral_value (without_minus given.0.text)) (numeral_value (without_minus given.1.text))
+          (numeral_value (without_minus given.2.text));
       is = rw (sites.0, tellers.0, seed.0) refl;
       in_range = (sites.1.1, sites.1.2, tellers.1.1, tellers.1.2, omega (arith, seed.1.2));
       fit = record {
         sites = λ _. fits _ _ its_rows 2 MOST_SITES (at_option rules (numbers (codes "sites") 2 MOST_SITES true) _ its_rows all refl) refl;
-        tellers = λ _. fits _ _ its_rows 1 MOST_TELLERS (at_option rules (numbers (codes "tellers") 1 MOST_TELLERS true) _ its_rows all refl) refl;
+        tellers = λ _. fits _ _ its_rows 1 MOST_TELLERS
+            (at_option rules (numbers (codes "tellers") 1 MOST_TELLERS true) _ its_rows all refl) refl;
         seed = λ _. fits _ _ its_rows 0 4294967295 (at_option rules (numbers (codes "seed") 0 4294967295 true) _ its_rows all refl) refl;
         me = λ is. absurd (other_text (codes "threads") (codes "site") refl is);
         resend = λ is. absurd (other_text (codes "threads") (codes "site") refl is);
@@ -219,7 +236,8 @@ site_asks its_rows all none =
     let given = site_given its_rows all none in
     let me = number_of_text _ _ its_rows 0 15 given.0 refl in
     let rules = (leaf site_line).rules in
-    let again = fits _ _ its_rows 0 MOST_HISTORY (at_option rules (numbers (codes "resend") 0 MOST_HISTORY false) (codes "resend") its_rows all refl) refl in
+    let again = fits _ _ its_rows 0 MOST_HISTORY
+    (at_option rules (numbers (codes "resend") 0 MOST_HISTORY false) (codes "resend") its_rows all refl) refl in
     record {
       asked = site (numeral_value (without_minus given.0.text)) given.1.text (option_map numeral_value (one_of (codes "resend") its_rows));
       is = rw (me.0, given.1.first) refl;
@@ -240,7 +258,8 @@ abbrev AsksBy : Text → Shape → Type 0
 AsksBy name s = (words : List Text) → level_fault s [] nothing_held words false [] ≡ [] → answers_to name (label_of s) ≡ true
     → Asks (Some (rows_at s words))
 
-plain_asks : (name : Text) (a : App) (asked : Asked) → ((its_rows : List Row) → words_of_matches (Some ((leaf a).name, its_rows)) ≡ Some asked)
+plain_asks : (name : Text) (a : App) (asked : Asked)
+    → ((its_rows : List Row) → words_of_matches (Some ((leaf a).name, its_rows)) ≡ Some asked)
     → IsInRange asked → bytes_eq (leaf a).name (codes "threads") ≡ false → bytes_eq (leaf a).name (codes "site") ≡ false
     → AsksBy name (leaf a)
 plain_asks name a asked is in_range no_threads no_site words none named = record {

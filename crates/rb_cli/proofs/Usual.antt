@@ -1,5 +1,7 @@
 -- Words in their usual spelling are taken, and read as what they ask for.
-use Rattle.std.proofs.Common.{◌≡◌, ◌∙◌, ◌<◌, ◌≤◌, ◌==◌, ◌+◌, ◌*◌, ◌^◌, ◌⊎◌, ℕ, Bool, cond, codes, decimal, zero, suc, true, false, true≢false, refl, sym, ap, subst, arith, List, [], ◌∷◌, length, Option, Some, None, inl, inr, pos}
+use Rattle.std.proofs.Common.{◌≡◌, ◌∙◌, ◌<◌, ◌≤◌, ◌==◌, ◌+◌, ◌*◌, ◌^◌, ◌⊎◌, ℕ, Bool, cond, codes, decimal, zero, suc}
+use Rattle.std.proofs.Common.{true, false, true≢false, refl, sym, ap, subst, arith, List, [], ◌∷◌, length, Option}
+use Rattle.std.proofs.Common.{Some, None, inl, inr, pos}
 use Rattle.std.specs.Prelude.{slice_get, unwrap_or}
 use Rattle.std.specs.Str.{bytes_eq}
 use Rattle.std.specs.Str.Parse.{IsNumeral, digits_value, starts_with_minus, without_leading_plus}
@@ -24,7 +26,9 @@ use Rattle.clap.specs.declared.builder.action.ArgAction.TheVariants.{Set}
 use Rattle.clap.specs.declared.builder.value_parser.ValueParser.TheVariants.{Signed}
 use Rattle.rb_money.specs.declared.limits.TheConstants.{MOST_HISTORY, MOST_SITES}
 use Rattle.rb_cli.specs.declared.words.TheConstants.{MOST_TELLERS}
-use Rattle.rb_cli.specs.Words.{Ask, Asked, AskForSite, AskForThreads, IsFileName, as_asked, command_line, numeral_value, option_rule, script, audit, migrate, site, site_line, threads, threads_line, words_of_matches}
+use Rattle.rb_cli.specs.Words.{Ask, Asked, AskForSite, AskForThreads, IsFileName, as_asked, command_line}
+use Rattle.rb_cli.specs.Words.{numeral_value, option_rule, script, audit, migrate, site, site_line, threads}
+use Rattle.rb_cli.specs.Words.{threads_line, words_of_matches}
 use Rattle.rb_cli.specs.declared.words.Words.{Words}
 use Rattle.rb_cli.specs.declared.words.Words.TheVariants.{Script, Audit, Migrate, Threads, Site}
 use Rattle.rb_cli.proofs.Given.{AreGiven, Given, IsNamed, IsPlain, at, rows_with, spelled, takes_given, waiting_at}
@@ -76,7 +80,8 @@ file_plain (x ∷ xs) is =
 number_passes : (name : Text) (required : Bool) (n least most : ℕ) → n < 2 ^ 63 → least ≤ n → n ≤ most
     → value_passes (numbers name least most required) (decimal n) ≡ true
 number_passes name required n least most below low high =
-    Accepts-accepts false (Signed (pos least) (pos most)) (decimal n) (signed_in n least most (decimal n) (decimal_digits n below) below low high)
+    Accepts-accepts false (Signed (pos least) (pos most)) (decimal n)
+    (signed_in n least most (decimal n) (decimal_digits n below) below low high)
 
 -- ---- names
 
@@ -252,51 +257,65 @@ two_taken f g asked given checks is =
 module _ (a b d : ℕ) (x : Fits (leaf threads_line) (sites_given a)) (y : Fits (leaf threads_line) (tellers_given b))
     (z : Fits (leaf threads_line) (seed_given d)) (xr : numeral_value (without_minus (decimal a)) ≡ a)
     (yr : numeral_value (without_minus (decimal b)) ≡ b) (zr : numeral_value (without_minus (decimal d)) ≡ d) where
-  run_is : Some (threads (numeral_value (without_minus (decimal a))) (numeral_value (without_minus (decimal b))) (numeral_value (without_minus (decimal d))))
+  run_is : Some (threads (numeral_value (without_minus (decimal a))) (numeral_value (without_minus (decimal b)))
+      (numeral_value (without_minus (decimal d))))
       ≡ Some (threads a b d)
   run_is = λ i. Some (threads (xr i) (yr i) (zr i))
 
   sites_tellers_seed : TakesAs (codes "threads" ∷ spelled (sites_given a ∷ tellers_given b ∷ seed_given d ∷ [])) (threads a b d)
-  sites_tellers_seed = threads_taken (sites_given a) (tellers_given b) (seed_given d) (threads a b d) (three _ _ _ _ x y z refl refl) refl run_is
+  sites_tellers_seed = threads_taken (sites_given a) (tellers_given b) (seed_given d) (threads a b d)
+      (three _ _ _ _ x y z refl refl) refl run_is
 
   sites_seed_tellers : TakesAs (codes "threads" ∷ spelled (sites_given a ∷ seed_given d ∷ tellers_given b ∷ [])) (threads a b d)
-  sites_seed_tellers = threads_taken (sites_given a) (seed_given d) (tellers_given b) (threads a b d) (three _ _ _ _ x z y refl refl) refl run_is
+  sites_seed_tellers = threads_taken (sites_given a) (seed_given d) (tellers_given b) (threads a b d)
+      (three _ _ _ _ x z y refl refl) refl run_is
 
   tellers_sites_seed : TakesAs (codes "threads" ∷ spelled (tellers_given b ∷ sites_given a ∷ seed_given d ∷ [])) (threads a b d)
-  tellers_sites_seed = threads_taken (tellers_given b) (sites_given a) (seed_given d) (threads a b d) (three _ _ _ _ y x z refl refl) refl run_is
+  tellers_sites_seed = threads_taken (tellers_given b) (sites_given a) (seed_given d) (threads a b d)
+      (three _ _ _ _ y x z refl refl) refl run_is
 
   tellers_seed_sites : TakesAs (codes "threads" ∷ spelled (tellers_given b ∷ seed_given d ∷ sites_given a ∷ [])) (threads a b d)
-  tellers_seed_sites = threads_taken (tellers_given b) (seed_given d) (sites_given a) (threads a b d) (three _ _ _ _ y z x refl refl) refl run_is
+  tellers_seed_sites = threads_taken (tellers_given b) (seed_given d) (sites_given a) (threads a b d)
+      (three _ _ _ _ y z x refl refl) refl run_is
 
   seed_sites_tellers : TakesAs (codes "threads" ∷ spelled (seed_given d ∷ sites_given a ∷ tellers_given b ∷ [])) (threads a b d)
-  seed_sites_tellers = threads_taken (seed_given d) (sites_given a) (tellers_given b) (threads a b d) (three _ _ _ _ z x y refl refl) refl run_is
+  seed_sites_tellers = threads_taken (seed_given d) (sites_given a) (tellers_given b) (threads a b d)
+      (three _ _ _ _ z x y refl refl) refl run_is
 
   seed_tellers_sites : TakesAs (codes "threads" ∷ spelled (seed_given d ∷ tellers_given b ∷ sites_given a ∷ [])) (threads a b d)
-  seed_tellers_sites = threads_taken (seed_given d) (tellers_given b) (sites_given a) (threads a b d) (three _ _ _ _ z y x refl refl) refl run_is
+  seed_tellers_sites = threads_taken (seed_given d) (tellers_given b) (sites_given a) (threads a b d)
+      (three _ _ _ _ z y x refl refl) refl run_is
 
 module _ (a b : ℕ) (file : Text) (x : Fits (leaf site_line) (me_given a)) (y : Fits (leaf site_line) (journal_given file))
     (z : Fits (leaf site_line) (resend_given b)) (xr : numeral_value (without_minus (decimal a)) ≡ a)
     (zr : numeral_value (without_minus (decimal b)) ≡ b) where
-  site_is : Some (site (numeral_value (without_minus (decimal a))) file (Some (numeral_value (without_minus (decimal b))))) ≡ Some (site a file (Some b))
+  site_is : Some (site (numeral_value (without_minus (decimal a))) file
+      (Some (numeral_value (without_minus (decimal b))))) ≡ Some (site a file (Some b))
   site_is = λ i. Some (site (xr i) file (Some (zr i)))
 
   me_journal_resend : TakesAs (codes "site" ∷ spelled (me_given a ∷ journal_given file ∷ resend_given b ∷ [])) (site a file (Some b))
-  me_journal_resend = site_taken (me_given a) (journal_given file) (resend_given b) (site a file (Some b)) (three _ _ _ _ x y z refl refl) refl site_is
+  me_journal_resend = site_taken (me_given a) (journal_given file) (resend_given b) (site a file (Some b))
+      (three _ _ _ _ x y z refl refl) refl site_is
 
   me_resend_journal : TakesAs (codes "site" ∷ spelled (me_given a ∷ resend_given b ∷ journal_given file ∷ [])) (site a file (Some b))
-  me_resend_journal = site_taken (me_given a) (resend_given b) (journal_given file) (site a file (Some b)) (three _ _ _ _ x z y refl refl) refl site_is
+  me_resend_journal = site_taken (me_given a) (resend_given b) (journal_given file) (site a file (Some b))
+      (three _ _ _ _ x z y refl refl) refl site_is
 
   journal_me_resend : TakesAs (codes "site" ∷ spelled (journal_given file ∷ me_given a ∷ resend_given b ∷ [])) (site a file (Some b))
-  journal_me_resend = site_taken (journal_given file) (me_given a) (resend_given b) (site a file (Some b)) (three _ _ _ _ y x z refl refl) refl site_is
+  journal_me_resend = site_taken (journal_given file) (me_given a) (resend_given b) (site a file (Some b))
+      (three _ _ _ _ y x z refl refl) refl site_is
 
   journal_resend_me : TakesAs (codes "site" ∷ spelled (journal_given file ∷ resend_given b ∷ me_given a ∷ [])) (site a file (Some b))
-  journal_resend_me = site_taken (journal_given file) (resend_given b) (me_given a) (site a file (Some b)) (three _ _ _ _ y z x refl refl) refl site_is
+  journal_resend_me = site_taken (journal_given file) (resend_given b) (me_given a) (site a file (Some b))
+      (three _ _ _ _ y z x refl refl) refl site_is
 
   resend_me_journal : TakesAs (codes "site" ∷ spelled (resend_given b ∷ me_given a ∷ journal_given file ∷ [])) (site a file (Some b))
-  resend_me_journal = site_taken (resend_given b) (me_given a) (journal_given file) (site a file (Some b)) (three _ _ _ _ z x y refl refl) refl site_is
+  resend_me_journal = site_taken (resend_given b) (me_given a) (journal_given file) (site a file (Some b))
+      (three _ _ _ _ z x y refl refl) refl site_is
 
   resend_journal_me : TakesAs (codes "site" ∷ spelled (resend_given b ∷ journal_given file ∷ me_given a ∷ [])) (site a file (Some b))
-  resend_journal_me = site_taken (resend_given b) (journal_given file) (me_given a) (site a file (Some b)) (three _ _ _ _ z y x refl refl) refl site_is
+  resend_journal_me = site_taken (resend_given b) (journal_given file) (me_given a) (site a file (Some b))
+      (three _ _ _ _ z y x refl refl) refl site_is
 
 module _ (a : ℕ) (file : Text) (x : Fits (leaf site_line) (me_given a)) (y : Fits (leaf site_line) (journal_given file))
     (xr : numeral_value (without_minus (decimal a)) ≡ a) where
@@ -444,7 +463,8 @@ module _ (w a b d e file : Text) (k : ℕ) (first : w ≡ codes "site") (x : Fit
       (journal_me k file x y xr)
 
 -- seven words, or five
-seven : (P : List Text → Type 0) → ((w a b d e f g : Text) → P (w ∷ a ∷ b ∷ d ∷ e ∷ f ∷ g ∷ [])) → (words : List Text) → length words ≡ 7 → P words
+seven : (P : List Text → Type 0) → ((w a b d e f g : Text) → P (w ∷ a ∷ b ∷ d ∷ e ∷ f ∷ g ∷ [])) → (words : List Text)
+    → length words ≡ 7 → P words
 seven P h (w ∷ a ∷ b ∷ d ∷ e ∷ f ∷ g ∷ []) is = h w a b d e f g
 seven P h [] is = absurd (omega (arith, is))
 seven P h (w ∷ []) is = absurd (omega (arith, is))

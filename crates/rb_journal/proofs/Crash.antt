@@ -20,9 +20,11 @@ module _ (file : List ℕ) where
   behind_nothing : (rest : List ℕ) → recovered rest ≡ [] → recovered (text ++ rest) ≡ lines
   behind_nothing rest none = recovered-append file rest ∙ ap (λ (ls : List (List ℕ)). lines ++ ls) none ∙ append-nil lines
 
+  -- a file at rest is read as its lines
   pub recovered-at_rest : recovered (at_rest lines) ≡ lines
   recovered-at_rest = behind_nothing (32 ∷ []) refl
 
+  -- it is one byte, the gate, longer than they
   pub length-at_rest : length (at_rest lines) ≡ length text + 1
   length-at_rest = omega (arith, length-append text (32 ∷ []))
 
@@ -35,6 +37,7 @@ module _ (file : List ℕ) where
       ap recovered whole ∙ behind_nothing (32 ∷ drop (length text + 1) c)
       (closed 32 (drop (length text + 1) c) (λ is. absurd (omega arith)))
 
+  -- a file at rest is no longer than the lines and the gate
   pub shut_at_rest : take (length text + 1) (at_rest lines) ≡ at_rest lines
   shut_at_rest = take_all (length text + 1) (at_rest lines) (omega (arith, length-at_rest))
 
@@ -49,9 +52,11 @@ module _ (file : List ℕ) where
     abbrev staged : List ℕ
     staged = text ++ 32 ∷ (tail ++ 32 ∷ [])
 
+    -- the gate is inside the staged file
     pub length-staged : length text < length staged
     length-staged = omega (arith, length-append text (32 ∷ (tail ++ 32 ∷ [])))
 
+    -- it is the file at rest with the rest of the batch and a gate behind it
     pub staged_is : (at_rest lines ++ tail) ++ 32 ∷ [] ≡ staged
     staged_is = append_assoc (at_rest lines) tail (32 ∷ []) ∙ append_assoc text (32 ∷ []) (tail ++ 32 ∷ [])
 
@@ -87,6 +92,7 @@ module _ (file : List ℕ) where
         ∙ ap (λ (l : List ℕ). text ++ l) rest in
         subst (λ (f : List ℕ). (recovered f ≡ lines) ⊎ (recovered f ≡ lines ++ recovered batch)) (sym whole) (any_gate gate)
 
+    -- once the gate is opened the file is at rest with the batch
     pub written_gate : (c : List ℕ) → IsWritten staged (length text) (123 ∷ []) c → c ≡ at_rest (lines ++ recovered batch)
     written_gate c holds =
         let was : c ≡ text ++ (123 ∷ []) ++ (tail ++ 32 ∷ []) =
@@ -98,6 +104,7 @@ module _ (file : List ℕ) where
         was ∙ with_batch ∙ ap (λ (l : List ℕ). (text ++ l) ++ 32 ∷ []) (sym all)
         ∙ ap (λ (l : List ℕ). l ++ 32 ∷ []) (sym (concat-append lines (recovered batch)))
 
+    -- then it is read as the lines and the batch
     pub after_gate : recovered (at_rest (lines ++ recovered batch)) ≡ lines ++ recovered batch
     after_gate =
         ap (λ (l : List ℕ). recovered (l ++ 32 ∷ [])) (concat-append lines (recovered batch))
@@ -105,6 +112,7 @@ module _ (file : List ℕ) where
         ∙ recovered-append file (concat (recovered batch) ++ 32 ∷ []) ∙
         ap (λ (ls : List (List ℕ)). lines ++ ls) (recovered-append batch (32 ∷ []) ∙ append-nil (recovered batch))
 
+    -- and its lines are longer by the batch
     pub length-after : length (concat (lines ++ recovered batch)) ≡ length text + length batch
     length-after = ap length (concat-append lines (recovered batch)) ∙ length-append text (concat (recovered batch))
         ∙ ap (λ (l : List ℕ). length text + length l) all
@@ -121,9 +129,11 @@ module _ (file : List ℕ) where
       )) in
       ap recovered cut_end ∙ behind_nothing (take n (parts file).end) (front_nothing n (parts file).end (parts file).nothing)
 
+  -- a cut behind the lines leaves just them
   pub cut_done : take (length text) file ≡ text
   cut_done = ap (λ (l : List ℕ). take (length text) l) (parts file).split ∙ take_at text (parts file).end (length text) refl
 
+  -- the lines are no longer than the file
   pub fits : length text ≤ length file
   fits = omega (arith, ap length (parts file).split, length-append text (parts file).end)
 
@@ -139,5 +149,6 @@ module _ (file : List ℕ) where
         torn.no_longer,
       )))
 
+  -- the lines alone are read as the lines
   pub text_is : recovered text ≡ lines
   text_is = ap recovered (sym (append-nil text)) ∙ behind_nothing [] refl

@@ -20,5 +20,6 @@ read E G (Some t) None only none value fits =
 pub returns : goal.returns
 returns c =
     let same = one_text-rows (found_of c.args.given.now) c.args.name.now in
-    read _ (λ t x. ParsesUnsigned 32 10 t x × ExplainsUnsignedError 10 t x × HasUnsignedDigitsIfOk t x) (one_of c.args.name.now (rows_of (found_of c.args.given.now))) c.get_one.result (λ u x gives. gives.0)
+    read _ (λ t x. ParsesUnsigned 32 10 t x × ExplainsUnsignedError 10 t x × HasUnsignedDigitsIfOk t x)
+    (one_of c.args.name.now (rows_of (found_of c.args.given.now))) c.get_one.result (λ u x gives. gives.0)
     (λ none. c.get_one.ensures.none (same ∙ none)) (λ t some. c.get_one.ensures.value t (same ∙ some)) c.requires

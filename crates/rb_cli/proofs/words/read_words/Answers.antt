@@ -1,7 +1,8 @@
 -- What the command line reads the words as, and why it refuses them.
 use Rattle.std.proofs.Common.{◌≡◌, ◌∙◌, true, refl, ap, sym, subst, List, [], Option, Some, None, map, inl, inr, IfSome, option_map}
 use Rattle.std.proofs.lemmas.Result.{err_from_is_err_and}
-use Rattle.clap.specs.Words.{App, HasKind, HasMatchesOf, Row, Text, fault_of, is_simple, is_simple_and_free, kind_of, subcommand_of, subcommand_rows_of}
+use Rattle.clap.specs.Words.{App, HasKind, HasMatchesOf, Row, Text, fault_of, is_simple, is_simple_and_free, kind_of}
+use Rattle.clap.specs.Words.{subcommand_of, subcommand_rows_of}
 use Rattle.clap.specs.declared.error.Error.{Error}
 use Rattle.clap.specs.declared.error.kind.ErrorKind.TheVariants.{OutOfMemory}
 use Rattle.clap.specs.declared.parser.matches.ArgMatches.{ArgMatches}
@@ -35,13 +36,15 @@ taken_by app words is none =
     subst (λ (a : App). fault_of a words ≡ []) is (none (ap is_simple_and_free is ∙ is_known))
 
 -- what words are refused by
-kind_by : (app : App) (words : List Text) (e : Error) → app ≡ command_line → (is_simple_and_free app ≡ true → HasKind (fault_of app words) e)
+kind_by : (app : App) (words : List Text) (e : Error) → app ≡ command_line
+    → (is_simple_and_free app ≡ true → HasKind (fault_of app words) e)
     → HasKind (fault_of command_line words) e
 kind_by app words e is has =
     subst (λ (a : App). HasKind (fault_of a words) e) is (has (ap is_simple_and_free is ∙ is_known))
 
 -- only memory is left to fail
-by_memory : (words : List Text) (e : Error) → fault_of command_line words ≡ [] → HasKind (fault_of command_line words) e → kind_of e ≡ OutOfMemory
+by_memory : (words : List Text) (e : Error) → fault_of command_line words ≡ []
+    → HasKind (fault_of command_line words) e → kind_of e ≡ OutOfMemory
 by_memory words e none has = elim (subst (λ kinds. HasKind kinds e) none has) [
   | inl memory ↦ memory
   | inr never ↦ absurd never
