@@ -5,7 +5,7 @@ use Rattle.rb_run_audit.specs.Run.{AuditEndsAs}
 use Rattle.rb_capi.specs.declared.ending.Ending.{Ending}
 use Rattle.rb_capi.specs.Endings.{IsEndAtFault, IsHandedOver, IsInMemory}
 
--- an audit has the status 0 where it found an order, and 1 where it found that no world has the histories: that is one
+-- an audit has the status 0 if it found an order, and 1 if it found that no world has the histories: that is one
 -- line
 abbrev pub IsEndOfVerdict : Result Bool ScriptFault → Ending → Type 0
 IsEndOfVerdict (Ok true) e = e ≡ record { status = 0; number = 1 }

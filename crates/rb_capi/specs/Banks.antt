@@ -18,7 +18,7 @@ first_bank s = record { world = opened s; answer = [] }
 abbrev pub next_bank : SeenBank → WorldEvent → SeenBank
 next_bank b c = record { world = next_world b.world c; answer = line (next_reply b.world c) }
 
--- the text that is kept: the last answer's, and none where there is no bank
+-- the text that is kept: the last answer's, and none if there is no bank
 abbrev pub kept_answer : Option SeenBank → List ℕ
 kept_answer None = []
 kept_answer (Some b) = b.answer

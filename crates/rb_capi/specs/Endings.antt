@@ -5,7 +5,7 @@ use Rattle.rb_lines.specs.declared.fault.ScriptFault.TheVariants.{NoConfig, BadC
 use Rattle.rb_lines.specs.Messages.{status_of}
 use Rattle.rb_capi.specs.declared.ending.Ending.{Ending}
 
--- the number of the line that is wrong, or 0 where none is
+-- the number of the line that is wrong, or 0 if none is
 abbrev pub number_of_line : ScriptFault → ℕ
 number_of_line NoConfig = 0
 number_of_line (BadConfig n) = n
@@ -40,7 +40,7 @@ result_in_memory (Err Write) = Err OutOfMemory
 result_in_memory (Err OutOfMemory) = Err OutOfMemory
 result_in_memory (Err Gather) = Err Gather
 
--- the text that was written, or none where a read or a write failed
+-- the text that was written, or none if a read or a write failed
 abbrev pub text_in_memory : {A : Type 0} → Result A ScriptFault → List ℕ → List ℕ
 text_in_memory (Ok x) text = text
 text_in_memory (Err NoConfig) text = text
@@ -52,7 +52,7 @@ text_in_memory (Err Write) text = []
 text_in_memory (Err OutOfMemory) text = text
 text_in_memory (Err Gather) text = text
 
--- the run ended well, at a line that is wrong, or where memory ran out: no read and no write failed
+-- the run ended well, at a line that is wrong, or for want of memory: no read and no write failed
 pub record IsInMemory {A : Type 0} (r : Result A ScriptFault) : Type 0 where
   pub no_read : r ≢ Err Read
   pub no_write : r ≢ Err Write
@@ -64,7 +64,7 @@ abbrev pub buffer_with : List ℕ → List ℕ → List ℕ
 buffer_with text before = take (length before) text ++ drop (length text) before
 
 -- a run wrote this text and ended so, and C finds the text at the beginning of the buffer, how many bytes were written,
--- the number and the status of the run; where the buffer is too short for the whole text, the status of a failed write,
+-- the number and the status of the run; if the buffer is too short for the whole text, the status of a failed write,
 -- and how many bytes the text has
 pub record IsHandedOver (text : List ℕ) (e : Ending) (before after : List ℕ) (written number : ℕ) (status : ℤ) :
     Type 0 where

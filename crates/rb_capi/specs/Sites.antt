@@ -43,7 +43,7 @@ abbrev pub IsWrongEntry : SeenSite → List ℕ → Type 0
 IsWrongEntry t l = (x : Entry) × (entry_on t.settings l ≡ Some (t.me, x))
     × ((is_full t.settings (state_of t) ≡ true) ⊎ (x.reply ≢ reply_to t.settings (state_of t) x.event))
 
--- the texts that are kept: those of the last answer, and none where there is no site
+-- the texts that are kept: those of the last answer, and none if there is no site
 abbrev pub kept_text : Option SeenKept → List ℕ
 kept_text None = []
 kept_text (Some k) = k.answer

@@ -25,7 +25,7 @@ fn end_of_verdict(ran: Result<bool, ScriptFault>) -> Ending
 
 /// Audits histories, a configuration and entries, by one line.
 ///
-/// The result is 0 where that is an order that one world can have recorded them in, and 1 where no world has them, and
+/// The result is 0 if that is an order that one world can have recorded them in, and 1 if no world has them, and
 /// then `number` is 1; else as for a script, but nothing is written for a line that is wrong.
 #[unsafe(no_mangle)]
 pub extern "C" fn rbbank_audit(

@@ -83,7 +83,7 @@ impl Bank {
 
 /// Opens the bank of the configuration on a line, before any event. A bank that was kept there before is ended.
 ///
-/// Statuses: 0; 2 where the line is no configuration; 4 for want of memory. After 2 and 4 there is no bank.
+/// Statuses: 0; 2 if the line is no configuration; 4 for want of memory. After 2 and 4 there is no bank.
 #[unsafe(no_mangle)]
 pub extern "C" fn rbbank_open(alloc: Global, bank: &mut BankHandle, config: &[u8]) -> i32
     ensures opened { result ≡ pos 0 → (s : Settings) × (config_on config.now ≡ Some s)
@@ -109,7 +109,7 @@ pub extern "C" fn rbbank_open(alloc: Global, bank: &mut BankHandle, config: &[u8
 
 /// Gives the bank the command on a line, and keeps the line of its reply, with its line feed, as the answer.
 ///
-/// Statuses: 0; 1 where there is no bank; 2 where the line is no command, and then nothing has changed, the kept answer
+/// Statuses: 0; 1 if there is no bank; 2 if the line is no command, and then nothing has changed, the kept answer
 /// included; 4 for want of memory, which ends the bank.
 #[unsafe(no_mangle)]
 pub extern "C" fn rbbank_answer(alloc: Global, bank: &mut BankHandle, line: &[u8]) -> i32
@@ -139,7 +139,7 @@ pub extern "C" fn rbbank_answer(alloc: Global, bank: &mut BankHandle, line: &[u8
 }
 
 /// Copies the kept answer from its byte `from` (0 is the first) on, as much of it as fits: how many bytes these were.
-/// No byte was where there is no bank, nothing was answered, or `from` is at the answer's end or behind it.
+/// There is none to copy if there is no bank, nothing was answered, or `from` is at the answer's end or behind it.
 #[unsafe(no_mangle)]
 pub extern "C" fn rbbank_reply(
     alloc: Global,

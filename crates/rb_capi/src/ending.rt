@@ -1,4 +1,5 @@
-//! How a run in memory ends, and what C finds then.
+//! How a run in memory ends, and what C finds then. The run's text is kept until the end and then copied, since no
+//! contract of a run says that what is behind its text stays as it was.
 ghost use Rattle.std.specs.Prelude.{◌≡◌};
 ghost use Rattle.rb_capi.specs.Endings.{IsEndAtFault, IsEndOfLines, IsHandedOver};
 ghost use Rattle.rb_capi.specs.Endings.{number_of_line, result_in_memory, text_in_memory};
@@ -27,7 +28,7 @@ pub fn in_memory<T: Drop>(ran: Result<T, ScriptFault>, text: &mut Vec<u8>) -> Re
     }
 }
 
-/// The number of the line that is wrong, or 0 where none is.
+/// The number of the line that is wrong, or 0 if none is.
 fn wrong_line(fault: ScriptFault) -> u64
     ensures { result ≡ number_of_line fault }
 {
@@ -63,7 +64,7 @@ pub fn end_of_lines(ran: Result<u64, ScriptFault>) -> Ending
 }
 
 /// Puts the text at the beginning of `out`, as much of it as there is capacity for: `written` is how many bytes these
-/// are. Where that is the whole text, the result is the run's status, and the number the run's. Else it is the status
+/// are. If that is the whole text, the result is the run's status, and the number the run's. Else it is the status
 /// of a failed write, and the number is how many bytes the text has.
 pub fn hand_over(
     text: &[u8],

@@ -72,7 +72,7 @@ impl KeptSite {
 
     /// Answers the line of an event, and keeps the answer's line and the lines of its entries.
     ///
-    /// Errors: `BadLine` where the line is no event, and nothing has changed then; `OutOfMemory`.
+    /// Errors: `BadLine` if the line is no event, and nothing has changed then; `OutOfMemory`.
     pub fn answer_line(&mut self, line: &[u8]) -> Result<(), NodeFault>
         ensures answered { OnOk result (AnswersEventLine self.old self.new line.now) }
         ensures bad { result ≡ Err NodeFault.BadLine
@@ -89,7 +89,7 @@ impl KeptSite {
 
     /// Replays the line of the site's next entry, and keeps the line of what the entry sent, for it to be sent again.
     ///
-    /// Errors: `BadLine` where the line is no entry of this site, and nothing has changed then; `WrongReply` where the
+    /// Errors: `BadLine` if the line is no entry of this site, and nothing has changed then; `WrongReply` if the
     /// site gives another reply, or its history is full; `OutOfMemory`.
     pub fn replay_line(&mut self, line: &[u8]) -> Result<(), NodeFault>
         ensures replayed { OnOk result (ReplaysEntryLine self.old self.new line.now) }

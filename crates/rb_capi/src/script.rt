@@ -9,8 +9,8 @@ use std::alloc::Global;
 /// Answers a script, a configuration and commands, by a line for each command.
 ///
 /// The result is 0, and `number` how many replies there are; 2 for a line that is wrong, after the replies before it,
-/// and `number` is that of the line, from 1, or 0 where there is no configuration; 4 for want of memory. The text is at
-/// the beginning of `out`, in `written` bytes. Where `out` is too short for it, it gets as much as it has capacity for,
+/// and `number` is that of the line, from 1, or 0 if there is no configuration; 4 for want of memory. The text is at
+/// the beginning of `out`, in `written` bytes. If `out` is too short for it, it gets as much as it has capacity for,
 /// the result is 3, and `number` is how many bytes the text has.
 #[unsafe(no_mangle)]
 pub extern "C" fn rbbank_script(

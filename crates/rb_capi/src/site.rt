@@ -16,7 +16,7 @@ use std::alloc::Global;
 /// Opens the site `me` (0 to 15) of the configuration on a line, before any event. A site that was kept there before is
 /// ended. The kept entries are the line of the configuration, with its line feed: the first of the site's journal.
 ///
-/// Statuses: 0; 2 where the line is no configuration; 3 where it has no such site; 4 for want of memory. After 2, 3 and
+/// Statuses: 0; 2 if the line is no configuration; 3 if it has no such site; 4 for want of memory. After 2, 3 and
 /// 4 there is no site.
 #[unsafe(no_mangle)]
 pub extern "C" fn rbbank_site_open(
@@ -51,7 +51,7 @@ pub extern "C" fn rbbank_site_open(
 /// Answers the line of an event, and keeps the answer's line, with its line feed, and the lines of the entries that the
 /// site recorded: these belong into its journal before anyone sees the answer.
 ///
-/// Statuses: 0; 1 where there is no site; 2 where the line is no event, and then nothing has changed, the kept texts
+/// Statuses: 0; 1 if there is no site; 2 if the line is no event, and then nothing has changed, the kept texts
 /// included; 4 for want of memory, which ends the site.
 #[unsafe(no_mangle)]
 pub extern "C" fn rbbank_site_answer(alloc: Global, site: &mut SiteHandle, line: &[u8]) -> i32
@@ -82,10 +82,10 @@ pub extern "C" fn rbbank_site_answer(alloc: Global, site: &mut SiteHandle, line:
 
 /// Replays the line of the site's next entry, as a restart does with each line of the journal behind the first. The
 /// kept answer is then the line `{"sends":[..]}` of what the entry sent, with its line feed, to be sent again, or empty
-/// where it sent nothing; and there are no kept entries.
+/// if it sent nothing; and there are no kept entries.
 ///
-/// Statuses: 0; 1 where there is no site; 2 where the line is no entry of this site, and then nothing has changed; 3
-/// where the site gives another reply than the entry has, or its history is full, and 4 for want of memory, each of
+/// Statuses: 0; 1 if there is no site; 2 if the line is no entry of this site, and then nothing has changed; 3
+/// if the site gives another reply than the entry has, or its history is full, and 4 for want of memory, each of
 /// which ends the site.
 #[unsafe(no_mangle)]
 pub extern "C" fn rbbank_site_replay(alloc: Global, site: &mut SiteHandle, line: &[u8]) -> i32
@@ -119,7 +119,7 @@ pub extern "C" fn rbbank_site_replay(alloc: Global, site: &mut SiteHandle, line:
 }
 
 /// Copies the kept answer from its byte `from` (0 is the first) on, as much of it as fits: how many bytes these were.
-/// No byte was where there is no site, nothing was answered, or `from` is at the answer's end or behind it.
+/// There is none to copy if there is no site, nothing was answered, or `from` is at the answer's end or behind it.
 #[unsafe(no_mangle)]
 pub extern "C" fn rbbank_site_reply(
     alloc: Global,

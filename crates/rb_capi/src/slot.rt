@@ -11,7 +11,7 @@ use std::alloc::Global;
 use std::marker::Model;
 use std::ptr::null_mut;
 
-/// A box that C may keep, or nothing. All its bytes are zero where there is nothing.
+/// A box that C may keep, or nothing. All its bytes are zero if there is nothing.
 #[repr(C)]
 pub struct Slot<T> {
     pub at: *mut T,

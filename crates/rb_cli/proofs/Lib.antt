@@ -1,6 +1,6 @@
 mod Added
-mod Given
+mod GivenOptions
 mod Options
 mod Passing
 mod Reading
-mod Usual
+mod UsualWords

@@ -116,7 +116,7 @@ as_asked (Site me journal resend) = site me journal.now resend
 abbrev pub numeral_value : Text → ℕ
 numeral_value text = digits_value 10 (without_leading_plus text)
 
--- the number of the option with this name, where it is given
+-- the number of the option with this name, if it is given
 abbrev pub number_at : Text → List Row → Option ℕ
 number_at name rows = option_map numeral_value (one_of name rows)
 
@@ -152,7 +152,7 @@ words_of_matches (Some met) = words_of_command met.0 met.1
 abbrev pub AreReadAs : List Text → Words → Type 0
 AreReadAs words asked = words_of_matches (subcommand_of command_line words) ≡ Some (as_asked asked)
 
--- where words in their usual spelling ask for something, it is this
+-- if words in their usual spelling ask for something, it is this
 abbrev pub IsAsUsual : List Text → Words → Type 0
 IsAsUsual words asked = (usual : Words) → Ask words usual → as_asked asked ≡ as_asked usual
 
@@ -169,7 +169,7 @@ IsInRange _ = Unit {0}
 abbrev pub IsNumberWithin : ℕ → ℕ → Text → Type 0
 IsNumberWithin least most text = IsNumeral 10 (without_leading_plus text) × (least ≤ numeral_value text) × (numeral_value text ≤ most)
 
--- the option, where it is given, is such a number
+-- the option, if it is given, is such a number
 abbrev pub FitsWithin : ℕ → ℕ → Text → List Row → Type 0
 FitsWithin least most name rows = IfSome (one_of name rows) (IsNumberWithin least most)
 

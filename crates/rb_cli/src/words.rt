@@ -37,7 +37,7 @@ pub enum Words<'a> {
     },
 }
 
-/// The number of an option, where it is given.
+/// The number of an option, if it is given.
 fn number(given: &ArgMatches, name: &str) -> Option<u32>
     requires { FitsWithin 0 4294967295 name.now (rows_of (found_of given.now)) }
     ensures { result ≡ number_at name.now (rows_of (found_of given.now)) }
@@ -98,7 +98,7 @@ pub fn read_words<'a>(alloc: Global, words: &'a [&'a str]) -> Result<Words<'a>, 
     ensures ok { IfOk result (AreReadAs (map (λ word. word.now) words.entry.now)) }
     ensures ranges { IfOk result (λ asked. IsInRange (as_asked asked)) }
     // Ok comes only for words that the command line takes, and an error's kind is what is wrong with the words, or out
-    // of memory: help and the version only where they ask for it.
+    // of memory: help and the version only if they ask for it.
     ensures kinds { FailsBy (fault_of line (map (λ word. word.now) words.entry.now)) result }
     // Words that ask for something, each option's name and value in a word of its own, are read as that, and refused
     // for want of memory alone.

@@ -55,7 +55,7 @@ pub fn reports_the_durable()
 {}
 
 /// Steps of single sites, each of which may happen at its site alone, lead from world to world in whatever order they
-/// are taken: where each message that is delivered was reported before by some site. So what a run of one site says of
+/// are taken, if each message that is delivered was reported before by some site. So what a run of one site says of
 /// its own steps is enough for the laws of the worlds that such runs make up.
 pub fn interleaved_steps_lead()
     ensures { InterleavedStepsLead }
@@ -67,13 +67,13 @@ pub fn crash_forgets_the_reported()
     ensures { ForgetsTheReported }
 {}
 
-/// Crashes do take events away: where histories may have two entries, some crash takes one from a site that has
+/// Crashes do take events away: if histories may have two entries, some crash takes one from a site that has
 /// reported another.
 pub fn crashes_lose_events()
     ensures { CrashesLoseEvents }
 {}
 
-/// Where two sites may pass the token, a site that restarts from fewer events than it reported can leave histories that
+/// If two sites may pass the token, a site that restarts from fewer events than it reported can leave histories that
 /// are no world's: `crashes_are_invisible` rests on that bound too.
 pub fn deeper_crash_shows()
     ensures { DeeperCrashesShow }

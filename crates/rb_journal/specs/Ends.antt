@@ -54,7 +54,7 @@ EndsAs answers start turns first input left (Err Write) = ⊥
 EndsAs answers start turns first input left (Err Journal) = ⊥
 EndsAs answers start turns first input left (Err OutOfMemory) = ⊥
 
--- the run ends where nothing has failed but a line or a read: the journal is at rest
+-- the run ends at rest: nothing has failed but a line or a read
 abbrev pub EndsAtRest : {T : Type 0} → Result T ServeFault → Type 0
 EndsAtRest (Ok n) = Unit {0}
 EndsAtRest (Err (BadLine k)) = Unit {0}

@@ -54,14 +54,14 @@ pub record LeavesOnly {H : Type 0} (moment : H → ℕ) (left_since : H → ℕ 
   -- for a run that began earlier
   pub before : (t : ℕ) (c d : List ℕ) → t ≤ moment old → left_since new t c d → left_since old t c d ⊎ P c d
 
--- `DiskFailed` is answered only where the file has failed since, and the other errors aren't
+-- `DiskFailed` is answered only if the file has failed since, and the other errors aren't
 pub record DiskCause {T : Type 0} (before now : ℕ) (result : Result T HostError) : Type 0 where
   pub later : before ≤ now
   pub failed : IsErrOf result DiskFailed → before < now
   pub not_output : IsErrOf result OutputFailed → ⊥
   pub not_full : IsErrOf result Full → ⊥
 
--- `OutputFailed` is answered only where the output has failed since, and the other errors aren't
+-- `OutputFailed` is answered only if the output has failed since, and the other errors aren't
 pub record OutputCause {T : Type 0} (before now : ℕ) (result : Result T HostError) : Type 0 where
   pub later : before ≤ now
   pub output_failed : IsErrOf result OutputFailed → before < now

@@ -5,7 +5,7 @@ use Rattle.rb_journal.specs.Host.{AddsPrefix}
 use Rattle.rb_journal.specs.Lines.{recovered}
 use Rattle.rb_journal.specs.Turns.{Answers, AreTurns, Turn, lines_added, lines_answered, not_blank, texts}
 
--- what was read and not yet answered, and then what is still to be read, where that is known
+-- what was read and not yet answered, and then what is still to be read, if that is known
 abbrev pub served_input : List ℕ → Option (List ℕ) → Option (List ℕ)
 served_input pending None = None
 served_input pending (Some rest) = Some (pending ++ rest)

@@ -100,7 +100,7 @@ pub(crate) fn synced(log: &mut Record, ok: bool) -> Result<(), HostError>
     }
 }
 
-/// The first `count` of these bytes were put out; none, where the output failed.
+/// The first `count` of these bytes were put out; none, if the output failed.
 pub(crate) fn output(
     log: &mut Record,
     bytes: &[u8],

@@ -23,7 +23,7 @@ pub struct Disk<P> {
 }
 
 /// Opens a file, or makes it, in this folder, locks it against other processes, and reads its bytes.
-/// What an earlier process wrote is on the disk before it is read. The error is `WouldBlock` where another
+/// What an earlier process wrote is on the disk before it is read. The error is `WouldBlock` if another
 /// process has the file, else the system's.
 pub fn open_disk<R: Files<File = fs::File> + AllocGlobal, P: Print + Drop>(
     rt: &R,

@@ -1,4 +1,5 @@
-//! The lines that one read brought: answered, committed together, and then their answers put out.
+//! The lines that one read brought share one commit, since that costs two syncs, however many lines there are: they
+//! are answered, committed together, and then their answers are put out.
 ghost use Rattle.std.specs.Prelude.{◌≡◌, ◌+◌, ◌^◌, ◌<◌, ◌≤◌, ◌⊎◌, ◌++◌, List, ℕ, [], true, Some, Err, length};
 ghost use Rattle.rb_journal.specs.Host.{LeavesOnly};
 ghost use Rattle.rb_journal.specs.Lines.{recovered};

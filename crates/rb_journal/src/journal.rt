@@ -10,7 +10,7 @@ ghost use Rattle.rb_journal.specs.Journal.{IsSettled, IsLeftAs, IsBeforeOrAfter,
 
 use crate::{Host, HostError};
 
-/// A batch is added only where the lines before it, and the batch without its first byte, are each shorter than this,
+/// A batch is added only if the lines before it, and the batch without its first byte, are each shorter than this,
 /// in bytes.
 const MAX_LEN: usize = 1 << 60;
 
@@ -54,7 +54,7 @@ impl<H: Host> Journal<H> {
         }
     }
 
-    /// Adds a batch of lines, with two syncs, whatever its size, and none where it is empty.
+    /// Adds a batch of lines, with two syncs, whatever its size, and none if it is empty.
     /// At `Ok` all of it is on the disk: from then on each crash leaves a file that has it. At `Err`, open the file
     /// again.
     pub fn append(&mut self, batch: &[u8]) -> Result<(), HostError>
@@ -103,7 +103,7 @@ impl<H: Host> Journal<H> {
         ensures any_moment { LeavesOnly H.moment H.left_since self.old.host self.new.host
             (IsDurable (recovered (H.content self.old.host)) (recovered batch.now) (H.output self.old.host) reply.now) }
 
-        // It doesn't give up by itself. Where the output fails, the batch is on the disk all the same.
+        // It doesn't give up by itself. If the output fails, the batch is on the disk all the same.
         ensures later { H.faults self.old.host ≤ H.faults self.new.host }
         ensures failed { IsErrOf result HostError.DiskFailed → H.faults self.old.host < H.faults self.new.host }
         ensures output_failed { IsErrOf result HostError.OutputFailed →

@@ -1,4 +1,5 @@
-//! All lines of a reader.
+//! All lines of a reader. Those that one read brings are answered and committed before the next read, so that nothing
+//! that was read waits for more input.
 ghost use Rattle.std.specs.Prelude.{◌≡◌, ◌+◌, ◌^◌, ◌<◌, ◌≤◌, ◌⊎◌, List, [], true, Err, length};
 ghost use Rattle.std.specs.Io.KnownBytes.{IsAtEnd};
 ghost use Rattle.rb_journal.specs.Host.{LeavesOnly};
@@ -41,7 +42,7 @@ pub fn serve<R: JournaledResponder, H: Host, S: Source>(
     requires buffered { buffers.old.buffered.items ≡ [] }
     requires number { number + length buffers.old.pending < 2 ^ 63 }
 
-    // Where nothing has failed but a line or a read, the journal is at rest, and the responder is the run of its lines.
+    // If nothing has failed but a line or a read, the journal is at rest, and the responder is the run of its lines.
     ensures settled { EndsAtRest result → IsSettled H.is_usable H.content H.may_leave journal.new }
     ensures same { EndsAtRest result → R.lines (R.state responder.new) ≡ recovered (H.content journal.new.host) }
 

@@ -36,7 +36,7 @@ fn next_waiting(buffers: &mut Buffers) -> Waiting
     Waiting::Nothing
 }
 
-/// Answers the line at the front, of this number of bytes, or skips it where it is blank.
+/// Answers the line at the front, of this number of bytes, or skips it if it is blank.
 fn answer_next<R: JournaledResponder>(
     responder: &mut R,
     buffers: &mut Buffers,

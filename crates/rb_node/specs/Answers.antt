@@ -49,7 +49,7 @@ answer_json s reply sent later = object
     (member (codes "sends") (messages_json s sent)
     (member (codes "then") (list_json reply_json later) no_members)))
 
--- the line of what is sent again; there is none where nothing was sent
+-- the line of what is sent again; there is none if nothing was sent
 abbrev pub sent_line : Settings → List Message → List ℕ
 sent_line s [] = []
 sent_line s (m ∷ ms) = line_of (one_json (codes "sends") (messages_json s (m ∷ ms)))

@@ -1,9 +1,9 @@
 //! One site by lines: its configuration's line in, then the line of each event, and a line out for each; and the lines
 //! of its history, which the caller keeps where it keeps its data.
-//! Tests: the rows of a site in examples/, tests/sites.py and tests/crash.py.
+//! Tests: tests/sites.py, tests/crash.py; examples/check.py runs the rows of a site.
 #![tactic(auto)]
 
-mod answer;
+mod event_line;
 mod fault;
 mod node;
 mod replay;
@@ -16,7 +16,7 @@ pub use node::Node;
 
 /// The line of a configuration and that of each entry are lines of a journal: each begins with `{` and has no line feed
 /// in it.
-pub fn lines_are_lines()
+pub fn lines_are_journal_lines()
     ensures configs { ConfigsAreJournalLines }
     ensures entries { EntriesAreJournalLines }
 {

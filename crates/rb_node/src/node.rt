@@ -54,7 +54,7 @@ fn config_of(alloc: Global, line: &[u8]) -> Result<Config, LineFault>
 impl Node {
     /// The site `me` (0 to 15) of the configuration on a line, before any event.
     ///
-    /// Errors: `BadConfig` where the line is none; `NoSite` where it has no such site; `OutOfMemory`.
+    /// Errors: `BadConfig` if the line is none; `NoSite` if it has no such site; `OutOfMemory`.
     pub fn open(alloc: Global, line: &[u8], me: u8) -> Result<Node, NodeFault>
         ensures opened { IfOk result (λ node. (s : Settings) × (config_on line.now ≡ Some s) × (me < s.sites)
             × (node.site ≡ first_seen s me)) }

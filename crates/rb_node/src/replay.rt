@@ -1,4 +1,5 @@
-//! The line of an entry, replayed.
+//! The line of an entry, replayed. A journal's line is taken only as the site writes it: it is written once more and
+//! compared, so that what is replayed and what the file has can't differ.
 ghost use Rattle.std.specs.Prelude.{◌≡◌, ◌≢◌, ◌++◌, ◌⊎◌, Some, None, true, length, take, Err, IfErr, OnOk, OnErr};
 ghost use Rattle.std.specs.Prelude.{MatchResult};
 ghost use Rattle.rb_site.specs.declared.entry.Entry.{Entry as EntryOf};
@@ -11,7 +12,7 @@ ghost use Rattle.rb_node.specs.Answers.{sent_line};
 ghost use Rattle.rb_node.specs.Faults.{IsEntryFault};
 ghost use Rattle.rb_node.specs.Replays.{IsReadBack, IsReplayedAs};
 
-use crate::answer::append_messages;
+use crate::event_line::append_messages;
 use crate::{Node, NodeFault};
 use rb_history::write::append::append;
 use rb_history::{LineFault, append_line, read_line};
@@ -20,7 +21,7 @@ use rb_money::{Config, Refusal};
 use rb_site::{Entry, Message, Reply};
 use std::alloc::AllocError;
 
-/// The messages as a line, where there are any.
+/// The messages as a line, if there are any.
 fn append_sends(out: &mut Vec<u8>, config: &Config, messages: &[Message]) -> Result<(), AllocError>
     ensures { Adds result out.old.items out.new.items (sent_line config.now messages.now) }
 {
@@ -54,7 +55,7 @@ impl Node {
     /// The next entry of the site's history, from its line. What the entry sent stays to be sent again by
     /// `append_sent`.
     ///
-    /// Errors: `BadLine` where the line is no entry of this site; `WrongReply` where the site gives another reply, or
+    /// Errors: `BadLine` if the line is no entry of this site; `WrongReply` if the site gives another reply, or
     /// its history is full; `OutOfMemory`. After the last two nothing more may be asked of the site.
     pub fn replay(&mut self, line: &[u8]) -> Result<(), NodeFault>
         ensures replayed { OnOk result ((x : EntryOf) × (entry_on self.old.site.settings line.now
@@ -90,7 +91,7 @@ impl Node {
         self.replay_spelled(line, &entry)
     }
 
-    /// The entry on a line, where the line is exactly what is written for it: any other is `BadLine`.
+    /// The entry on a line, if the line is exactly what is written for it: any other is `BadLine`.
     fn replay_spelled(&mut self, line: &[u8], entry: &Entry) -> Result<(), NodeFault>
         ensures replayed { OnOk result ((line.now
             ≡ compact_text (entry_json self.old.site.settings self.old.site.me entry.now))
@@ -111,7 +112,7 @@ impl Node {
         self.replay_entry(entry)
     }
 
-    /// An entry of this site is its next one, where the site gives the reply that it has.
+    /// An entry of this site is its next one, if the site gives the reply that it has.
     fn replay_entry(&mut self, entry: &Entry) -> Result<(), NodeFault>
         ensures replayed { OnOk result (IsReplayedAs self.old.site self.new entry.now) }
         ensures wrong { result ≡ Err NodeFault.WrongReply
@@ -131,7 +132,7 @@ impl Node {
         Ok(())
     }
 
-    /// Adds the line `{"sends":[M..]}` of what the last entry sent, with its line feed; nothing where it sent nothing.
+    /// Adds the line `{"sends":[M..]}` of what the last entry sent, with its line feed; nothing if it sent nothing.
     /// An `Err` means out of memory, and adds nothing.
     pub fn append_sent(&self, out: &mut Vec<u8>) -> Result<(), AllocError>
         ensures ok { OnOk result (out.new.items ≡ out.old.items ++ sent_line self.now.site.settings self.now.sent) }

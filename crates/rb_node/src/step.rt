@@ -15,7 +15,7 @@ use rb_site::{Entry, Event, Reply};
 use std::alloc::AllocError;
 
 /// The line of an entry of a site, with its line feed.
-fn append_entry(
+fn append_entry_line(
     out: &mut Vec<u8>,
     config: &Config,
     site: u8,
@@ -45,12 +45,12 @@ impl Node {
         let mut reply = Reply::Refused(Refusal::HistoryFull);
         self.site.answer(&event, &mut self.sent, &mut reply)?;
         let entry = Entry { event, reply };
-        append_entry(entries, &self.config, self.site.me(), &entry)?;
+        append_entry_line(entries, &self.config, self.site.me(), &entry)?;
         let Entry { event: _, reply } = entry;
         Ok(reply)
     }
 
-    /// One event, and its reply: where the history is full it is refused (23), and there is no entry.
+    /// One event, and its reply: if the history is full it is refused (23), and there is no entry.
     pub(crate) fn step(&mut self, event: Event, entries: &mut Vec<u8>) -> Result<Reply, AllocError>
         ensures stepped { MatchResult result
             (λ reply. Steps self.old.site self.new.site event reply entries.old.items entries.new.items

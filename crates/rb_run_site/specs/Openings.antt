@@ -16,7 +16,7 @@ use Rattle.rb_run_site.specs.declared.fault.SiteFault.TheVariants.{NoConfig, Bad
 use Rattle.rb_run_site.specs.declared.fault.SiteFault.TheVariants.{LongLine, Read, OutOfMemory}
 use Rattle.rb_run_site.specs.Starts.{IsJournalOf, IsOf, sent_again}
 
--- the line that a journal is still to begin with: the configuration's, where it has no line
+-- the line that a journal is still to begin with: the configuration's, if it has no line
 abbrev pub IsToBegin : List (List ℕ) → SeenSite → List ℕ → Type 0
 IsToBegin lines x first = ((lines ≡ []) × (first ≡ journal_head x.settings)) ⊎ ((lines ≡ journal_of x) × (first ≡ []))
 

@@ -52,7 +52,7 @@ pub record IsSplit (lines line later : List ℕ) : Type 0 where
   pub batch : IsBatch later
   pub shorter : length later < length lines
 
--- the line of an entry was read as the entry, which was replayed; what it sent is added, where it is sent again
+-- the line of an entry was read as the entry, which was replayed; what it sent is added, if it is sent again
 pub record ReplaysLine (old : SeenSite) (new : SeenNode) (line : List ℕ) (again : Bool) (sends sends_after : List ℕ) : Type 0 where
   pub entry : Entry
   pub line_is : line ≡ compact_text (entry_json old.settings old.me entry)

@@ -7,10 +7,10 @@ ghost use Rattle.rb_run_site.specs.declared.fault.SiteFault.TheVariants.{Another
 use crate::fault::SiteFault;
 use rb_journal::end_of_lines;
 
-/// The lines that a file has behind the line `first`, which has its line feed; `None` where the file is new: it has no
+/// The lines that a file has behind the line `first`, which has its line feed; `None` if the file is new: it has no
 /// whole line, and is empty or begins with a closed gate.
 ///
-/// Errors: `AnotherJournal` where it is neither.
+/// Errors: `AnotherJournal` if it is neither.
 pub fn entries_in<'a>(bytes: &'a [u8], first: &[u8]) -> Result<Option<&'a [u8]>, SiteFault>
     requires { (line : List ℕ) × IsLine line × (first.now ≡ line ++ 10 ∷ []) }
     ensures { MatchResult result

@@ -96,8 +96,8 @@ pub fn site_message(alloc: Global, fault: SiteFault) -> Result<String, AllocErro
     format!(in alloc; "rbbank: {fault}")
 }
 
-/// A program's exit status: 2 where the input or the journal is wrong, 3 where a read, a write or the disk failed, 4
-/// where memory ran out.
+/// A program's exit status: 2 if the input or the journal is wrong, 3 if a read, a write or the disk failed, 4
+/// if memory ran out.
 pub fn site_status(fault: SiteFault) -> u8
     ensures { result ≡ site_status_of fault }
 {

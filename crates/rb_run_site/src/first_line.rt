@@ -12,7 +12,7 @@ use crate::fault::SiteFault;
 use rb_lines::{Buffers, NoLine, Sink, Source, is_blank};
 
 /// Brings the first line that isn't blank to the front of what was read: how long it is, without its line feed, and
-/// its number, from 1. Nothing is buffered for the writer, so nothing is written. `NoConfig` where there is no such
+/// its number, from 1. Nothing is buffered for the writer, so nothing is written. `NoConfig` if there is no such
 /// line.
 pub fn first_line<S: Source, W: Sink>(
     buffers: &mut Buffers,

@@ -1,4 +1,5 @@
-//! A site that is opened: its configuration read, its journal looked at and replayed. Nothing of the file is changed.
+//! A site is opened before anything of its file changes: its configuration is read, and the journal's entries are
+//! replayed. So a file with a bad line or a wrong reply stays as it was.
 ghost use Rattle.std.specs.Prelude.{◌≡◌, ◌+◌, ◌⊎◌, ◌<◌, ◌^◌, ◌≤◌, [], List, ℕ, true, false, length, Err, IfErr, IfOk};
 ghost use Rattle.std.specs.Prelude.{IfSome};
 ghost use Rattle.std.specs.Prelude.{MatchResult};
@@ -27,7 +28,7 @@ use std::alloc::Global;
 /// A site before its first event line.
 pub struct Opened {
     pub responder: SiteResponder,
-    /// The configuration's line with its line feed, where the journal doesn't have it yet; else nothing.
+    /// The configuration's line with its line feed, if the journal doesn't have it yet; else nothing.
     pub first: Vec<u8>,
     /// The lines of what is sent again.
     pub sends: Vec<u8>,

@@ -1,4 +1,5 @@
-//! The entries of a journal, replayed.
+//! The entries of a journal, replayed. Their lines are counted first: what the last of them sent is to be sent again,
+//! and the count says which these are.
 ghost use Rattle.std.specs.Prelude.{◌≡◌, ◌==◌, [], length, position, MatchOption, MatchResult};
 ghost use Rattle.rb_journal.specs.Lines.{IsBatch, recovered};
 ghost use Rattle.rb_run_site.specs.Replays.{EndsReplay, IsSplit, ReplaysLine, ReplaysLines, StopsAtLine};
@@ -13,7 +14,7 @@ fn first_feed(lines: &[u8]) -> Option<usize>
     lines.iter().position(|b| *b == b'\n')
 }
 
-/// The first line, without its line feed, and the lines behind it; `None` where there is none.
+/// The first line, without its line feed, and the lines behind it; `None` if there is none.
 fn split_line(lines: &[u8]) -> Option<(&[u8], &[u8])>
     requires { IsBatch lines.now }
     ensures { MatchOption result (recovered lines.now ≡ []) (λ split. IsSplit lines.now split.0.now split.1.now) }
@@ -38,7 +39,7 @@ pub fn count_lines(lines: &[u8]) -> usize
     count
 }
 
-/// Replays one line of a journal, without its line feed. What its entry sent is added to `sends` where that is asked
+/// Replays one line of a journal, without its line feed. What its entry sent is added to `sends` if that is asked
 /// for.
 fn replay_one(
     node: &mut Node,

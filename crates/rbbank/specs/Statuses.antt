@@ -12,7 +12,7 @@ use Rattle.rb_run_site.specs.Faults.{site_status_of}
 use Rattle.rbbank.specs.declared.on_streams.Streamed.{Streamed}
 use Rattle.rbbank.specs.declared.on_streams.Streamed.TheVariants.{Script, Audit, Migrate, Threads, SiteAsked}
 
--- the status where the words can't be read
+-- the status if the words can't be read
 abbrev pub status_of_unread : IoErrorKind → ℕ
 status_of_unread IoOutOfMemory = 4
 status_of_unread _ = 2
@@ -22,7 +22,7 @@ status_of_unread _ = 2
 abbrev pub IsReportedStatus : ℕ → ℕ → Type 0
 IsReportedStatus status n = (n ≡ status) ⊎ (n ≡ 4)
 
--- the status where the words ask for nothing, by the kind of their error: 4 where memory ran out; for help and the
+-- the status if the words ask for nothing, by the kind of their error: 4 if memory ran out; for help and the
 -- version 0, or that of a write that failed, or 4; 2 for any other
 abbrev pub IsEndOfWords : ErrorKind → ℕ → Type 0
 IsEndOfWords NoMemory n = n ≡ 4
@@ -30,24 +30,24 @@ IsEndOfWords DisplayHelp n = (n ≡ 0) ⊎ IsReportedStatus (status_of Write) n
 IsEndOfWords DisplayVersion n = (n ≡ 0) ⊎ IsReportedStatus (status_of Write) n
 IsEndOfWords _ n = n ≡ 2
 
--- a script, or a migration, ends in 0 where it was answered whole, else in its fault's status or 4
+-- a script, or a migration, ends in 0 if it was answered whole, else in its fault's status or 4
 abbrev pub IsEndOfScript : Result ℕ ScriptFault → ℕ → Type 0
 IsEndOfScript (Ok count) n = n ≡ 0
 IsEndOfScript (Err fault) n = IsReportedStatus (status_of fault) n
 
--- an audit ends in 0 where it found an order, in 1 where it found that no world has the histories, else in its fault's
+-- an audit ends in 0 if it found an order, in 1 if it found that no world has the histories, else in its fault's
 -- status or 4
 abbrev pub IsEndOfAudit : Result Bool ScriptFault → ℕ → Type 0
 IsEndOfAudit (Ok true) n = n ≡ 0
 IsEndOfAudit (Ok false) n = n ≡ 1
 IsEndOfAudit (Err fault) n = IsReportedStatus (status_of fault) n
 
--- a run of threads ends in 0 where its histories were written, else in its fault's status or 4
+-- a run of threads ends in 0 if its histories were written, else in its fault's status or 4
 abbrev pub IsEndOfThreads : Result Unit ScriptFault → ℕ → Type 0
 IsEndOfThreads (Ok u) n = n ≡ 0
 IsEndOfThreads (Err fault) n = IsReportedStatus (status_of fault) n
 
--- a site ends in 0 where its lines were all answered, else in its fault's status or 4
+-- a site ends in 0 if its lines were all answered, else in its fault's status or 4
 abbrev pub IsEndOfSite : Result ℕ SiteFault → ℕ → Type 0
 IsEndOfSite (Ok count) n = n ≡ 0
 IsEndOfSite (Err fault) n = IsReportedStatus (site_status_of fault) n

@@ -26,13 +26,13 @@ use std::sync::Wait;
 use std::thread::Threads;
 use std::{env, io};
 
-/// The status where histories are no world's.
+/// The status if no world has the histories.
 const FAULT_FOUND: u8 = 1;
 
-/// The status where the words are wrong.
+/// The status if the words are wrong.
 const WRONG_WORDS: u8 = 2;
 
-/// The status where memory runs out.
+/// The status if memory runs out.
 const NO_MEMORY: u8 = 4;
 
 fn out_of_memory(rt: &HostRuntime) -> ExitCode
@@ -73,7 +73,7 @@ fn show(rt: &HostRuntime, asked: &clap::Error) -> ExitCode
 }
 
 /// Says what is wrong with the words. Help or the version that was asked for goes to standard output, and nothing is
-/// wrong where it is written.
+/// wrong if it is written.
 fn report_words(rt: &HostRuntime, error: clap::Error) -> ExitCode
     ensures { IsEndOfWords (kind_of error) (exit_status result) }
 {

@@ -41,7 +41,7 @@ pub enum Streamed<'a> {
 
 /// Does what the words after the program's name ask for, from this reader to this writer. Tellers read nothing;
 /// the handle starts their threads, and waits for them. A site takes a disk as well, so it is the caller's to run.
-/// Where the words ask for nothing, the error says so, and nothing is read or written.
+/// If the words ask for nothing, the error says so, and nothing is read or written.
 pub fn run_on_streams<'a, H: Threads + Wait + Sync, S: Source, W: Sink>(
     handle: &H,
     alloc: Global,
@@ -59,7 +59,7 @@ pub fn run_on_streams<'a, H: Threads + Wait + Sync, S: Source, W: Sink>(
     ensures unasked { IfErr result
         (λ e. (asked : TheWords) → Ask (map (λ word. word.now) words.entry.now) asked → kind_of e ≡ OutOfMemory) }
     // Something is done only for words that the command line takes. The error is one of those that these words may end
-    // in, so help is answered only where they ask for it.
+    // in, so help is answered only if they ask for it.
     ensures kinds { FailsBy (fault_of command_line (map (λ word. word.now) words.entry.now)) result }
     ensures untouched { OnErr result ((reader.new ≡ reader.old) × (writer.new ≡ writer.old)) }
     ensures asked { IfOk result

@@ -9,7 +9,7 @@ use Rattle.clap.specs.declared.parser.matches.ArgMatches.{ArgMatches}
 use Rattle.clap.proofs.OnLiterals.{clap_on_literals}
 use Rattle.rb_cli.specs.Words.{AreFit, Asked, IsInRange, as_asked, command_line, words_of_matches}
 use Rattle.rb_cli.proofs.Reading.{taken_asks}
-use Rattle.rb_cli.proofs.Usual.{usual_words}
+use Rattle.rb_cli.proofs.UsualWords.{usual_words}
 use Rattle.rb_cli.proofs.words.read_words.Goals as goal
 
 -- the command line is one whose matches and errors are known

@@ -18,11 +18,11 @@ returns c =
     let is : c.answer.new.self ≡ next_site old event = c.in_ok-answer.ensures.ok.0 ∙ ap (λ y. next_site y event) seen in
     record {
       recorded = (
-        recorded old c.answer.new.self event reply x c.me.result entries c.append_entry.new.out.items c.requires is
+        recorded old c.answer.new.self event reply x c.me.result entries c.append_entry_line.new.out.items c.requires is
             (c.in_ok-answer.ensures.ok.1 ∙ ap (λ (y : SeenSite). reply_to y.settings (state_of y) event) seen)
             refl
             (c.me.ensures.same ∙ ap (λ (y : SeenSite). y.me) is ∙ me-next old event)
-            (c.in_ok-append_entry.ensures ∙ ap (λ s. entries ++ line_of (entry_json s c.me.result x))
+            (c.in_ok-append_entry_line.ensures ∙ ap (λ s. entries ++ line_of (entry_json s c.me.result x))
             (sym c.self.invariant ∙ ap (λ (y : SeenSite). y.settings) seen)),
         c.in_ok-answer.ensures.ok.2
             ∙ ap (λ (v : SeenNode). v.sent ++ sent_at v.site.settings (state_of v.site) event) c.self.view_is,
@@ -34,8 +34,8 @@ returns-in_err-answer c = record {
   recorded = kept c.from_residual.result _ c.from_residual.ensures.0 (stayed c.args.entries.now.items);
 }
 
-pub returns-in_err-append_entry : goal.returns-in_err-append_entry
-returns-in_err-append_entry c = record {
-  recorded = kept c.from_residual-in_err-append_entry.result _ c.from_residual-in_err-append_entry.ensures.0
-      c.in_err-append_entry.ensures;
+pub returns-in_err-append_entry_line : goal.returns-in_err-append_entry_line
+returns-in_err-append_entry_line c = record {
+  recorded = kept c.from_residual-in_err-append_entry_line.result _ c.from_residual-in_err-append_entry_line.ensures.0
+      c.in_err-append_entry_line.ensures;
 }

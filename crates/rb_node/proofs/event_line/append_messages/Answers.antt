@@ -5,7 +5,7 @@ use Rattle.rb_history.specs.Entries.{event_json}
 use Rattle.rb_history.proofs.Public.Appended.{front_of_front, front_of_sum, then}
 use Rattle.rb_history.proofs.Public.Listed.{item_written, items_written, rest_text, whole_text}
 use Rattle.rb_node.proofs.Failed.{kept, stayed}
-use Rattle.rb_node.proofs.answer.append_messages.Goals as goal
+use Rattle.rb_node.proofs.event_line.append_messages.Goals as goal
 
 pub loop-message-init : goal.loop-message-init
 loop-message-init c = record { utf8 = search rules; front = stayed c.args.out.now.items; written = refl }

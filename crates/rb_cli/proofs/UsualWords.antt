@@ -31,7 +31,7 @@ use Rattle.rb_cli.specs.Words.{numeral_value, option_rule, script, audit, migrat
 use Rattle.rb_cli.specs.Words.{threads_line, words_of_matches}
 use Rattle.rb_cli.specs.declared.words.Words.{Words}
 use Rattle.rb_cli.specs.declared.words.Words.TheVariants.{Script, Audit, Migrate, Threads, Site}
-use Rattle.rb_cli.proofs.Given.{AreGiven, Given, IsNamed, IsPlain, at, rows_with, spelled, takes_given, waiting_at}
+use Rattle.rb_cli.proofs.GivenOptions.{AreGiven, Given, IsNamed, IsPlain, at, rows_with, spelled, takes_given, waiting_at}
 use Rattle.rb_cli.proofs.Options.{no_plus}
 use Rattle.rb_cli.proofs.Reading.{leaf, numbers, site_options, threads_options}
 

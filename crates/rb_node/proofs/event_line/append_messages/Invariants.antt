@@ -5,7 +5,7 @@ use denote.Shadow.{shadow}
 use Rattle.rb_site.specs.declared.event.Event.TheVariants.{Receive}
 use Rattle.rb_history.specs.Entries.{event_json}
 use Rattle.rb_history.proofs.Public.Listed.{rest_text}
-use Rattle.rb_node.proofs.answer.append_messages.Given as goal
+use Rattle.rb_node.proofs.event_line.append_messages.Given as goal
 
 abbrev pub invariant-loop-message : goal.invariant-loop-message
 invariant-loop-message l = record {

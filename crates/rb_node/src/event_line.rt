@@ -56,7 +56,7 @@ pub(crate) fn append_messages(
 }
 
 /// A reply behind a text.
-fn append_listed(out: &mut Vec<u8>, comma: &str, reply: &Reply) -> Result<(), AllocError>
+fn append_later_reply(out: &mut Vec<u8>, comma: &str, reply: &Reply) -> Result<(), AllocError>
     ensures { Adds result out.old.items out.new.items (comma.now ++ compact_text (reply_json reply.now)) }
 {
     append(out, comma)?;
@@ -64,7 +64,7 @@ fn append_listed(out: &mut Vec<u8>, comma: &str, reply: &Reply) -> Result<(), Al
 }
 
 /// What an answer begins with: the reply, the messages, and the bracket that opens the list of what follows.
-fn append_reply(
+fn append_answer_head(
     out: &mut Vec<u8>,
     config: &Config,
     reply: &Reply,
@@ -131,10 +131,10 @@ impl Node {
             × (take (length entries.old.items) entries.new.items ≡ entries.old.items)) }
     {
         let reply = self.step_within_limit(Event::Apply(name), entries)?;
-        append_listed(text, comma, &reply)
+        append_later_reply(text, comma, &reply)
     }
 
-    /// The name of an operation that is to be applied next: it is held and its past is applied. `None` where there is
+    /// The name of an operation that is to be applied next: it is held and its past is applied. `None` if there is
     /// none, or the history is full.
     fn ready(&self) -> Option<OpName>
         ensures some { IfSome result (IsReadyName (state_of self.now.site)) }
@@ -161,7 +161,7 @@ impl Node {
             × (take (length entries.old.items) entries.new.items ≡ entries.old.items)) }
     {
         let reply = self.step(event, entries)?;
-        append_reply(text, &self.config, &reply, self.sent.as_slice())?;
+        append_answer_head(text, &self.config, &reply, self.sent.as_slice())?;
         self.apply_ready(text, entries)?;
         append(text, "}\n")
     }
@@ -171,7 +171,7 @@ impl Node {
     /// reply, each M a message that was sent, as the event's line of the sites that it goes to, and each A the reply of
     /// an application that followed: whatever is held and ready is applied, until nothing is or the history is full.
     ///
-    /// Errors: `BadLine` where the line is no event, and nothing has changed then; `OutOfMemory`, after which nothing
+    /// Errors: `BadLine` if the line is no event, and nothing has changed then; `OutOfMemory`, after which nothing
     /// more may be asked of the site. Each leaves answers and entries as they were.
     pub fn answer(
         &mut self,

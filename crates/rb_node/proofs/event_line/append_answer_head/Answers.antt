@@ -7,7 +7,7 @@ use Rattle.rb_site.specs.declared.event.Event.TheVariants.{Receive}
 use Rattle.rb_history.specs.Entries.{event_json}
 use Rattle.rb_history.specs.Replies.{reply_json}
 use Rattle.rb_history.proofs.Public.Appended.{both, failed, then}
-use Rattle.rb_node.proofs.answer.append_reply.Goals as goal
+use Rattle.rb_node.proofs.event_line.append_answer_head.Goals as goal
 
 -- the parts of the text, one behind another
 parts : (reply sends : List ℕ) → (((codes "{\"reply\":" ++ reply) ++ codes ",\"sends\":[") ++ sends) ++ codes ",\"then\":["

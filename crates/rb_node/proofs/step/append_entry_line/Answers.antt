@@ -3,7 +3,7 @@ use Rattle.serde_json.specs.Written.{compact_text}
 use Rattle.rb_history.specs.Entries.{entry_json}
 use Rattle.rb_history.proofs.Public.Appended.{then}
 use Rattle.rb_node.proofs.Failed.{kept, stayed}
-use Rattle.rb_node.proofs.step.append_entry.Goals as goal
+use Rattle.rb_node.proofs.step.append_entry_line.Goals as goal
 
 pub returns : goal.returns
 returns c = then c.append.result c.args.out.now.items c.append_line.new.out.items c.append.new.out.items
