@@ -1,4 +1,4 @@
--- The laws of a host, for a record of calls.
+-- The laws of a host, for a log of calls.
 use Rattle.std.specs.Prelude.{◌≡◌, ℕ, ◌≤◌, List, [], ◌∷◌, length, refl}
 use Rattle.std.proofs.Common.{inl, inr, arith}
 use Rattle.rb_journal.specs.Calls.{NotedCall, leaves, left_since, output_of}

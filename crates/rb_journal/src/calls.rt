@@ -1,4 +1,4 @@
-//! Each call on a record, by its kind: what a host that keeps the record then says of its file and of its output.
+//! Each call in a log, by its kind: what a host that keeps the log then says of its file and of its output.
 ghost use Rattle.std.specs.Prelude.{◌≡◌, ◌+◌, ◌<◌, ◌≤◌, ◌↔◌, ◌++◌, [], List, ℕ, length, take, IsTrue, IsOk, IsSome};
 ghost use Rattle.std.specs.Prelude.{IfSome, OnOk, IfOk};
 ghost use Rattle.std.specs.Option.{ForSome};
@@ -7,7 +7,7 @@ ghost use Rattle.rb_journal.specs.Host.{DiskCause, OutputCause};
 ghost use Rattle.rb_journal.specs.Calls.{content_of, output_of, leaves, left_since, faults_of};
 
 use crate::HostError;
-use crate::record::Record;
+use crate::call_log::CallLog;
 
 const FOUND: u64 = 0;
 
@@ -22,19 +22,19 @@ const PUT_OUT: u64 = 4;
 const OUTPUT_FAILED: u64 = 5;
 
 /// A file was opened, and these were its bytes, all of them on the disk.
-pub(crate) fn found(bytes: &[u8]) -> Record
+pub(crate) fn found(bytes: &[u8]) -> CallLog
     ensures content { content_of result.events ≡ bytes.now }
     ensures durable { Only bytes.now (leaves result.events) }
     ensures output { output_of result.events ≡ [] }
     ensures usable { faults_of result.events ≡ 0 }
 {
-    let mut log = Record::new();
+    let mut log = CallLog::new();
     log.note(&[FOUND, 0, 1], bytes);
     log
 }
 
 /// A write of these bytes at this place, and whether it succeeded.
-pub(crate) fn wrote(log: &mut Record, at: usize, bytes: &[u8], ok: bool) -> Result<(), HostError>
+pub(crate) fn wrote(log: &mut CallLog, at: usize, bytes: &[u8], ok: bool) -> Result<(), HostError>
     requires { faults_of log.old.events ≡ 0 }
     ensures ok { IsTrue ok ↔ IsOk result }
     ensures usable { OnOk result (faults_of log.new.events ≡ 0) }
@@ -56,7 +56,7 @@ pub(crate) fn wrote(log: &mut Record, at: usize, bytes: &[u8], ok: bool) -> Resu
 }
 
 /// A cut to this length, and whether it succeeded.
-pub(crate) fn cut(log: &mut Record, len: usize, ok: bool) -> Result<(), HostError>
+pub(crate) fn cut(log: &mut CallLog, len: usize, ok: bool) -> Result<(), HostError>
     requires { faults_of log.old.events ≡ 0 }
     ensures ok { IsTrue ok ↔ IsOk result }
     ensures usable { OnOk result (faults_of log.new.events ≡ 0) }
@@ -78,7 +78,7 @@ pub(crate) fn cut(log: &mut Record, len: usize, ok: bool) -> Result<(), HostErro
 }
 
 /// A sync, and whether it succeeded.
-pub(crate) fn synced(log: &mut Record, ok: bool) -> Result<(), HostError>
+pub(crate) fn synced(log: &mut CallLog, ok: bool) -> Result<(), HostError>
     requires { faults_of log.old.events ≡ 0 }
     ensures ok { IsTrue ok ↔ IsOk result }
     ensures usable { OnOk result (faults_of log.new.events ≡ 0) }
@@ -102,7 +102,7 @@ pub(crate) fn synced(log: &mut Record, ok: bool) -> Result<(), HostError>
 
 /// The first `count` of these bytes were put out; none, if the output failed.
 pub(crate) fn output(
-    log: &mut Record,
+    log: &mut CallLog,
     bytes: &[u8],
     count: Option<usize>,
 ) -> Result<usize, HostError>

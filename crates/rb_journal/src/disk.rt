@@ -6,7 +6,7 @@ ghost use Rattle.rb_journal.specs.Calls.{content_of, output_of, leaves, left_sin
 ghost use Rattle.rb_journal.specs.CallLaws.{now_counts, now_alone};
 ghost use Rattle.rb_journal.specs.Disk.{disk_log};
 
-use crate::record::Record;
+use crate::call_log::CallLog;
 use crate::{Host, HostError, calls};
 use std::fs::OpenOptions;
 use std::io::Read;
@@ -14,12 +14,12 @@ use std::os::unix::fs::FileExt;
 use std::rt::Files;
 use std::{fs, io};
 
-/// A host with a file of the system and an output. It keeps a record of its calls.
+/// A host with a file of the system and an output. It keeps a log of its calls.
 #[derive(Drop)]
 pub struct Disk<P> {
     file: fs::File,
     out: P,
-    log: Record,
+    log: CallLog,
 }
 
 /// Opens a file, or makes it, in this folder, locks it against other processes, and reads its bytes.

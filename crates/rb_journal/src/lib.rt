@@ -11,6 +11,7 @@
 #![tactic(auto)]
 
 mod batch;
+mod call_log;
 mod calls;
 mod disk;
 mod fault;
@@ -19,7 +20,6 @@ mod host;
 mod journal;
 mod memory;
 mod no_answer;
-mod record;
 mod responder;
 mod run;
 mod waiting;

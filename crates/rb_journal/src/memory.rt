@@ -4,7 +4,7 @@ ghost use Rattle.rb_journal.specs.Host.{IsWritten};
 ghost use Rattle.rb_journal.specs.Calls.{content_of, output_of, leaves, left_since, faults_of};
 ghost use Rattle.rb_journal.specs.CallLaws.{now_counts, now_alone};
 
-use crate::record::Record;
+use crate::call_log::CallLog;
 use crate::{Host, HostError, calls};
 use std::alloc::{AllocError, Global};
 
@@ -14,7 +14,7 @@ pub struct Memory {
     alloc: Global,
     bytes: Vec<u8>,
     output: Vec<u8>,
-    log: Record,
+    log: CallLog,
     ghost agrees: { content_of log.events ≡ bytes.items },
     ghost output_all: { output_of log.events ≡ output.items },
 }

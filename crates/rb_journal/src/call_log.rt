@@ -7,21 +7,21 @@ use std::marker::{Model, PhantomData};
 
 /// The calls, newest first. It takes no memory: nothing of it is there at run time.
 #[derive(Drop)]
-pub struct Record {
+pub struct CallLog {
     marker: PhantomData<u8>,
     pub ghost events: { List NotedCall },
 }
 
-impl Model for Record {
+impl Model for CallLog {
     ghost also_owns = { λ _. ftrue };
 }
 
-impl Record {
+impl CallLog {
     /// No call yet.
-    pub(crate) fn new() -> Record
+    pub(crate) fn new() -> CallLog
         ensures { result.events ≡ [] }
     {
-        Record {
+        CallLog {
             marker: PhantomData,
         }
     }

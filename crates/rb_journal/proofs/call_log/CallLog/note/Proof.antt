@@ -26,13 +26,13 @@ use denote.Triple.Entry.{on_entry}
 use denote.Triple.Spec.{Meets, triple_of}
 use denote.Triple.Table.{entered}
 use denote.Triple.Walked.{says, Stays, stay_ref, walk_of, AllGo, Goes-ref, Walks, ends_at, walked, walk_Meets}
-use Rattle.rb_journal.specs.declared.record.Record.{Record}
+use Rattle.rb_journal.specs.declared.call_log.CallLog.{CallLog}
 use Rattle.rb_journal.specs.Calls.{noted_call_of}
-use Rattle.rb_journal.specs.contracts.record.Record as T
-use Rattle.rb_journal.specs.contracts.record.Record.note.Key.{name as #it}
-use Rattle.rb_journal.specs.contracts.record.Record.note as it
-use Rattle.rb_journal.proofs.record.Record.note.Statement as stated
-use Rattle.rb_journal.proofs.record.Record.note.Code as code
+use Rattle.rb_journal.specs.contracts.call_log.CallLog as T
+use Rattle.rb_journal.specs.contracts.call_log.CallLog.note.Key.{name as #it}
+use Rattle.rb_journal.specs.contracts.call_log.CallLog.note as it
+use Rattle.rb_journal.proofs.call_log.CallLog.note.Statement as stated
+use Rattle.rb_journal.proofs.call_log.CallLog.note.Code as code
 use denote.Ref.{Bor}
 use denote.Builtin.{u8, u64}
 use denote.Exit.{yes}
@@ -41,7 +41,7 @@ use denote.Triple.Walked.{stay_none_slice, Goes-none_slice}
 use Rattle.std.proofs.Common.{◌<◌, ◌^◌, length}
 
 abbrev Arg : Type 0
-Arg = MutBor Record × (Bor (List ℕ) × (Bor (List ℕ) × Unit {0}))
+Arg = MutBor CallLog × (Bor (List ℕ) × (Bor (List ℕ) × Unit {0}))
 
 abbrev stayed : Stays (it.ended).signature.params (it.ended).kept
 stayed = (
@@ -53,13 +53,13 @@ stayed = (
 )
 
 module _ {M : Type 1} {𝓤 : Ura M} (𝓛 : Logic 𝓤) (at_mem : Memory → SProp 𝓤) (run : Routine →
-    Fun 𝓤) (κ κ' κ'' : Lft) (q q' q'' : Share) (b o : ℕ) (γ : GName) (h : Record) (k s : Bor (List ℕ)) where
+    Fun 𝓤) (κ κ' κ'' : Lft) (q q' q'' : Share) (b o : ℕ) (γ : GName) (h : CallLog) (k s : Bor (List ℕ)) where
   open 𝓛 use {H, A}
 
   abbrev x : Arg
   x = (record { ref_ptr = (b, o); ghost_name = γ; now = h }, (k, (s, tt)))
 
-  abbrev h' : Record
+  abbrev h' : CallLog
   h' = record { marker = h.marker; events = noted_call_of k.now s.now ∷ h.events }
 
   abbrev at : List Val × (List Val × (List Val × Unit {0}))

@@ -21,17 +21,17 @@ use denote.Triple.Entry.{on_entry}
 use denote.Triple.Spec.{Meets, triple_of}
 use denote.Triple.Table.{entered}
 use denote.Triple.Walked.{says, ends_at, walked, walk_Meets}
-use Rattle.rb_journal.specs.declared.record.Record.{Record}
-use Rattle.rb_journal.specs.contracts.record.Record as T
-use Rattle.rb_journal.specs.contracts.record.Record.new.Key.{name as #it}
-use Rattle.rb_journal.specs.contracts.record.Record.new as it
-use Rattle.rb_journal.proofs.record.Record.new.Statement as stated
-use Rattle.rb_journal.proofs.record.Record.new.Code as code
+use Rattle.rb_journal.specs.declared.call_log.CallLog.{CallLog}
+use Rattle.rb_journal.specs.contracts.call_log.CallLog as T
+use Rattle.rb_journal.specs.contracts.call_log.CallLog.new.Key.{name as #it}
+use Rattle.rb_journal.specs.contracts.call_log.CallLog.new as it
+use Rattle.rb_journal.proofs.call_log.CallLog.new.Statement as stated
+use Rattle.rb_journal.proofs.call_log.CallLog.new.Code as code
 
 abbrev v : Val
 v = vstruct (vcons (vstruct vnil) vnil)
 
-abbrev r : Record
+abbrev r : CallLog
 r = record { marker = record {}; events = [] }
 
 meets : {M : Type 1} {𝓤 : Ura M} (𝓛 : Logic 𝓤) → (at_mem : Memory → SProp 𝓤) (run : Routine → Fun 𝓤) (𝓣 : Tables 𝓤 𝓛.H)
