@@ -27,8 +27,8 @@ import textwrap
 
 ROOT = os.path.dirname(os.path.dirname(os.path.abspath(__file__)))
 PARTS = ["The headline", "The program's text", "Other public contracts", "Inner contracts"]
-PROGRAM = ["rb_run_script::run_script", "rb_run_audit::run_audit", "rb_run_migrate::run_migrate",
-           "rb_run_threads::run_threads", "rb_run_site::run_site", "rb_cli::read_words"]
+PROGRAM = ["rb_runs::run_script", "rb_runs::run_audit", "rb_runs::run_migrate", "rb_run_threads::run_threads",
+           "rb_run_site::run_site", "rb_cli::read_words"]
 WORD = re.compile(r"[^\W\d]\w*")
 
 # a type of the code with its fields, and a trait with its functions

@@ -1,7 +1,7 @@
 -- What an audit comes to for C.
 use Rattle.std.specs.Prelude.{◌≡◌, ℕ, ℤ, Bool, true, false, List, [], Some, Result, Ok, Err}
 use Rattle.rb_lines.specs.declared.fault.ScriptFault.{ScriptFault}
-use Rattle.rb_run_audit.specs.Run.{AuditEndsAs}
+use Rattle.rb_runs.specs.Audit.{AuditEndsAs}
 use Rattle.rb_capi.specs.declared.ending.Ending.{Ending}
 use Rattle.rb_capi.specs.Endings.{IsEndAtFault, IsHandedOver, IsInMemory}
 

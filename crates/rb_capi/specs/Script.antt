@@ -1,7 +1,7 @@
 -- What a script comes to for C.
 use Rattle.std.specs.Prelude.{ℕ, ℤ, List, [], Some, Result}
 use Rattle.rb_lines.specs.declared.fault.ScriptFault.{ScriptFault}
-use Rattle.rb_run_script.specs.Run.{ScriptEndsAs}
+use Rattle.rb_runs.specs.Script.{ScriptEndsAs}
 use Rattle.rb_capi.specs.declared.ending.Ending.{Ending}
 use Rattle.rb_capi.specs.Endings.{IsEndOfLines, IsHandedOver, IsInMemory}
 

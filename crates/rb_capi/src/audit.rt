@@ -3,7 +3,7 @@ ghost use Rattle.rb_capi.specs.Audit.{AnswersAudit, IsEndOfVerdict};
 
 use crate::ending::{Ending, end_at_fault, hand_over, in_memory};
 use rb_lines::{FromBytes, ScriptFault, ToBytes};
-use rb_run_audit::run_audit;
+use rb_runs::run_audit;
 use std::alloc::Global;
 
 /// How an audit ends: it writes one line.

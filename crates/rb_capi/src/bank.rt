@@ -4,7 +4,7 @@ ghost use Rattle.rb_money.specs.Settings.{Settings};
 ghost use Rattle.rb_site.specs.declared.world_event.WorldEvent.{WorldEvent as CommandOf};
 ghost use Rattle.rb_history.specs.declared.fault.LineFault.TheVariants.{Bad};
 ghost use Rattle.rb_history.specs.Configurations.{config_on};
-ghost use Rattle.rb_run_script.specs.Script.{command_on};
+ghost use Rattle.rb_runs.specs.Script.{command_on};
 ghost use Rattle.rb_capi.specs.Banks.{SeenBank, first_bank, kept_answer, next_bank};
 ghost use Rattle.rb_capi.specs.Copies.{Copies};
 
@@ -59,7 +59,7 @@ fn open(alloc: Global, config: &[u8]) -> Result<Bank, LineFault>
 
 impl Bank {
     /// Gives the bank the command on a line, and keeps the line of its reply.
-    #[tactic(auto, unfolding(rb_run_script::specs::Script::command_on))]
+    #[tactic(auto, unfolding(rb_runs::specs::Script::command_on))]
     fn answer_line(&mut self, alloc: Global, line: &[u8]) -> Result<(), LineFault>
         ensures { MatchResult result
             (λ _. (command : CommandOf) × (command_on self.old.world.settings line.now ≡ Some command)

@@ -3,7 +3,7 @@ ghost use Rattle.rb_capi.specs.Migrate.{AnswersMigration};
 
 use crate::ending::{end_of_lines, hand_over, in_memory};
 use rb_lines::{FromBytes, ToBytes};
-use rb_run_migrate::run_migrate;
+use rb_runs::run_migrate;
 use std::alloc::Global;
 
 /// Writes the lines of histories, a configuration and entries, in version 2 of the format.

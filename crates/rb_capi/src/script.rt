@@ -3,7 +3,7 @@ ghost use Rattle.rb_capi.specs.Script.{AnswersScript};
 
 use crate::ending::{end_of_lines, hand_over, in_memory};
 use rb_lines::{FromBytes, ToBytes};
-use rb_run_script::run_script;
+use rb_runs::run_script;
 use std::alloc::Global;
 
 /// Answers a script, a configuration and commands, by a line for each command.

@@ -7,7 +7,7 @@ use crate::checks::equal;
 use rb_branch::NoGate;
 use rb_history::{read_config, read_line};
 use rb_lines::{FromBytes, ToBytes};
-use rb_run_audit::run_audit;
+use rb_runs::run_audit;
 use rb_run_threads::run_threads;
 use rb_site::Event;
 use std::alloc::Global;

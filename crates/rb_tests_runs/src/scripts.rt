@@ -6,9 +6,7 @@ use crate::checks::{equal, holds};
 use rb_lines::{
     FromBytes, ReadFailed, ScriptFault, Sink, Source, ToBytes, WriteFailed, message, status,
 };
-use rb_run_audit::run_audit;
-use rb_run_migrate::run_migrate;
-use rb_run_script::run_script;
+use rb_runs::{run_audit, run_migrate, run_script};
 use rb_tests::rows::row_named;
 use std::alloc::{AllocError, Global};
 use std::cell::RefCell;

@@ -3,9 +3,9 @@ use Rattle.std.specs.Prelude.{◌≡◌, ◌≢◌, ℕ, List, [], Option, IfSom
 use Rattle.rb_lines.specs.declared.fault.ScriptFault.TheVariants.{Gather}
 use Rattle.rb_cli.specs.declared.words.Words.{Words}
 use Rattle.rb_cli.specs.declared.words.Words.TheVariants.{Script, Audit, Migrate, Threads, Site}
-use Rattle.rb_run_script.specs.Run.{ScriptEndsAs}
-use Rattle.rb_run_audit.specs.Run.{AuditEndsAs}
-use Rattle.rb_run_migrate.specs.Run.{MigrationEndsAs}
+use Rattle.rb_runs.specs.Script.{ScriptEndsAs}
+use Rattle.rb_runs.specs.Audit.{AuditEndsAs}
+use Rattle.rb_runs.specs.Migration.{MigrationEndsAs}
 use Rattle.rb_run_threads.specs.Runs.{ThreadsEndAs}
 use Rattle.rbbank.specs.declared.on_streams.Streamed.{Streamed}
 use Rattle.rbbank.specs.declared.on_streams.Streamed.TheVariants.{Script as ScriptRan, Audit as AuditRan, Migrate as MigrationRan}

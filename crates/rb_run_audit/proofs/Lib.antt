@@ -1,7 +1,0 @@
-mod Follows
-mod Histories
-mod Buffered
-mod Counted
-mod Taken
-mod Reported
-mod ReadBack

@@ -1,4 +1,0 @@
-pub mod Collects
-pub mod Inputs
-pub mod Run
-pub mod Laws

@@ -1,5 +1,0 @@
-mod Ended
-mod Ends
-mod Kept
-mod Replays
-mod ReadAgain

@@ -1,4 +1,0 @@
-pub mod Migration
-pub mod Run
-pub mod Session
-pub mod Laws

@@ -1,3 +1,0 @@
-pub mod Run
-pub mod Script
-pub mod Session

@@ -1,0 +1,79 @@
+-- The entries that a migration writes are read as those that it read.
+use Rattle.std.proofs.Common.{List, [], ◌∷◌, refl, inr, arith}
+use Rattle.rb_money.specs.Settings.{IsConfigured, Settings, in_version_2}
+use Rattle.rb_scratch.specs.declared.request.Request.{Request}
+use Rattle.rb_scratch.specs.declared.request.Request.TheVariants.{Deposit, Withdraw, Interest, Cancel, Transfer}
+use Rattle.rb_shadow.specs.declared.kind.Kind.{Kind}
+use Rattle.rb_shadow.specs.declared.kind.Kind.TheVariants.{Deposit as DepositKind, Withdraw as WithdrawKind, Declined as DeclinedKind}
+use Rattle.rb_shadow.specs.declared.kind.Kind.TheVariants.{Interest as InterestKind, Cancel as CancelKind, Transfer as TransferKind}
+use Rattle.rb_shadow.specs.declared.shadow.Shadow.{Shadow}
+use Rattle.rb_site.specs.declared.event.Event.{Event}
+use Rattle.rb_site.specs.declared.event.Event.TheVariants.{Submit, Batch, Receive}
+use Rattle.rb_site.specs.declared.message.Message.TheVariants.{Shadow as ShadowMessage}
+use Rattle.rb_history.specs.Laws.{ReadConfigsAreConfigured}
+use Rattle.rb_history.specs.Fits.{Each, EntriesAreRead, IsEvent, IsKind, IsRequest, IsShadow, ReadEntriesFit}
+use Rattle.rb_runs.specs.MigrationLaws.{MigratedEntriesAreRead}
+
+-- what is configured is so in version 2
+pub configured : (s : Settings) → IsConfigured s → IsConfigured (in_version_2 s)
+configured s c = record {
+  some_sites = c.some_sites;
+  few_sites = c.few_sites;
+  some_accounts = c.some_accounts;
+  few_accounts = c.few_accounts;
+  starts_of_all = c.starts_of_all;
+  names = c.names;
+  unique = c.unique;
+  starts = c.starts;
+  blue = c.blue;
+  red = c.red;
+  inbox = c.inbox;
+  history = c.history;
+  epoch = c.epoch;
+  version = inr refl;
+}
+
+request : (s : Settings) (r : Request) → IsRequest s r → IsRequest (in_version_2 s) r
+request s (Deposit a n) h = h
+request s (Withdraw a n) h = h
+request s (Interest a rate) h = h
+request s (Cancel x) h = h
+request s (Transfer from to n) h = h
+
+requests : (s : Settings) (rs : List Request) → Each (IsRequest s) rs → Each (IsRequest (in_version_2 s)) rs
+requests s [] h = h
+requests s (r ∷ rs) h = (request s r h.0, requests s rs h.1)
+
+kind : (s : Settings) (k : Kind) → IsKind s k → IsKind (in_version_2 s) k
+kind s DepositKind h = tt
+kind s WithdrawKind h = tt
+kind s DeclinedKind h = tt
+kind s InterestKind h = tt
+kind s (CancelKind x) h = h
+kind s (TransferKind to) h = h
+
+shadow : (s : Settings) (v : Shadow) → IsShadow s v → IsShadow (in_version_2 s) v
+shadow s v h = record {
+  name = h.name;
+  home = h.home;
+  sites = h.sites;
+  blue = h.blue;
+  further = λ one. absurd (omega (arith, one));
+  red = h.red;
+  account = h.account;
+  amount = h.amount;
+  kind = kind s v.kind h.kind;
+}
+
+-- an event of a configuration is one of it in version 2
+pub event : (s : Settings) (e : Event) → IsEvent s e → IsEvent (in_version_2 s) e
+event s (Submit r) h = request s r h
+event s (Batch rs) h = requests s rs h
+event s (Receive (ShadowMessage v)) h = shadow s v h
+event s _ h = h
+
+-- what a migration writes for an entry is read as that entry
+pub entries : ReadConfigsAreConfigured → EntriesAreRead → ReadEntriesFit → MigratedEntriesAreRead
+entries made back fits first s read line site x is =
+    let fit = fits s line site x is in
+    back (in_version_2 s) (configured s (made first s read)) site x fit.0 (event s x.event fit.1) fit.2

@@ -1,0 +1,13 @@
+mod Opens
+mod Taken
+mod Follows
+mod Counted
+mod Buffered
+mod Reported
+mod Histories
+mod ReadBack
+mod Ended
+mod Ends
+mod Kept
+mod Replays
+mod ReadAgain

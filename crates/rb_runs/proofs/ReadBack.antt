@@ -1,0 +1,89 @@
+-- What is written for an input is read as it.
+use Rattle.std.proofs.Common.{◌≡◌, ◌+◌, ◌==◌, ℕ, Bool, true, false, List, [], ◌∷◌, ◌++◌, Some, Ok, codes, refl, sym, ap, ◌∙◌, append_assoc}
+use Rattle.std.specs.Prelude.{not, replicate}
+use Rattle.std.specs.List.{list_all, onto_first}
+use Rattle.std.specs.Str.{is_utf8}
+use Rattle.std.proofs.lemmas.Bool.{and_parts}
+use Rattle.serde_json.specs.Written.{compact_text}
+use Rattle.rb_money.specs.Settings.{IsConfigured, Settings}
+use Rattle.rb_site.specs.declared.entry.Entry.{Entry}
+use Rattle.rb_history.specs.Configurations.{config_at, config_on}
+use Rattle.rb_history.specs.ConfigLines.{ConfigsAreRead, config_json}
+use Rattle.rb_history.specs.Entries.{entry_json, entry_of_line, entry_on}
+use Rattle.rb_history.specs.Fits.{Each, EntriesAreRead}
+use Rattle.rb_history.specs.OneLine.{ConfigsAreLines, EntriesAreLines, IsOneLine}
+use Rattle.rb_lines.specs.Lines.{is_blank, is_long, lines_of}
+use Rattle.rb_runs.specs.Inputs.{input_after, input_of, with_entry}
+use Rattle.rb_runs.specs.InputLaws.{HasShortLines, InputsAreReadBack, IsWritable, entries_text, input_text, with_entries}
+
+-- a line without a line feed in it is the first, once it has one behind it
+step : (t : Bool) (b : ℕ) (l rest : List ℕ) → (b == 10) ≡ t → not t ≡ true → lines_of (l ++ 10 ∷ rest) ≡ l ∷ lines_of rest
+    → lines_of (b ∷ (l ++ 10 ∷ rest)) ≡ (b ∷ l) ∷ lines_of rest
+step true b l rest e h more = absurd (cc)
+step false b l rest e h more = rw e (ap (onto_first b) more)
+
+cut : (l rest : List ℕ) → list_all (λ b. not (b == 10)) l ≡ true → lines_of (l ++ 10 ∷ rest) ≡ l ∷ lines_of rest
+cut [] rest h = refl
+cut (b ∷ l) rest h = let p = and_parts (not (b == 10)) (list_all (λ b. not (b == 10)) l) h in
+    step (b == 10) b l rest refl p.0 (cut l rest p.1)
+
+-- a line that was written with its line feed is the first
+pub first_cut : (l rest : List ℕ) → IsOneLine l → lines_of ((l ++ codes "\n") ++ rest) ≡ l ∷ lines_of rest
+first_cut l rest one = ap lines_of (append_assoc l (codes "\n") rest) ∙ cut l rest one.no_feed
+
+unlong : (b : Bool) → not b ≡ true → b ≡ false
+unlong true e = absurd (cc)
+unlong false e = refl
+
+-- where no line is long, the first isn't, and none of the rest
+short_first : (bytes l : List ℕ) (ls : List (List ℕ)) → lines_of bytes ≡ l ∷ ls → HasShortLines bytes
+    → (is_long l ≡ false) × (list_all (λ l. not (is_long l)) ls ≡ true)
+short_first bytes l ls e h =
+    let p = and_parts (not (is_long l)) (list_all (λ l. not (is_long l)) ls) (sym (ap (list_all (λ l. not (is_long l))) e) ∙ h) in
+    (unlong (is_long l) p.0, p.1)
+
+-- ---- one line of an input
+
+takes_config : (l : List ℕ) (ls : List (List ℕ)) (s : Settings) → is_long l ≡ false → is_blank l ≡ false → config_on l ≡ Some s
+    → input_of (l ∷ ls) ≡ input_after s (replicate s.sites []) 2 ls
+takes_config l ls s short some on = rw (short, some, on) refl
+
+takes_entry : (s : Settings) (hs : List (List Entry)) (n : ℕ) (l : List ℕ) (ls : List (List ℕ)) (x : ℕ × Entry) → is_long l ≡ false
+    → is_blank l ≡ false → entry_on s l ≡ Some x → input_after s hs n (l ∷ ls) ≡ input_after s (with_entry x.0 x.1 hs) (n + 1) ls
+takes_entry s hs n l ls x short some on = rw (short, some, on) refl
+
+on_utf8_config : (l : List ℕ) (s : Settings) → is_utf8 l ≡ true → config_at l ≡ Some s → config_on l ≡ Some s
+unfolding config_on
+on_utf8_config l s utf8 read = rw utf8 read
+
+on_utf8_entry : (s : Settings) (l : List ℕ) (x : ℕ × Entry) → is_utf8 l ≡ true → entry_of_line s l ≡ Some x → entry_on s l ≡ Some x
+unfolding entry_on
+on_utf8_entry s l x utf8 read = rw utf8 read
+
+-- ---- all lines of an input
+
+entries_back : EntriesAreRead → EntriesAreLines → (s : Settings) → IsConfigured s → (hs : List (List Entry)) (n : ℕ) (xs : List (ℕ × Entry))
+    → Each (IsWritable s) xs → HasShortLines (entries_text s xs)
+    → input_after s hs n (lines_of (entries_text s xs)) ≡ Ok (record { settings = s; histories = with_entries xs hs })
+entries_back read lines s c hs n [] w short = refl
+entries_back read lines s c hs n (x ∷ xs) w short =
+    let l = compact_text (entry_json s x.0 x.1) in
+    let rest = entries_text s xs in
+    let one = lines s c x.0 x.1 in
+    let first = first_cut l rest one in
+    let p = short_first (entries_text s (x ∷ xs)) l (lines_of rest) first short in
+    let on = on_utf8_entry s l x one.utf8 (read s c x.0 x.1 w.0.0 w.0.1 w.0.2) in
+    ap (input_after s hs n) first ∙ takes_entry s hs n l (lines_of rest) x p.0 refl on
+    ∙ entries_back read lines s c (with_entry x.0 x.1 hs) (n + 1) xs w.1 p.1
+
+-- what is written for an input is taken as it
+pub inputs_back : ConfigsAreRead → EntriesAreRead → ConfigsAreLines → EntriesAreLines → InputsAreReadBack
+inputs_back configs entries config_lines entry_lines s c xs w short =
+    let l = compact_text (config_json s) in
+    let rest = entries_text s xs in
+    let one = config_lines s c in
+    let first = first_cut l rest one in
+    let p = short_first (input_text s xs) l (lines_of rest) first short in
+    let on = on_utf8_config l s one.utf8 (configs s c) in
+    ap input_of first ∙ takes_config l (lines_of rest) s p.0 refl on
+    ∙ entries_back entries entry_lines s c (replicate s.sites []) 2 xs w p.1

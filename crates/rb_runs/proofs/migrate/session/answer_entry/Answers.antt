@@ -1,0 +1,24 @@
+-- The entry of the line is written.
+use Rattle.std.proofs.Common.{◌≡◌, ◌++◌, ℕ, List, Some, None, true, ap, subst}
+use Rattle.std.specs.Prelude.{MatchResult}
+use Rattle.std.specs.Str.{is_utf8}
+use Rattle.rb_money.specs.Settings.{Settings}
+use Rattle.rb_site.specs.declared.entry.Entry.{Entry}
+use Rattle.rb_history.specs.declared.fault.LineFault.TheVariants.{Bad}
+use Rattle.rb_history.specs.Entries.{entry_of_line, entry_on}
+use Rattle.rb_runs.specs.Migration.{migrated_entry_line}
+use Rattle.rb_runs.proofs.migrate.session.answer_entry.Goals as goal
+
+-- the entry on a line is that of its text
+on_text : (s : Settings) (line text : List ℕ) → text ≡ line → is_utf8 line ≡ true → entry_of_line s text ≡ entry_on s line
+unfolding entry_on
+on_text s line text e utf8 = rw utf8 (ap (entry_of_line s) e)
+
+pub returns-clause-answered : goal.returns-clause-answered
+returns-clause-answered c =
+    let s = c.args.versions.now in
+    let old = c.args.buffered.now.items in
+    let new = c.append_entry.new.out.items in
+    subst (λ o. MatchResult c.append_entry.result (λ _. (x : ℕ × Entry) × (o ≡ Some x) × (new ≡ old ++ migrated_entry_line s x))
+    (λ why. why ≡ Bad → o ≡ None)) (on_text s c.args.line.now c.in-Some.text.now c.in-Some.ensures.0 c.in-Some.ensures.1)
+    c.append_entry.ensures.answered

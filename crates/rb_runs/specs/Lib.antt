@@ -1,0 +1,9 @@
+pub mod Script
+pub mod ScriptSession
+pub mod Inputs
+pub mod Collects
+pub mod Audit
+pub mod InputLaws
+pub mod Migration
+pub mod MigrationSession
+pub mod MigrationLaws

@@ -1,0 +1,145 @@
+//! The lines of an audit, one at a time.
+ghost use Rattle.std.specs.Prelude.{◌≡◌, ◌^◌, ◌<◌, ◌≤◌, ◌⊎◌, ℕ, [], ◌∷◌, None, Some, length, replicate, MatchResult};
+ghost use Rattle.rb_money.specs.Settings.{Settings};
+ghost use Rattle.rb_auditor.specs.Audits.{Audited, HasMore};
+ghost use Rattle.rb_history.specs.Configurations.{config_on};
+ghost use Rattle.rb_site.specs.declared.entry.Entry.{Entry as TheEntry};
+ghost use Rattle.rb_history.specs.Entries.{entry_on};
+ghost use Rattle.rb_history.specs.declared.fault.LineFault.TheVariants.{Bad};
+ghost use Rattle.rb_lines.specs.declared.limits.TheConstants.{LINE_LIMIT};
+ghost use Rattle.rb_runs.specs.Collects.{InputEndsAt, HasEachSite, Takes};
+
+use rb_auditor::Auditor;
+use rb_history::{LineFault, read_config, read_entry};
+use rb_lines::{ScriptFault, is_blank, text_on};
+use rb_money::Config;
+use rb_site::{Entry, Event, Reply};
+use std::alloc::Global;
+
+/// What was collected of an audit's lines: once there is a configuration its auditor, which has read each entry so far,
+/// and the number of the next line, from 1. It can't be dropped: it is closed, or gives its auditor.
+pub struct Collected {
+    pub auditor: Option<Auditor>,
+    pub number: u64,
+}
+
+/// The configuration on a line.
+#[tactic(auto, unfolding(rb_history::specs::Configurations::config_on))]
+fn config_of(alloc: Global, line: &[u8]) -> Result<Config, LineFault>
+    ensures { MatchResult result
+        (λ config. config_on line.now ≡ Some config)
+        (λ why. why ≡ Bad → config_on line.now ≡ None) }
+{
+    let Some(text) = text_on(line) else {
+        return Err(LineFault::Bad);
+    };
+    read_config(alloc, text)
+}
+
+/// The entry on a line, in its place, and its site. It may be any where there is none.
+#[inline(always)]
+#[tactic(auto, unfolding(rb_history::specs::Entries::entry_on))]
+fn entry_of(alloc: Global, config: &Config, line: &[u8], entry: &mut Entry) -> Result<u8, LineFault>
+    ensures { MatchResult result
+        (λ site. (entry_on config.now line.now ≡ Some (site, entry.new)) × (site < config.now.sites))
+        (λ why. why ≡ Bad → entry_on config.now line.now ≡ None) }
+{
+    let Some(text) = text_on(line) else {
+        return Err(LineFault::Bad);
+    };
+    read_entry(alloc, config, text, entry)
+}
+
+impl Collected {
+    /// Before the first line.
+    pub fn new() -> Collected
+        ensures auditor { result.auditor ≡ None }
+        ensures number { result.number ≡ 1 }
+    {
+        Collected {
+            auditor: None,
+            number: 1,
+        }
+    }
+
+    /// Takes the line of the configuration: the entries of its sites come next.
+    fn take_config(&mut self, alloc: Global, number: u64, line: &[u8]) -> Result<(), ScriptFault>
+        ensures number { self.new.number ≡ self.old.number }
+        ensures taken { MatchResult result
+            (λ _. (s : Settings) × (config_on line.now ≡ Some s) × (a : Audited) × (self.new.auditor ≡ Some a)
+            × (a.settings ≡ s) × (a.histories ≡ replicate s.sites []))
+            (λ fault. (fault ≡ ScriptFault.OutOfMemory)
+            ⊎ ((fault ≡ ScriptFault.BadConfig number) × (config_on line.now ≡ None))) }
+    {
+        let config = match config_of(alloc, line) {
+            Ok(config) => config,
+            Err(LineFault::Bad) => return Err(ScriptFault::BadConfig { line: number }),
+            Err(LineFault::OutOfMemory) => return Err(ScriptFault::OutOfMemory),
+        };
+        let auditor = Auditor::open(alloc, config)?;
+        if let Some(before) = self.auditor.replace(auditor) {
+            before.close();
+        }
+        Ok(())
+    }
+
+    /// Takes one line, which isn't too long.
+    ///
+    /// Refuses with `BadConfig` or `BadLine`, by the line's number, or `OutOfMemory`; the audit ends then.
+    pub fn take_line(&mut self, alloc: Global, line: &[u8]) -> Result<(), ScriptFault>
+        requires short { length line.now ≤ LINE_LIMIT }
+        requires number { self.old.number < 2 ^ 63 }
+        requires each { HasEachSite self.old }
+        ensures { MatchResult result (λ _. Takes self.old self.new line.now) (InputEndsAt self.old line.now) }
+    {
+        let number = self.number;
+        self.number = number + 1;
+        if is_blank(line) {
+            return Ok(());
+        }
+        let Some(auditor) = &mut self.auditor else {
+            return self.take_config(alloc, number, line);
+        };
+        take_entry(alloc, auditor, number, line)
+    }
+
+    /// The auditor, if there is a configuration.
+    pub fn into_auditor(self) -> Option<Auditor>
+        ensures { result ≡ self.auditor }
+    {
+        let Collected { auditor, number: _ } = self;
+        auditor
+    }
+
+    /// Closes what was collected.
+    pub fn close(self) {
+        if let Some(auditor) = self.into_auditor() {
+            auditor.close();
+        }
+    }
+}
+
+/// Takes the line of an entry: the auditor reads it.
+fn take_entry(
+    alloc: Global,
+    auditor: &mut Auditor,
+    number: u64,
+    line: &[u8],
+) -> Result<(), ScriptFault>
+    requires { length auditor.old.histories ≡ auditor.old.settings.sites }
+    ensures { MatchResult result
+        (λ _. (x : ℕ × TheEntry) × (entry_on auditor.old.settings line.now ≡ Some x)
+        × HasMore auditor.old auditor.new x.0 (x.1 ∷ []))
+        (λ fault. (fault ≡ ScriptFault.OutOfMemory)
+        ⊎ ((fault ≡ ScriptFault.BadLine number) × (entry_on auditor.old.settings line.now ≡ None))) }
+{
+    let mut entry = Entry {
+        event: Event::Pass(0),
+        reply: Reply::Taken(0),
+    };
+    match entry_of(alloc, auditor.config(), line, &mut entry) {
+        Ok(site) => Ok(auditor.take(site, &entry)?),
+        Err(LineFault::Bad) => Err(ScriptFault::BadLine { line: number }),
+        Err(LineFault::OutOfMemory) => Err(ScriptFault::OutOfMemory),
+    }
+}

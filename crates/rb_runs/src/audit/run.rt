@@ -1,0 +1,80 @@
+//! A whole audit, from bytes to bytes.
+ghost use Rattle.std.specs.Prelude.{◌≡◌, ◌↔◌, ◌≢◌, ◌+◌, ◌≤◌, ◌⊎◌, List, [], ℕ, true, false, Err, None, IfSome, OnOk};
+ghost use Rattle.std.specs.Io.KnownBytes.{Appends};
+ghost use Rattle.rb_lines.specs.declared.fault.ScriptFault.TheVariants.{Gather, Read, Write};
+ghost use Rattle.rb_lines.specs.declared.limits.TheConstants.{MOST_READS};
+ghost use Rattle.rb_runs.specs.Collects.{HasEachSite};
+ghost use Rattle.rb_runs.specs.Audit.{CollectsAs, AuditEndsAs};
+
+use crate::audit::answer::answer;
+use crate::audit::collected::Collected;
+use rb_lines::{Buffers, ScriptFault, Sink, Source, write_all};
+use std::alloc::Global;
+
+/// Takes each line of the reader's bytes. Nothing is buffered for the writer, so nothing is written.
+fn collect<S: Source, W: Sink>(
+    alloc: Global,
+    reader: &mut S,
+    writer: &mut W,
+    collected: &mut Collected,
+) -> Result<(), ScriptFault>
+    requires unread { S.calls reader.old ≡ 0 }
+    requires fresh { W.failed writer.old ≡ false }
+    requires first { (collected.old.auditor ≡ None) × (collected.old.number ≡ 1) }
+    ensures written { Appends (W.contents writer.old) (W.contents writer.new) [] }
+    ensures fresh { W.failed writer.new ≡ false }
+    ensures each { OnOk result (HasEachSite collected.new) }
+    ensures input { IfSome (S.remaining reader.old)
+        (λ input. CollectsAs result collected.new input (S.remaining reader.new)) }
+    ensures read { result ≡ Err Read → (S.failed reader.new ≡ true) ⊎ (S.calls reader.new ≡ MOST_READS) }
+    ensures write { result ≢ Err Write }
+    ensures gather { result ≢ Err Gather }
+    ensures calls { S.calls reader.new ≤ S.calls reader.old + MOST_READS }
+{
+    let mut buffers = Buffers::new(alloc);
+    'lines: loop {
+        let n = match buffers.next_line(reader, writer) {
+            Ok(Some(n)) => n,
+            Ok(None) => return Ok(()),
+            Err(why) => return Err(why.fault_at(collected.number)),
+        };
+        let line = &buffers.pending.as_slice()[..n];
+        collected.take_line(alloc, line)?;
+        buffers.skip_line(n);
+    }
+}
+
+/// Audits the histories in the reader's bytes, answers one line, and says whether they have an order.
+///
+/// The first line that isn't to be skipped is the configuration, and each later one an entry of a site's history; those
+/// of a site come in their order. The whole input is read before anything is answered. After a fault nothing was
+/// written, but for `Write`: then a prefix of the line.
+pub fn run_audit<S: Source, W: Sink>(
+    alloc: Global,
+    reader: &mut S,
+    writer: &mut W,
+) -> Result<bool, ScriptFault>
+    requires unread { S.calls reader.old ≡ 0 }
+    requires fresh { W.failed writer.old ≡ false }
+    // What is written is what the audit of all histories of the input finds.
+    ensures written { (text : List ℕ) × Appends (W.contents writer.old) (W.contents writer.new) text
+        × IfSome (S.remaining reader.old) (λ input. AuditEndsAs result input (S.remaining reader.new) text) }
+    ensures read { result ≡ Err Read → (S.failed reader.new ≡ true) ⊎ (S.calls reader.new ≡ MOST_READS) }
+    ensures write { (result ≡ Err Write) ↔ (W.failed writer.new ≡ true) }
+    // Whatever the reader has, there are no histories to gather.
+    ensures gather { result ≢ Err Gather }
+    // There are up to `MOST_READS` reads, whatever is answered.
+    ensures calls { S.calls reader.new ≤ S.calls reader.old + MOST_READS }
+{
+    let mut collected = Collected::new();
+    if let Err(fault) = collect(alloc, reader, writer, &mut collected) {
+        collected.close();
+        return Err(fault);
+    }
+    let Some(auditor) = collected.into_auditor() else {
+        return Err(ScriptFault::NoConfig);
+    };
+    let (found, line) = answer(alloc, auditor)?;
+    write_all(writer, line.as_slice())?;
+    Ok(found)
+}

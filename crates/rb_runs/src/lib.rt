@@ -1,0 +1,13 @@
+//! Whole runs between a reader and a writer, a line each: a script, an audit and a migration.
+//! Tests: rb_tests_runs, scripts.rt, audits.rt, migrations.rt.
+#![tactic(auto)]
+
+mod audit;
+mod migrate;
+mod script;
+
+pub use audit::laws::inputs_are_read_back;
+pub use audit::run::run_audit;
+pub use migrate::laws::{migrated_lines_are_read, migrated_replays_are_equal, migrations_are_read};
+pub use migrate::run::run_migrate;
+pub use script::run::run_script;

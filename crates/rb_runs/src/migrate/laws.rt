@@ -1,0 +1,35 @@
+//! What a migration keeps, as laws.
+ghost use Rattle.rb_runs.specs.MigrationLaws.{MigratedConfigsAreRead, MigratedEntriesAreRead, MigratedReplaysAreEqual};
+ghost use Rattle.rb_runs.specs.MigrationLaws.{MigrationsAreRead};
+
+use crate::audit::laws::inputs_are_read_back;
+use rb_history::{
+    configs_are_read, entries_are_read, read_configs_are_configured, read_entries_fit,
+};
+
+/// What is written in version 2 for lines that were read is read, under the configuration in version 2, as what
+/// they were read as.
+pub fn migrated_lines_are_read()
+    ensures configs { MigratedConfigsAreRead }
+    ensures entries { MigratedEntriesAreRead }
+{
+    read_configs_are_configured();
+    configs_are_read();
+    entries_are_read();
+    read_entries_fit();
+}
+
+/// A replay under the configuration in version 2 gives the same site, and the same replies.
+pub fn migrated_replays_are_equal()
+    ensures { MigratedReplaysAreEqual }
+{}
+
+/// Where a migration of some bytes has no fault, an audit takes the text that it writes as what it takes the bytes
+/// as, in version 2, unless a line of the text is too long.
+pub fn migrations_are_read()
+    ensures { MigrationsAreRead }
+{
+    read_configs_are_configured();
+    read_entries_fit();
+    inputs_are_read_back();
+}

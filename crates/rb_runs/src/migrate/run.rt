@@ -1,0 +1,37 @@
+//! A whole migration, from bytes to bytes.
+ghost use Rattle.std.specs.Prelude.{◌≡◌, ◌≢◌, ◌↔◌, ◌+◌, ◌≤◌, ◌⊎◌, List, ℕ, true, false, Err, IfSome};
+ghost use Rattle.std.specs.Io.KnownBytes.{Appends};
+ghost use Rattle.rb_runs.specs.Migration.{MigrationEndsAs};
+ghost use Rattle.rb_lines.specs.declared.fault.ScriptFault.TheVariants.{Gather, Read, Write};
+ghost use Rattle.rb_lines.specs.declared.limits.TheConstants.{MOST_READS};
+
+use crate::migrate::session::Session;
+use rb_lines::{ScriptFault, Sink, Source, run_lines};
+use std::alloc::Global;
+
+/// Writes each line of the reader's bytes in version 2 of the format, in the same order, and says how many were
+/// written.
+///
+/// The first line that isn't to be skipped is the configuration, and each later one an entry of a site's history, both
+/// of either version. The lines of one read go out before the next read, in one write where they fit. What was written
+/// before a fault goes out before the fault is reported; where that write fails, the fault is `Write`.
+pub fn run_migrate<S: Source, W: Sink>(
+    alloc: Global,
+    reader: &mut S,
+    writer: &mut W,
+) -> Result<u64, ScriptFault>
+    requires unread { S.calls reader.old ≡ 0 }
+    requires fresh { W.failed writer.old ≡ false }
+    // What is written is the lines of the input in version 2, and nothing else.
+    ensures written { (text : List ℕ) × Appends (W.contents writer.old) (W.contents writer.new) text
+        × IfSome (S.remaining reader.old) (λ input. MigrationEndsAs result input (S.remaining reader.new) text) }
+    ensures read { result ≡ Err Read → (S.failed reader.new ≡ true) ⊎ (S.calls reader.new ≡ MOST_READS) }
+    ensures write { (result ≡ Err Write) ↔ (W.failed writer.new ≡ true) }
+    // Whatever the reader has, there are no histories to gather.
+    ensures gather { result ≢ Err Gather }
+    // There are up to `MOST_READS` reads, whatever is answered.
+    ensures calls { S.calls reader.new ≤ S.calls reader.old + MOST_READS }
+{
+    let mut session = Session::new();
+    run_lines(alloc, reader, writer, &mut session)
+}

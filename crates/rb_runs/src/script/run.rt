@@ -1,0 +1,38 @@
+//! A whole script, from bytes to bytes.
+ghost use Rattle.std.specs.Prelude.{◌≡◌, ◌≢◌, ◌↔◌, ◌+◌, ◌≤◌, ◌⊎◌, List, ℕ, true, false, Err, IfSome};
+ghost use Rattle.std.specs.Io.KnownBytes.{Appends};
+ghost use Rattle.rb_runs.specs.Script.{ScriptEndsAs};
+ghost use Rattle.rb_lines.specs.declared.fault.ScriptFault.TheVariants.{Gather, Read, Write};
+ghost use Rattle.rb_lines.specs.declared.limits.TheConstants.{MOST_READS};
+
+use crate::script::session::Session;
+use rb_lines::{ScriptFault, Sink, Source, run_lines};
+use std::alloc::Global;
+
+/// Answers each line of the reader's bytes by a line, and says how many replies were written.
+///
+/// The first line that isn't to be skipped is the configuration, and each later one a command. The replies to the whole
+/// lines of one read go out before the next read, in one write where they fit. What was answered before a fault goes
+/// out before the fault is reported; where that write fails, the fault is `Write`.
+pub fn run_script<S: Source, W: Sink>(
+    alloc: Global,
+    reader: &mut S,
+    writer: &mut W,
+) -> Result<u64, ScriptFault>
+    requires unread { S.calls reader.old ≡ 0 }
+    requires fresh { W.failed writer.old ≡ false }
+    // What is written is what the script asks for, and nothing else.
+    ensures written { (text : List ℕ) × Appends (W.contents writer.old) (W.contents writer.new) text
+        × IfSome (S.remaining reader.old) (λ input. ScriptEndsAs result input (S.remaining reader.new) text) }
+    ensures read { result ≡ Err Read → (S.failed reader.new ≡ true) ⊎ (S.calls reader.new ≡ MOST_READS) }
+    ensures write { (result ≡ Err Write) ↔ (W.failed writer.new ≡ true) }
+    // Whatever the reader has, there are no histories to gather.
+    ensures gather { result ≢ Err Gather }
+    // There are up to `MOST_READS` reads, whatever is answered.
+    ensures calls { S.calls reader.new ≤ S.calls reader.old + MOST_READS }
+{
+    let mut session = Session::new();
+    let answered = run_lines(alloc, reader, writer, &mut session);
+    session.close();
+    answered
+}

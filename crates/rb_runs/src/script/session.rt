@@ -1,0 +1,136 @@
+//! The lines of a script, one at a time.
+ghost use Rattle.std.specs.Prelude.{◌≡◌, None, Some, MatchResult};
+ghost use Rattle.rb_money.specs.Settings.{Settings};
+ghost use Rattle.rb_world.specs.Laws.{opened};
+ghost use Rattle.rb_history.specs.declared.fault.LineFault.TheVariants.{Bad};
+ghost use Rattle.rb_history.specs.Configurations.{config_on};
+ghost use Rattle.rb_runs.specs.ScriptSession.{first_session};
+
+use crate::script::command::answer_command;
+use rb_history::{LineFault, read_config};
+use rb_lines::{Responder, ScriptFault, is_blank, text_on};
+use rb_money::Refusal;
+use rb_site::Reply;
+use rb_world::LeanWorld;
+use std::alloc::Global;
+
+/// The state of a script: the world once there is a configuration, the place of its last reply, the number of the next
+/// line, from 1, and the number of replies so far.
+pub struct Session {
+    pub world: Option<LeanWorld>,
+    pub reply: Reply,
+    pub number: u64,
+    pub count: u64,
+}
+
+/// The world before any event of the configuration on a line.
+#[tactic(auto, unfolding(rb_history::specs::Configurations::config_on))]
+fn open_world(alloc: Global, line: &[u8]) -> Result<LeanWorld, LineFault>
+    ensures { MatchResult result
+        (λ world. (s : Settings) × (config_on line.now ≡ Some s) × (world ≡ opened s))
+        (λ why. why ≡ Bad → config_on line.now ≡ None) }
+{
+    let Some(text) = text_on(line) else {
+        return Err(LineFault::Bad);
+    };
+    let config = read_config(alloc, text)?;
+    match LeanWorld::open_keeping(alloc, config) {
+        Ok(world) => Ok(world),
+        Err(_) => Err(LineFault::OutOfMemory),
+    }
+}
+
+impl Session {
+    /// Before the first line.
+    pub fn new() -> Session
+        ensures { result ≡ first_session }
+    {
+        Session {
+            world: None,
+            reply: Reply::Refused(Refusal::NoSite),
+            number: 1,
+            count: 0,
+        }
+    }
+
+    /// The script goes on with this world. The one before it is ended.
+    fn start(&mut self, world: LeanWorld)
+        ensures { self.new ≡ record self.old { world = Some world } }
+    {
+        if let Some(before) = self.world.replace(world) {
+            let _reports = before.close();
+        }
+    }
+
+    /// The script goes on with the world of the configuration on a line.
+    #[inline(never)]
+    fn open(&mut self, alloc: Global, line: &[u8]) -> Result<(), LineFault>
+        ensures { MatchResult result
+            (λ _. (s : Settings) × (config_on line.now ≡ Some s)
+            × (self.new ≡ record self.old { world = Some (opened s) }))
+            (λ why. why ≡ Bad → config_on line.now ≡ None) }
+    {
+        let world = open_world(alloc, line)?;
+        self.start(world);
+        Ok(())
+    }
+
+    /// Ends the world.
+    pub fn close(self) {
+        let Session {
+            world,
+            reply: _,
+            number: _,
+            count: _,
+        } = self;
+        if let Some(world) = world {
+            let _reports = world.close();
+        }
+    }
+}
+
+impl Responder for Session {
+    ghost use Rattle.rb_runs.specs.ScriptSession.{session_is_state, session_state};
+
+    ghost state = { session_state };
+
+    fn number(&self) -> u64 {
+        self.number
+    }
+
+    fn answer_line(
+        &mut self,
+        alloc: Global,
+        line: &[u8],
+        buffered: &mut Vec<u8>,
+    ) -> Result<(), ScriptFault> {
+        let number = self.number;
+        self.number = number + 1;
+        if is_blank(line) {
+            return Ok(());
+        }
+        let Some(world) = &mut self.world else {
+            match self.open(alloc, line) {
+                Ok(()) => {}
+                Err(LineFault::Bad) => return Err(ScriptFault::BadConfig { line: number }),
+                Err(LineFault::OutOfMemory) => return Err(ScriptFault::OutOfMemory),
+            }
+            return Ok(());
+        };
+        match answer_command(alloc, world, &mut self.reply, line, buffered) {
+            Ok(()) => self.count += 1,
+            Err(LineFault::Bad) => return Err(ScriptFault::BadLine { line: number }),
+            Err(LineFault::OutOfMemory) => return Err(ScriptFault::OutOfMemory),
+        }
+        Ok(())
+    }
+
+    fn end(&self) -> Result<u64, ScriptFault> {
+        match self.world {
+            Some(_) => Ok(self.count),
+            None => Err(ScriptFault::NoConfig),
+        }
+    }
+
+    ghost is_run_state = { session_is_state };
+}
