@@ -4,14 +4,14 @@ ghost use Rattle.rb_money.specs.Settings.{Settings};
 ghost use Rattle.rb_site.specs.declared.world_event.WorldEvent.{WorldEvent as CommandOf};
 ghost use Rattle.rb_history.specs.declared.fault.LineFault.TheVariants.{Bad};
 ghost use Rattle.rb_history.specs.Configurations.{config_on};
-ghost use Rattle.rb_runs.specs.Script.{command_on};
+ghost use Rattle.rb_history.specs.OnLines.{command_on};
 ghost use Rattle.rb_capi.specs.Banks.{SeenBank, first_bank, kept_answer, next_bank};
 ghost use Rattle.rb_capi.specs.Copies.{Copies};
 
 use crate::bank_handle::BankHandle;
 use crate::copy::copy_from;
-use rb_history::{LineFault, append_reply, read_command, read_config};
-use rb_lines::text_on;
+use rb_history::{LineFault, append_reply};
+use rb_history::{open_command, open_config};
 use rb_world::LeanWorld;
 use std::alloc::Global;
 use std::marker::Model;
@@ -38,16 +38,12 @@ impl Drop for Bank {
 }
 
 /// The bank of the configuration on a line, before any event.
-#[tactic(auto, unfolding(rb_history::specs::Configurations::config_on))]
 fn open(alloc: Global, config: &[u8]) -> Result<Bank, LineFault>
     ensures { MatchResult result
         (λ bank. (s : Settings) × (config_on config.now ≡ Some s) × (bank ≡ first_bank s))
         (λ why. why ≡ Bad → config_on config.now ≡ None) }
 {
-    let Some(text) = text_on(config) else {
-        return Err(LineFault::Bad);
-    };
-    let config = read_config(alloc, text)?;
+    let config = open_config(alloc, config)?;
     match LeanWorld::open_keeping(alloc, config) {
         Ok(world) => Ok(Bank {
             world,
@@ -59,17 +55,13 @@ fn open(alloc: Global, config: &[u8]) -> Result<Bank, LineFault>
 
 impl Bank {
     /// Gives the bank the command on a line, and keeps the line of its reply.
-    #[tactic(auto, unfolding(rb_runs::specs::Script::command_on))]
     fn answer_line(&mut self, alloc: Global, line: &[u8]) -> Result<(), LineFault>
         ensures { MatchResult result
             (λ _. (command : CommandOf) × (command_on self.old.world.settings line.now ≡ Some command)
             × (self.new ≡ next_bank self.old command))
             (λ why. why ≡ Bad → (command_on self.old.world.settings line.now ≡ None) × (self.new ≡ self.old)) }
     {
-        let Some(text) = text_on(line) else {
-            return Err(LineFault::Bad);
-        };
-        let command = read_command(alloc, self.world.config(), text)?;
+        let command = open_command(alloc, self.world.config(), line)?;
         let Ok(reply) = self.world.step(command) else {
             return Err(LineFault::OutOfMemory);
         };

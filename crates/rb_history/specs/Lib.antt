@@ -24,3 +24,4 @@ pub mod Verdicts
 pub mod OneLine
 pub mod Messages
 pub mod Sites
+pub mod OnLines

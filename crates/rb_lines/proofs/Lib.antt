@@ -5,3 +5,5 @@ mod ReadLaws
 mod Follows
 mod Exits
 mod Progress
+mod Made
+mod Silent

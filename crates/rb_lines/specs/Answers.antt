@@ -75,6 +75,10 @@ pub record IsRunState (s : RunState) : Type 0 where
   pub no_text : (s.rest []).text ≡ []
   pub unfinished : IsUnfinished (s.rest []).fault
 
+-- whatever the lines to come, no text answers any of them
+abbrev pub IsSilent : RunState → Type 0
+IsSilent s = (ls : List (List ℕ)) → (s.rest ls).text ≡ []
+
 -- the line was answered by this text, and the run goes on with the next
 pub record AnswersLine (old new : RunState) (l text : List ℕ) : Type 0 where
   pub follows : (ls : List (List ℕ)) → old.rest (l ∷ ls) ≡ after_text text (new.count - old.count) (new.rest ls)

@@ -1,5 +1,5 @@
 //! What answers the lines of a run.
-ghost use Rattle.std.specs.Prelude.{◌≡◌, ◌++◌, ◌^◌, ◌<◌, ◌≤◌, ℕ, List, length, MatchResult};
+ghost use Rattle.std.specs.Prelude.{◌≡◌, ◌∷◌, ◌++◌, ◌^◌, ◌<◌, ◌≤◌, ℕ, List, length, MatchResult, OnOk};
 ghost use Rattle.rb_lines.specs.Answers.{AnswersLine, EndsAtLine, EndsWith, IsRunState, RunState};
 ghost use Rattle.rb_lines.specs.declared.limits.TheConstants.{LINE_LIMIT};
 
@@ -10,6 +10,11 @@ use std::alloc::Global;
 pub trait Responder {
     // What the lines to come come to, the number of the first of them, and how many were answered.
     ghost state: { Self → RunState };
+
+    // What lines make of it, beside their answers, and what kind of value that is.
+    ghost Made: { Type 0 } = { Unit {0} };
+
+    ghost made: { Self → List (List ℕ) → Made };
 
     /// The number of the next line, from 1.
     fn number(&self) -> u64
@@ -26,10 +31,11 @@ pub trait Responder {
         requires short { length line.now ≤ LINE_LIMIT }
         requires number { (state self.old).number < 2 ^ 63 }
         requires count { (state self.old).count < 2 ^ 63 }
-        ensures { MatchResult result
+        ensures answered { MatchResult result
             (λ _. (text : List ℕ) × (buffered.new.items ≡ buffered.old.items ++ text)
             × AnswersLine (state self.old) (state self.new) line.now text)
-            (λ fault. (buffered.new.items ≡ buffered.old.items) × EndsAtLine (state self.old) line.now fault) };
+            (λ fault. (buffered.new.items ≡ buffered.old.items) × EndsAtLine (state self.old) line.now fault) }
+        ensures made { OnOk result ((ls : List (List ℕ)) → made self.old (line.now ∷ ls) ≡ made self.new ls) };
 
     /// Where there are no more lines: how many were answered, or that there was no configuration.
     fn end(&self) -> Result<u64, ScriptFault>

@@ -1,7 +1,8 @@
 //! A run over lines: each is answered, in order.
-ghost use Rattle.std.specs.Prelude.{◌≡◌, ◌≢◌, ◌↔◌, ◌+◌, ◌++◌, ◌≤◌, ◌⊎◌, List, [], ℕ, true, false, Err, IfSome};
+ghost use Rattle.std.specs.Prelude.{◌≡◌, ◌≢◌, ◌↔◌, ◌+◌, ◌++◌, ◌≤◌, ◌⊎◌, List, [], ℕ, true, false, Err, IfSome, OnOk};
 ghost use Rattle.std.specs.Io.KnownBytes.{Appends};
-ghost use Rattle.rb_lines.specs.Answers.{RunEndsAs, RunWillEndAs};
+ghost use Rattle.rb_lines.specs.Answers.{IsSilent, RunEndsAs, RunWillEndAs};
+ghost use Rattle.rb_lines.specs.Lines.{lines_of};
 ghost use Rattle.rb_lines.specs.declared.fault.ScriptFault.TheVariants.{Gather, Read, Write};
 ghost use Rattle.rb_lines.specs.declared.limits.TheConstants.{MOST_READS};
 
@@ -34,6 +35,10 @@ fn answer_lines<S: Source, W: Sink, R: Responder>(
         × IfSome (S.remaining reader.old)
         (λ input. RunWillEndAs (R.state responder.old).rest result input (S.remaining reader.new)
         (text ++ buffers.new.buffered.items)) }
+    ensures made { OnOk result (IfSome (S.remaining reader.old)
+        (λ input. R.made responder.old (lines_of input) ≡ R.made responder.new [])) }
+    ensures silent { IsSilent (R.state responder.old) → Appends (W.contents writer.old) (W.contents writer.new) []
+        × (W.failed writer.new ≡ false) × (buffers.new.buffered.items ≡ []) }
     ensures read { result ≡ Err Read → (S.failed reader.new ≡ true) ⊎ (S.calls reader.new ≡ MOST_READS) }
     ensures write { (result ≡ Err Write) ↔ (W.failed writer.new ≡ true) }
     // Whatever the reader has, there are no histories to gather.
@@ -70,6 +75,12 @@ pub fn run_lines<S: Source, W: Sink, R: Responder>(
     ensures written { (text : List ℕ) × Appends (W.contents writer.old) (W.contents writer.new) text
         × IfSome (S.remaining reader.old)
         (λ input. RunEndsAs (R.state responder.old).rest result input (S.remaining reader.new) text) }
+    // At the end the responder is as all lines make it.
+    ensures made { OnOk result (IfSome (S.remaining reader.old)
+        (λ input. R.made responder.old (lines_of input) ≡ R.made responder.new [])) }
+    // If no line has an answer, nothing is written, whatever the reader has.
+    ensures silent { IsSilent (R.state responder.old) → Appends (W.contents writer.old) (W.contents writer.new) []
+        × (W.failed writer.new ≡ false) }
     ensures read { result ≡ Err Read → (S.failed reader.new ≡ true) ⊎ (S.calls reader.new ≡ MOST_READS) }
     ensures write { (result ≡ Err Write) ↔ (W.failed writer.new ≡ true) }
     // Whatever the reader has, there are no histories to gather.

@@ -1,15 +1,13 @@
 //! One site by lines.
-ghost use Rattle.std.specs.Prelude.{◌≡◌, ◌<◌, ◌≤◌, Some, None, IfOk, Err, MatchResult};
+ghost use Rattle.std.specs.Prelude.{◌≡◌, ◌<◌, ◌≤◌, Some, None, IfOk, Err};
 ghost use Rattle.rb_money.specs.Settings.{Settings};
-ghost use Rattle.rb_history.specs.declared.fault.LineFault.TheVariants.{Bad};
 ghost use Rattle.rb_site.specs.Seen.{first_seen};
 ghost use Rattle.rb_history.specs.Configurations.{config_on};
 ghost use Rattle.rb_history.specs.ConfigLines.{config_json};
 ghost use Rattle.rb_node.specs.Answers.{line_of};
 
 use crate::fault::NodeFault;
-use rb_history::{LineFault, read_config, write_config};
-use rb_lines::text_on;
+use rb_history::{LineFault, open_config, write_config};
 use rb_money::Config;
 use rb_site::{ErasedEntry, Message, Site};
 use std::alloc::{AllocError, Global};
@@ -38,19 +36,6 @@ impl Model for Node {
     ghost invariant = { λ n. n.site.settings ≡ n.config };
 }
 
-/// The configuration on a line.
-#[tactic(auto, unfolding(rb_history::specs::Configurations::config_on))]
-fn config_of(alloc: Global, line: &[u8]) -> Result<Config, LineFault>
-    ensures { MatchResult result
-        (λ config. config_on line.now ≡ Some config)
-        (λ why. why ≡ Bad → config_on line.now ≡ None) }
-{
-    let Some(text) = text_on(line) else {
-        return Err(LineFault::Bad);
-    };
-    read_config(alloc, text)
-}
-
 impl Node {
     /// The site `me` (0 to 15) of the configuration on a line, before any event.
     ///
@@ -64,7 +49,7 @@ impl Node {
         ensures not_bad_line { result ≡ Err NodeFault.BadLine → ⊥ }
         ensures not_wrong { result ≡ Err NodeFault.WrongReply → ⊥ }
     {
-        let config = match config_of(alloc, line) {
+        let config = match open_config(alloc, line) {
             Ok(config) => config,
             Err(LineFault::Bad) => return Err(NodeFault::BadConfig),
             Err(LineFault::OutOfMemory) => return Err(NodeFault::OutOfMemory),

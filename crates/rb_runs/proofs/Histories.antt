@@ -4,12 +4,6 @@ use Rattle.std.specs.Prelude.{slice_get, slice_set}
 use Rattle.rb_site.specs.declared.entry.Entry.{Entry}
 use Rattle.rb_runs.specs.Inputs.{with_entry}
 
--- an entry more makes no history more
-pub as_many : (site : ℕ) (x : Entry) (hs : List (List Entry)) → length (with_entry site x hs) ≡ length hs
-as_many site x [] = refl
-as_many zero x (h ∷ hs) = refl
-as_many (suc n) x (h ∷ hs) = ap suc (as_many n x hs)
-
 -- to set the history at a place to one with an entry more is to add the entry there
 pub noted : (hs : List (List Entry)) (site : ℕ) (h : List Entry) (x : Entry) → slice_get hs site ≡ Some h
     → slice_set hs site (h ++ x ∷ []) ≡ with_entry site x hs

@@ -1,8 +1,7 @@
 mod Opens
 mod Taken
-mod Follows
-mod Counted
-mod Buffered
+mod Collected
+mod Failures
 mod Reported
 mod Histories
 mod ReadBack

@@ -11,8 +11,8 @@ use Rattle.rb_lines.specs.declared.fault.ScriptFault.{ScriptFault}
 use Rattle.rb_lines.specs.declared.fault.ScriptFault.TheVariants.{BadLine, OutOfMemory}
 use Rattle.rb_runs.specs.declared.audit.collected.Collected.{Collected}
 use Rattle.rb_runs.specs.Inputs.{input_after, with_entry}
-use Rattle.rb_runs.specs.Collects.{InputEndsAt, HasEachSite, Takes, input_rest_from}
-use Rattle.rb_runs.proofs.Histories.{as_many, noted}
+use Rattle.rb_runs.specs.Collects.{InputEndsAt, Takes, input_rest_from}
+use Rattle.rb_runs.proofs.Histories.{noted}
 
 entry_follows : (s : Settings) (hs : List (List Entry)) (n : ℕ) (l : List ℕ) (x : ℕ × Entry) (ls : List (List ℕ)) → is_long l ≡ false
     → is_blank l ≡ false → entry_on s l ≡ Some x → input_after s hs n (l ∷ ls) ≡ input_after s (with_entry x.0 x.1 hs) (n + 1) ls
@@ -31,27 +31,18 @@ one_more a b x n ls m =
 
 -- the line of an entry was taken by the auditor a, which is then b
 pub entry_taken : (old new : Collected) (l : List ℕ) (a b : Audited) (r : Result Unit ScriptFault) → old.auditor ≡ Some a
-    → HasEachSite old → is_long l ≡ false → is_blank l ≡ false → new.auditor ≡ Some b → new.number ≡ old.number + 1
+    → is_long l ≡ false → is_blank l ≡ false → new.auditor ≡ Some b → new.number ≡ old.number + 1
     → MatchResult r (λ _. (x : ℕ × Entry) × (entry_on a.settings l ≡ Some x) × HasMore a b x.0 (x.1 ∷ []))
     (λ fault. (fault ≡ OutOfMemory) ⊎ ((fault ≡ BadLine old.number) × (entry_on a.settings l ≡ None)))
     → MatchResult r (λ _. Takes old new l) (InputEndsAt old l)
-entry_taken old new l a b (Ok u) at each short some now number (x, is, more) = record {
+entry_taken old new l a b (Ok u) at short some now number (x, is, more) = record {
   follows = λ ls. ap (λ m. input_rest_from m old.number (l ∷ ls)) at
       ∙ entry_follows a.settings a.histories old.number l x ls short some is
       ∙ one_more a b x (old.number + 1) ls more
       ∙ ap (λ k. input_after b.settings b.histories k ls) (sym number)
       ∙ ap (λ m. input_rest_from m new.number ls) (sym now);
   number = number;
-  each = λ t e. counted t (same_some b t (sym now ∙ e));
 }
-  where
-    same_some : (y z : Audited) → Some y ≡ Some z → y ≡ z
-    same_some y z q = cc
-
-    counted : (t : Audited) → b ≡ t → length t.histories ≡ t.settings.sites
-    counted t q = subst (λ (o : Audited). length o.histories ≡ o.settings.sites) q
-        (ap (λ (o : Audited). length o.histories) more.is ∙ ap length (noted a.histories x.0 more.history x.1 more.there)
-        ∙ as_many x.0 x.1 a.histories ∙ each a at ∙ sym (ap (λ (o : Audited). o.settings.sites) more.is))
-entry_taken old new l a b (Err fault) at each short some now number (inl e) = subst (InputEndsAt old l) (sym e) tt
-entry_taken old new l a b (Err fault) at each short some now number (inr (e, none)) = subst (InputEndsAt old l) (sym e)
+entry_taken old new l a b (Err fault) at short some now number (inl e) = subst (InputEndsAt old l) (sym e) tt
+entry_taken old new l a b (Err fault) at short some now number (inr (e, none)) = subst (InputEndsAt old l) (sym e)
     (λ ls. ap (λ m. input_rest_from m old.number (l ∷ ls)) at ∙ bad_follows a.settings a.histories old.number l ls short some none)

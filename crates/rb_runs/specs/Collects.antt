@@ -1,6 +1,10 @@
 -- How far the lines of an audit were collected.
-use Rattle.std.specs.Prelude.{◌≡◌, ℕ, ◌+◌, List, ◌∷◌, Option, Some, None, Result, Err, length}
+use Rattle.std.specs.Prelude.{◌≡◌, ℕ, ◌+◌, List, [], ◌∷◌, Option, Some, None, Result, Ok, Err, refl}
+use Rattle.std.proofs.Common.{ap}
 use Rattle.rb_auditor.specs.Audits.{Audited}
+use Rattle.rb_lines.proofs.Public.Chosen.{first_chosen}
+use Rattle.rb_lines.specs.Answers.{IsRunState, LinesOutcome, RunState, no_outcome}
+use Rattle.rb_lines.specs.Lines.{is_long}
 use Rattle.rb_lines.specs.declared.fault.ScriptFault.{ScriptFault}
 use Rattle.rb_lines.specs.declared.fault.ScriptFault.TheVariants.{NoConfig, BadConfig, BadLine, LongLine, Read, Write, OutOfMemory, Gather}
 use Rattle.rb_runs.specs.declared.audit.collected.Collected.{Collected}
@@ -14,15 +18,36 @@ input_rest_from (Some a) n ls = input_after a.settings a.histories n ls
 abbrev pub input_rest : Collected → List (List ℕ) → Result Input ScriptFault
 input_rest c ls = input_rest_from c.auditor c.number ls
 
--- there is one history for each site of the configuration
-abbrev pub HasEachSite : Collected → Type 0
-HasEachSite c = (a : Audited) → c.auditor ≡ Some a → length a.histories ≡ a.settings.sites
+-- the lines of an input are answered by no text
+abbrev pub input_outcome : Result Input ScriptFault → LinesOutcome
+input_outcome (Ok x) = record { text = []; count = 0; fault = None }
+input_outcome (Err f) = no_outcome f
+
+-- the state of a run with what was collected
+abbrev pub collected_state : Collected → RunState
+collected_state c = record { rest = λ ls. input_outcome (input_rest c ls); number = c.number; count = 0 }
+
+-- a line that is too long ends the audit, and no line is no bad line
+pub collected_is_state : (c : Collected) → IsRunState (collected_state c)
+collected_is_state c = of c.auditor c.number
+  where
+    of : (m : Option Audited) (n : ℕ) →
+        IsRunState (record { rest = λ ls. input_outcome (input_rest_from m n ls); number = n; count = 0 })
+    of None n = record {
+      long = λ l ls long. ap input_outcome (first_chosen (is_long l) _ _ long);
+      no_text = refl;
+      unfinished = tt;
+    }
+    of (Some a) n = record {
+      long = λ l ls long. ap input_outcome (first_chosen (is_long l) _ _ long);
+      no_text = refl;
+      unfinished = tt;
+    }
 
 -- one line was taken
 pub record Takes (old new : Collected) (l : List ℕ) : Type 0 where
   pub follows : (ls : List (List ℕ)) → input_rest old (l ∷ ls) ≡ input_rest new ls
   pub number : new.number ≡ old.number + 1
-  pub each : HasEachSite new
 
 -- whatever follows, the input ends at this line; nothing is said of running out of memory
 abbrev pub InputEndsAt : Collected → List ℕ → ScriptFault → Type 0

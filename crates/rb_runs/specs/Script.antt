@@ -1,21 +1,16 @@
 -- What a script's lines say: its configuration and its commands, up to the first line that is bad.
 use Rattle.std.specs.Prelude.{ℕ, ◌+◌, List, [], ◌∷◌, length, Option, Some, None, Result, if◌then◌else◌, flat_map}
 use Rattle.std.specs.Option.{option_map_or}
-use Rattle.std.specs.Str.{is_utf8}
 use Rattle.rb_money.specs.Settings.{Settings}
 use Rattle.rb_site.specs.declared.world_event.WorldEvent.{WorldEvent}
 use Rattle.rb_world.specs.Laws.{SeenWorld, next_replies, opened}
-use Rattle.rb_history.specs.Commands.{command_at}
 use Rattle.rb_history.specs.Configurations.{config_on}
 use Rattle.rb_history.specs.Replies.{line}
+use Rattle.rb_history.specs.OnLines.{command_on}
 use Rattle.rb_lines.specs.Answers.{LinesOutcome, RunEndsAs, no_outcome}
 use Rattle.rb_lines.specs.Lines.{is_blank, is_long}
 use Rattle.rb_lines.specs.declared.fault.ScriptFault.{ScriptFault}
 use Rattle.rb_lines.specs.declared.fault.ScriptFault.TheVariants.{NoConfig, BadConfig, BadLine, LongLine}
-
--- the command on a line, at these settings
-unfoldable pub command_on : Settings → List ℕ → Option WorldEvent
-command_on s l = if is_utf8 l then command_at s l else None
 
 -- a script's commands up to its first bad line, and what is wrong with that
 pub record Commands : Type 0 where

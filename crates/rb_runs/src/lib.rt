@@ -1,8 +1,9 @@
 //! Whole runs between a reader and a writer, a line each: a script, an audit and a migration.
-//! Tests: rb_tests_runs, scripts.rt, audits.rt, migrations.rt.
+//! Tests: rb_tests_runs, scripts.rt, audits.rt, audited.rt, migrations.rt.
 #![tactic(auto)]
 
 mod audit;
+mod fault;
 mod migrate;
 mod script;
 

@@ -7,11 +7,12 @@ ghost use Rattle.rb_site.specs.declared.entry.Entry.{Entry as TheEntry};
 ghost use Rattle.rb_history.specs.Entries.{entry_on};
 ghost use Rattle.rb_history.specs.declared.fault.LineFault.TheVariants.{Bad};
 ghost use Rattle.rb_lines.specs.declared.limits.TheConstants.{LINE_LIMIT};
-ghost use Rattle.rb_runs.specs.Collects.{InputEndsAt, HasEachSite, Takes};
+ghost use Rattle.rb_runs.specs.Collects.{InputEndsAt, Takes};
 
+use crate::fault::fault_at;
 use rb_auditor::Auditor;
-use rb_history::{LineFault, read_config, read_entry};
-use rb_lines::{ScriptFault, is_blank, text_on};
+use rb_history::{LineFault, open_config, read_entry};
+use rb_lines::{Responder, ScriptFault, is_blank, text_on};
 use rb_money::Config;
 use rb_site::{Entry, Event, Reply};
 use std::alloc::Global;
@@ -23,20 +24,7 @@ pub struct Collected {
     pub number: u64,
 }
 
-/// The configuration on a line.
-#[tactic(auto, unfolding(rb_history::specs::Configurations::config_on))]
-fn config_of(alloc: Global, line: &[u8]) -> Result<Config, LineFault>
-    ensures { MatchResult result
-        (λ config. config_on line.now ≡ Some config)
-        (λ why. why ≡ Bad → config_on line.now ≡ None) }
-{
-    let Some(text) = text_on(line) else {
-        return Err(LineFault::Bad);
-    };
-    read_config(alloc, text)
-}
-
-/// The entry on a line, in its place, and its site. It may be any where there is none.
+/// The entry on a line, in its place, and its site. It may be any if there is none.
 #[inline(always)]
 #[tactic(auto, unfolding(rb_history::specs::Entries::entry_on))]
 fn entry_of(alloc: Global, config: &Config, line: &[u8], entry: &mut Entry) -> Result<u8, LineFault>
@@ -71,10 +59,9 @@ impl Collected {
             (λ fault. (fault ≡ ScriptFault.OutOfMemory)
             ⊎ ((fault ≡ ScriptFault.BadConfig number) × (config_on line.now ≡ None))) }
     {
-        let config = match config_of(alloc, line) {
+        let config = match open_config(alloc, line) {
             Ok(config) => config,
-            Err(LineFault::Bad) => return Err(ScriptFault::BadConfig { line: number }),
-            Err(LineFault::OutOfMemory) => return Err(ScriptFault::OutOfMemory),
+            Err(why) => return Err(fault_at(why, ScriptFault::BadConfig { line: number })),
         };
         let auditor = Auditor::open(alloc, config)?;
         if let Some(before) = self.auditor.replace(auditor) {
@@ -86,10 +73,9 @@ impl Collected {
     /// Takes one line, which isn't too long.
     ///
     /// Refuses with `BadConfig` or `BadLine`, by the line's number, or `OutOfMemory`; the audit ends then.
-    pub fn take_line(&mut self, alloc: Global, line: &[u8]) -> Result<(), ScriptFault>
+    fn take_line(&mut self, alloc: Global, line: &[u8]) -> Result<(), ScriptFault>
         requires short { length line.now ≤ LINE_LIMIT }
         requires number { self.old.number < 2 ^ 63 }
-        requires each { HasEachSite self.old }
         ensures { MatchResult result (λ _. Takes self.old self.new line.now) (InputEndsAt self.old line.now) }
     {
         let number = self.number;
@@ -119,6 +105,42 @@ impl Collected {
     }
 }
 
+impl Responder for Collected {
+    ghost use Rattle.std.specs.Prelude.{Result};
+    ghost use Rattle.rb_lines.specs.declared.fault.ScriptFault.{ScriptFault as TheFault};
+    ghost use Rattle.rb_runs.specs.Collects.{collected_is_state, collected_state, input_rest};
+    ghost use Rattle.rb_runs.specs.Inputs.{Input};
+
+    ghost state = { collected_state };
+
+    ghost Made = { Result Input TheFault };
+
+    ghost made = { input_rest };
+
+    fn number(&self) -> u64 {
+        self.number
+    }
+
+    // Nothing is answered before the end.
+    fn answer_line(
+        &mut self,
+        alloc: Global,
+        line: &[u8],
+        buffered: &mut Vec<u8>,
+    ) -> Result<(), ScriptFault> {
+        self.take_line(alloc, line)
+    }
+
+    fn end(&self) -> Result<u64, ScriptFault> {
+        match self.auditor {
+            Some(_) => Ok(0),
+            None => Err(ScriptFault::NoConfig),
+        }
+    }
+
+    ghost is_run_state = { collected_is_state };
+}
+
 /// Takes the line of an entry: the auditor reads it.
 fn take_entry(
     alloc: Global,
@@ -126,7 +148,6 @@ fn take_entry(
     number: u64,
     line: &[u8],
 ) -> Result<(), ScriptFault>
-    requires { length auditor.old.histories ≡ auditor.old.settings.sites }
     ensures { MatchResult result
         (λ _. (x : ℕ × TheEntry) × (entry_on auditor.old.settings line.now ≡ Some x)
         × HasMore auditor.old auditor.new x.0 (x.1 ∷ []))
@@ -139,7 +160,6 @@ fn take_entry(
     };
     match entry_of(alloc, auditor.config(), line, &mut entry) {
         Ok(site) => Ok(auditor.take(site, &entry)?),
-        Err(LineFault::Bad) => Err(ScriptFault::BadLine { line: number }),
-        Err(LineFault::OutOfMemory) => Err(ScriptFault::OutOfMemory),
+        Err(why) => Err(fault_at(why, ScriptFault::BadLine { line: number })),
     }
 }

@@ -1,17 +1,16 @@
 //! A whole audit, from bytes to bytes.
-ghost use Rattle.std.specs.Prelude.{◌≡◌, ◌↔◌, ◌≢◌, ◌+◌, ◌≤◌, ◌⊎◌, List, [], ℕ, true, false, Err, None, IfSome, OnOk};
+ghost use Rattle.std.specs.Prelude.{◌≡◌, ◌↔◌, ◌≢◌, ◌+◌, ◌≤◌, ◌⊎◌, List, [], ℕ, true, false, Err, None, IfSome};
 ghost use Rattle.std.specs.Io.KnownBytes.{Appends};
 ghost use Rattle.rb_lines.specs.declared.fault.ScriptFault.TheVariants.{Gather, Read, Write};
 ghost use Rattle.rb_lines.specs.declared.limits.TheConstants.{MOST_READS};
-ghost use Rattle.rb_runs.specs.Collects.{HasEachSite};
 ghost use Rattle.rb_runs.specs.Audit.{CollectsAs, AuditEndsAs};
 
 use crate::audit::answer::answer;
 use crate::audit::collected::Collected;
-use rb_lines::{Buffers, ScriptFault, Sink, Source, write_all};
+use rb_lines::{ScriptFault, Sink, Source, run_lines, write_all};
 use std::alloc::Global;
 
-/// Takes each line of the reader's bytes. Nothing is buffered for the writer, so nothing is written.
+/// Takes each line of the reader's bytes. None is answered, so nothing is written.
 fn collect<S: Source, W: Sink>(
     alloc: Global,
     reader: &mut S,
@@ -23,7 +22,6 @@ fn collect<S: Source, W: Sink>(
     requires first { (collected.old.auditor ≡ None) × (collected.old.number ≡ 1) }
     ensures written { Appends (W.contents writer.old) (W.contents writer.new) [] }
     ensures fresh { W.failed writer.new ≡ false }
-    ensures each { OnOk result (HasEachSite collected.new) }
     ensures input { IfSome (S.remaining reader.old)
         (λ input. CollectsAs result collected.new input (S.remaining reader.new)) }
     ensures read { result ≡ Err Read → (S.failed reader.new ≡ true) ⊎ (S.calls reader.new ≡ MOST_READS) }
@@ -31,17 +29,8 @@ fn collect<S: Source, W: Sink>(
     ensures gather { result ≢ Err Gather }
     ensures calls { S.calls reader.new ≤ S.calls reader.old + MOST_READS }
 {
-    let mut buffers = Buffers::new(alloc);
-    'lines: loop {
-        let n = match buffers.next_line(reader, writer) {
-            Ok(Some(n)) => n,
-            Ok(None) => return Ok(()),
-            Err(why) => return Err(why.fault_at(collected.number)),
-        };
-        let line = &buffers.pending.as_slice()[..n];
-        collected.take_line(alloc, line)?;
-        buffers.skip_line(n);
-    }
+    run_lines(alloc, reader, writer, collected)?;
+    Ok(())
 }
 
 /// Audits the histories in the reader's bytes, answers one line, and says whether they have an order.

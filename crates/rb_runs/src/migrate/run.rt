@@ -14,7 +14,7 @@ use std::alloc::Global;
 ///
 /// The first line that isn't to be skipped is the configuration, and each later one an entry of a site's history, both
 /// of either version. The lines of one read go out before the next read, in one write where they fit. What was written
-/// before a fault goes out before the fault is reported; where that write fails, the fault is `Write`.
+/// before a fault goes out before the fault is reported; if that write fails, the fault is `Write`.
 pub fn run_migrate<S: Source, W: Sink>(
     alloc: Global,
     reader: &mut S,

@@ -7,8 +7,10 @@ ghost use Rattle.rb_history.specs.Entries.{entry_on};
 ghost use Rattle.rb_runs.specs.Migration.{migrated_config_line, migrated_entry_line};
 ghost use Rattle.rb_runs.specs.MigrationSession.{first_migration};
 
+use crate::fault::fault_at;
 use crate::migrate::versions::Versions;
-use rb_history::{LineFault, read_config};
+use rb_history::LineFault;
+use rb_history::open_config;
 use rb_lines::{Responder, ScriptFault, is_blank, text_on};
 use std::alloc::Global;
 
@@ -22,17 +24,13 @@ pub struct Session {
 }
 
 /// The configuration on a line, which is buffered in version 2. An `Err` buffers nothing.
-#[tactic(auto, unfolding(rb_history::specs::Configurations::config_on))]
 fn open(alloc: Global, line: &[u8], buffered: &mut Vec<u8>) -> Result<Versions, LineFault>
     ensures opened { MatchResult result
         (λ s. (config_on line.now ≡ Some s) × (buffered.new.items ≡ buffered.old.items ++ migrated_config_line s))
         (λ why. why ≡ Bad → config_on line.now ≡ None) }
     ensures err { OnErr result (buffered.new.items ≡ buffered.old.items) }
 {
-    let Some(text) = text_on(line) else {
-        return Err(LineFault::Bad);
-    };
-    let config = read_config(alloc, text)?;
+    let config = open_config(alloc, line)?;
     let Ok(versions) = Versions::new(config) else {
         return Err(LineFault::OutOfMemory);
     };
@@ -80,6 +78,8 @@ impl Responder for Session {
 
     ghost state = { migration_state };
 
+    ghost made = { λ _ _. tt };
+
     fn number(&self) -> u64 {
         self.number
     }
@@ -98,16 +98,14 @@ impl Responder for Session {
         let Some(versions) = &self.versions else {
             match open(alloc, line, buffered) {
                 Ok(versions) => self.versions = Some(versions),
-                Err(LineFault::Bad) => return Err(ScriptFault::BadConfig { line: number }),
-                Err(LineFault::OutOfMemory) => return Err(ScriptFault::OutOfMemory),
+                Err(why) => return Err(fault_at(why, ScriptFault::BadConfig { line: number })),
             }
             self.count += 1;
             return Ok(());
         };
         match answer_entry(alloc, versions, line, buffered) {
             Ok(()) => self.count += 1,
-            Err(LineFault::Bad) => return Err(ScriptFault::BadLine { line: number }),
-            Err(LineFault::OutOfMemory) => return Err(ScriptFault::OutOfMemory),
+            Err(why) => return Err(fault_at(why, ScriptFault::BadLine { line: number })),
         }
         Ok(())
     }

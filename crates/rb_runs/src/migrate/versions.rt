@@ -29,8 +29,7 @@ impl Model for Versions {
     ghost invariant = { λ v. v.written ≡ in_version_2 v.read };
 }
 
-/// Adds a line feed, where the bytes after the first `before` are a line. An `Err` means out of memory, and takes the
-/// line away.
+/// Adds a line feed to the line after the first `before` bytes. An `Err` means out of memory, and takes the line away.
 #[tactic(auto, using(crate::proofs::Ended::cut_back))]
 fn end_line(out: &mut Vec<u8>, before: usize) -> Result<(), AllocError>
     requires { before ≤ length out.old.items }

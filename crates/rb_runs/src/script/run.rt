@@ -13,7 +13,7 @@ use std::alloc::Global;
 ///
 /// The first line that isn't to be skipped is the configuration, and each later one a command. The replies to the whole
 /// lines of one read go out before the next read, in one write where they fit. What was answered before a fault goes
-/// out before the fault is reported; where that write fails, the fault is `Write`.
+/// out before the fault is reported; if that write fails, the fault is `Write`.
 pub fn run_script<S: Source, W: Sink>(
     alloc: Global,
     reader: &mut S,

@@ -6,9 +6,11 @@ ghost use Rattle.rb_history.specs.declared.fault.LineFault.TheVariants.{Bad};
 ghost use Rattle.rb_history.specs.Configurations.{config_on};
 ghost use Rattle.rb_runs.specs.ScriptSession.{first_session};
 
+use crate::fault::fault_at;
 use crate::script::command::answer_command;
-use rb_history::{LineFault, read_config};
-use rb_lines::{Responder, ScriptFault, is_blank, text_on};
+use rb_history::LineFault;
+use rb_history::open_config;
+use rb_lines::{Responder, ScriptFault, is_blank};
 use rb_money::Refusal;
 use rb_site::Reply;
 use rb_world::LeanWorld;
@@ -24,16 +26,12 @@ pub struct Session {
 }
 
 /// The world before any event of the configuration on a line.
-#[tactic(auto, unfolding(rb_history::specs::Configurations::config_on))]
 fn open_world(alloc: Global, line: &[u8]) -> Result<LeanWorld, LineFault>
     ensures { MatchResult result
         (λ world. (s : Settings) × (config_on line.now ≡ Some s) × (world ≡ opened s))
         (λ why. why ≡ Bad → config_on line.now ≡ None) }
 {
-    let Some(text) = text_on(line) else {
-        return Err(LineFault::Bad);
-    };
-    let config = read_config(alloc, text)?;
+    let config = open_config(alloc, line)?;
     match LeanWorld::open_keeping(alloc, config) {
         Ok(world) => Ok(world),
         Err(_) => Err(LineFault::OutOfMemory),
@@ -94,6 +92,8 @@ impl Responder for Session {
 
     ghost state = { session_state };
 
+    ghost made = { λ _ _. tt };
+
     fn number(&self) -> u64 {
         self.number
     }
@@ -112,15 +112,13 @@ impl Responder for Session {
         let Some(world) = &mut self.world else {
             match self.open(alloc, line) {
                 Ok(()) => {}
-                Err(LineFault::Bad) => return Err(ScriptFault::BadConfig { line: number }),
-                Err(LineFault::OutOfMemory) => return Err(ScriptFault::OutOfMemory),
+                Err(why) => return Err(fault_at(why, ScriptFault::BadConfig { line: number })),
             }
             return Ok(());
         };
         match answer_command(alloc, world, &mut self.reply, line, buffered) {
             Ok(()) => self.count += 1,
-            Err(LineFault::Bad) => return Err(ScriptFault::BadLine { line: number }),
-            Err(LineFault::OutOfMemory) => return Err(ScriptFault::OutOfMemory),
+            Err(why) => return Err(fault_at(why, ScriptFault::BadLine { line: number })),
         }
         Ok(())
     }

@@ -2,7 +2,7 @@ use Rattle.std.proofs.Common.{◌≡◌, ◌∙◌, [], Err, ap, sym}
 use Rattle.std.proofs.lemmas.Bool.{false≢true}
 use Rattle.std.proofs.lemmas.Result.{err_from_is_err_and}
 use Rattle.rb_lines.specs.declared.fault.ScriptFault.TheVariants.{Gather, Read, Write}
-use Rattle.rb_runs.proofs.Counted.{same_reason}
+use Rattle.rb_runs.proofs.Failures.{same_reason}
 use Rattle.rb_runs.proofs.Reported.{reported, part_reported}
 use Rattle.rb_runs.proofs.audit.run.run_audit.Goals as goal
 

@@ -9,4 +9,4 @@ returns c =
     let short : is_long c.args.line.now ≡ false = search rules in
     let some : is_blank c.args.line.now ≡ false = search rules in
     entry_taken c.args.self.now _ c.args.line.now c.in-Some.auditor c.take_entry.new.auditor c.take_entry.result
-    c.in-Some.is c.requires.each short some refl refl c.take_entry.ensures
+    c.in-Some.is short some refl refl c.take_entry.ensures

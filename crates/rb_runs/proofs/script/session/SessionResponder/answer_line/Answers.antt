@@ -3,8 +3,8 @@ use Rattle.rb_lines.specs.Lines.{is_blank, is_long}
 use Rattle.rb_runs.proofs.Opens.{opens}
 use Rattle.rb_runs.proofs.script.session.SessionResponder.answer_line.Goals as goal
 
-pub returns-in_default : goal.returns-in_default
-returns-in_default c =
+pub returns-in_default-clause-answered : goal.returns-in_default-clause-answered
+returns-in_default-clause-answered c =
     let (settings, on, started) = c.in-Ok.ensures in
     let short : is_long c.args.line.now ≡ false = search rules in
     let some : is_blank c.args.line.now ≡ false = search rules in (

@@ -1,0 +1,42 @@
+//! What the bytes of a line are: its text is read if it is UTF-8.
+ghost use Rattle.std.specs.Prelude.{◌≡◌, None, Some, IfOk, MatchResult};
+ghost use Rattle.rb_history.specs.Configurations.{config_on};
+ghost use Rattle.rb_history.specs.declared.fault.LineFault.TheVariants.{Bad};
+ghost use Rattle.rb_history.specs.OnLines.{command_on};
+ghost use Rattle.rb_site.specs.Worlds.{IsCommand};
+
+use crate::fault::LineFault;
+use crate::lines::command::read_command;
+use crate::read::config::read_config;
+use rb_lines::text_on;
+use rb_money::Config;
+use rb_site::WorldEvent;
+use std::alloc::Global;
+
+/// The configuration on a line: `Bad` if it is none, `OutOfMemory` if there was no memory to read it.
+#[tactic(auto, unfolding(crate::specs::Configurations::config_on))]
+pub fn open_config(alloc: Global, line: &[u8]) -> Result<Config, LineFault>
+    ensures { MatchResult result
+        (λ config. config_on line.now ≡ Some config)
+        (λ why. why ≡ Bad → config_on line.now ≡ None) }
+{
+    let Some(text) = text_on(line) else {
+        return Err(LineFault::Bad);
+    };
+    read_config(alloc, text)
+}
+
+/// The command on a line, under a configuration: `Bad` if it is none, `OutOfMemory` if there was no memory to read it.
+#[inline(always)]
+#[tactic(auto, unfolding(crate::specs::OnLines::command_on))]
+pub fn open_command(alloc: Global, config: &Config, line: &[u8]) -> Result<WorldEvent, LineFault>
+    ensures value { MatchResult result
+        (λ command. command_on config.now line.now ≡ Some command)
+        (λ why. why ≡ Bad → command_on config.now line.now ≡ None) }
+    ensures command { IfOk result IsCommand }
+{
+    let Some(text) = text_on(line) else {
+        return Err(LineFault::Bad);
+    };
+    read_command(alloc, config, text)
+}
