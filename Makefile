@@ -3,7 +3,7 @@
 help:
 	@echo 'At once:'
 	@echo '  make demo          the stored run, drawn, each command beside its reply; a minute'
-	@echo '  make try FILE=examples/stale_token.jsonl'
+	@echo '  make try FILE=examples/scripts/stale_token.jsonl'
 	@echo '                     a script, histories or a migration (NAME.migration.jsonl), run with no proof; it builds'
 	@echo '                     for a minute each time'
 	@echo
@@ -28,12 +28,12 @@ help:
 
 # The stored run, drawn, each command beside its reply.
 demo:
-	@examples/demo.py --draw
+	@examples/tools/demo.py --draw
 
 # A file through the sources as they are, with no proof.
 try:
-	@test -n "$(FILE)" || { echo 'usage: make try FILE=examples/stale_token.jsonl'; exit 2; }
-	@examples/bank.py --try "$(FILE)"
+	@test -n "$(FILE)" || { echo 'usage: make try FILE=examples/scripts/stale_token.jsonl'; exit 2; }
+	@examples/tools/bank.py --try "$(FILE)"
 
 # Proves and builds the program, and prints where it lies.
 build:
@@ -46,14 +46,14 @@ PREFIX ?= /usr/local
 install:
 	@test -x crates/rbbank/out/rbbank || { echo 'there is no program yet: make build'; exit 1; }
 	@install -D -m 755 crates/rbbank/out/rbbank "$(DESTDIR)$(PREFIX)/bin/rbbank"
-	@examples/from_help.py "$(DESTDIR)$(PREFIX)/bin/rbbank" "$(DESTDIR)$(PREFIX)"
+	@examples/tools/from_help.py "$(DESTDIR)$(PREFIX)/bin/rbbank" "$(DESTDIR)$(PREFIX)"
 
 # Every script, all histories and migrations of examples/, and the cases of tests/cases, through the program.
 examples: build
-	@examples/check.py crates/rbbank/out/rbbank
-	@examples/check_drawings.py crates/rbbank/out/rbbank
+	@examples/tools/check.py crates/rbbank/out/rbbank
+	@examples/tools/check_drawings.py crates/rbbank/out/rbbank
 	@tests/cases.py crates/rbbank/out/rbbank
-	@examples/from_help.py --check crates/rbbank/out/rbbank
+	@examples/tools/from_help.py --check crates/rbbank/out/rbbank
 	@tests/sites.py crates/rbbank/out/rbbank
 
 # The library in bindings/out, its tests in each language, the same answers by each of them, and the shop. What is
@@ -64,18 +64,18 @@ bindings: build
 
 # The gate. The last line is 'N passed, 0 failed', or an example or a case that is answered otherwise. It wants cc.
 test: toolchain
-	examples/from_rows.py --check
+	examples/tools/from_rows.py --check
 	tests/closure.py --check
 	tests/wrong_bodies.py --check
 	tests/plain_words.py --check
 	bindings/declarations.py --check
 	rt ci
 	@tests/refuse.py --gate crates/rb_tests/out/rb_tests_tests crates/rb_tests_runs/out/rb_tests_runs_tests
-	@examples/bank.py --record crates/rbbank/out/rbbank
-	@examples/check.py --quiet crates/rbbank/out/rbbank
-	@examples/check_drawings.py --quiet crates/rbbank/out/rbbank
+	@examples/tools/bank.py --record crates/rbbank/out/rbbank
+	@examples/tools/check.py --quiet crates/rbbank/out/rbbank
+	@examples/tools/check_drawings.py --quiet crates/rbbank/out/rbbank
 	@tests/cases.py --quiet crates/rbbank/out/rbbank
-	@examples/from_help.py --check crates/rbbank/out/rbbank
+	@examples/tools/from_help.py --check crates/rbbank/out/rbbank
 	@tests/sites.py --quiet crates/rbbank/out/rbbank
 	@tests/crash.py --quiet crates/rbbank/out/rbbank --kills 20 --seed 1
 

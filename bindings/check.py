@@ -83,8 +83,8 @@ def example():
         journal = os.path.join(folder, "journal")
         found = run([program, journal])
         kept = stored(journal)
-    site = stored(os.path.join(EXAMPLES, "site_deposit.site.expected")).splitlines(keepends=True)[0]
-    entry = stored(os.path.join(EXAMPLES, "site_deposit.site.journal")).splitlines(keepends=True)[1]
+    site = stored(os.path.join(EXAMPLES, "sites", "site_deposit.site.expected")).splitlines(keepends=True)[0]
+    entry = stored(os.path.join(EXAMPLES, "sites", "site_deposit.site.journal")).splitlines(keepends=True)[1]
     replies = b'{"kind":"deposit","name":"B0.1"}\n{"held":"B0.1"}\n{"applied":"B0.1"}\n{"balance":500}\n'
     return found == (replies + site, b"", 0) and kept.splitlines(keepends=True)[1:] == [entry]
 
@@ -149,7 +149,7 @@ def row(rows, path, word):
 
 def same_rows(name, rows):
     """Each example through the rows of a language."""
-    for path in sorted(glob.glob(os.path.join(EXAMPLES, "*.jsonl"))):
+    for path in sorted(glob.glob(os.path.join(EXAMPLES, "*", "*.jsonl")), key=os.path.basename):
         kind = WORDS.get(path.removesuffix(".jsonl").rpartition(".")[2], "script")
         for word in ["script", "bank"] if kind == "script" else [kind]:
             yield f"{name}, {word}: {os.path.basename(path)}", row(rows, path, word)

@@ -27,7 +27,7 @@ import one_teller
 
 HERE = os.path.dirname(os.path.abspath(__file__))
 EXAMPLES = os.path.join(os.path.dirname(HERE), "examples")
-sys.path.insert(0, EXAMPLES)
+sys.path.insert(0, os.path.join(EXAMPLES, "tools"))
 import from_rows  # noqa: E402
 
 BANK = '{"accounts":[["ann",0]],"sites":2,"version":1}'
@@ -216,7 +216,7 @@ def tellers_run(program, sites, tellers, version):
 
 def is_example():
     """Whether the run of examples/ is the one of the same sites and seed that is made here."""
-    with open(os.path.join(EXAMPLES, "tellers.histories.jsonl"), encoding="utf-8") as file:
+    with open(os.path.join(EXAMPLES, "histories", "tellers.histories.jsonl"), encoding="utf-8") as file:
         return file.read() == one_teller.text(2, 0)
 
 

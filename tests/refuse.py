@@ -35,7 +35,7 @@ ROWS = [
     "as_of_each_position",
 ]
 # what the program is run on, and by which command
-RUNS = [(name, "script") for name in ROWS] + [("migrated_history.migration", "migrate")]
+RUNS = [(f"scripts/{name}", "script") for name in ROWS] + [("migrations/migrated_history.migration", "migrate")]
 ONE_TELLER = (2, 0)  # the sites and the seed of a run of one teller
 SECONDS = 60
 

@@ -51,8 +51,8 @@ EVENTS = b"""{"deposit":["ann",500]}
 
 
 def stored(name):
-    """A file of examples/."""
-    with open(os.path.join(EXAMPLES, name), "rb") as file:
+    """A file of examples/sites."""
+    with open(os.path.join(EXAMPLES, "sites", name), "rb") as file:
         return file.read()
 
 
@@ -369,7 +369,7 @@ def of_the_page(sites):
     with tempfile.TemporaryDirectory() as folder:
         os.makedirs(os.path.join(folder, "bin"))
         os.symlink(sites.program, os.path.join(folder, "bin", "rbbank"))
-        path = os.pathsep.join([os.path.join(folder, "bin"), EXAMPLES, os.environ["PATH"]])
+        path = os.pathsep.join([os.path.join(folder, "bin"), os.path.join(EXAMPLES, "tools"), os.environ["PATH"]])
         # As in an interactive shell, each job is a process group of its own, which `kill %1` ends.
         script = "set -m; trap 'kill %1 %2' EXIT\n" + given
         run = subprocess.run(["timeout", "60", "bash", "-c", script], cwd=folder, stdout=subprocess.PIPE,

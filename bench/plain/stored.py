@@ -11,7 +11,7 @@ import sys
 sys.dont_write_bytecode = True
 HERE = os.path.dirname(os.path.abspath(__file__))
 ROOT = sys.argv[2] if len(sys.argv) > 2 else os.path.join(HERE, "..", "..")
-sys.path[:0] = [os.path.join(ROOT, folder) for folder in ("tests", "examples")]
+sys.path[:0] = [os.path.join(ROOT, folder) for folder in ("tests", "examples/tools")]
 import bank  # noqa: E402
 import cases  # noqa: E402
 
@@ -41,7 +41,7 @@ def main():
     all_cases = [*cases.written_down(), *cases.made_here()]
     of_words = [case for case in all_cases if case.words[:1] and case.words[0] in WORDS]
     results = [(case.name, cases.passes(program, case)) for case in of_words if len(case.words) == 1]
-    paths = sorted(glob.glob(os.path.join(ROOT, "examples", "*.jsonl")))
+    paths = sorted(glob.glob(os.path.join(ROOT, "examples", "*", "*.jsonl")))
     results += [(path, is_same(program, path)) for path in paths if bank.word_of(path) in WORDS]
     different = [name for name, same in results if not same]
     print(*(f"DIFFERENT {name}" for name in different), f"{len(results)} runs, {len(different)} different", sep="\n")

@@ -43,7 +43,7 @@ start() {
     { echo $BASHPID > "$folder/in$1.pid"; echo "$bank"
       exec mosquitto_sub -p "$port" -q 1 -c -i "site$1" -t "bank/$1"; } |
         { echo $BASHPID > "$folder/site$1.pid"; exec "$program" site --me "$1" --journal "$folder/$1.journal"; } |
-        "$here/../wire.py" --me "$1" --sites 3 --to "mosquitto_pub -p $port -q 1 -l -t bank/{}" \
+        "$here/../tools/wire.py" --me "$1" --sites 3 --to "mosquitto_pub -p $port -q 1 -l -t bank/{}" \
             >> "$folder/$1.replies" &
 }
 

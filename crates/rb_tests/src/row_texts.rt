@@ -1,4 +1,4 @@
-//! Made by examples/from_rows.py. The worked rows: each script's name, its lines, and its replies.
+//! Made by examples/tools/from_rows.py. The worked rows: each script's name, its lines, and its replies.
 
 pub const ROWS: &str = r#"as_of_each_position
 {"accounts":[["ann",1000]],"sites":2,"version":1}

@@ -1,5 +1,5 @@
 -- Forged messages: the replies of a site, computed.
--- Made by examples/from_rows.py, behind the line that says so.
+-- Made by examples/tools/from_rows.py, behind the line that says so.
 use Rattle.std.proofs.Common.{◌≡◌, ℕ, ◌+◌, true, false, [], ◌∷◌, refl}
 use Rattle.std.specs.Prelude.{pos, negsuc, codes}
 use Rattle.rb_money.specs.declared.place.Place.{Place}
@@ -28,7 +28,7 @@ place n = record { 0 = n }
 
 -- Each run unfolds place bal past clock_of is_eligible same_shadow names_listed fault_of plan_of operation_of allowed
 -- made_of outcome_of made_in_batch batch_of statement_of.
--- Made: the rest of this file, by examples/from_rows.py, from the runs in examples/.
+-- Made: the rest of this file, by examples/tools/from_rows.py, from the runs in examples/.
 
 seen_operation_is_not_applied_again : replies_to_events (record {
   sites = 2;

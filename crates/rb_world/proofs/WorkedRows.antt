@@ -1,5 +1,5 @@
 -- Worked scripts: the replies of a world, computed.
--- Made by examples/from_rows.py, behind the line that says so.
+-- Made by examples/tools/from_rows.py, behind the line that says so.
 use Rattle.std.proofs.Common.{◌≡◌, ℕ, ◌+◌, true, false, List, [], ◌∷◌, refl}
 use Rattle.std.specs.Prelude.{pos, negsuc, codes}
 use Rattle.rb_money.specs.Settings.{Settings}
@@ -47,7 +47,7 @@ replies_of_run s es = replies_of_all s (first_world s) es
 
 -- Each run unfolds place bal past clock_of is_eligible same_shadow names_listed fault_of plan_of operation_of allowed
 -- made_of outcome_of made_in_batch batch_of statement_of.
--- Made: the rest of this file, by examples/from_rows.py, from the runs in examples/.
+-- Made: the rest of this file, by examples/tools/from_rows.py, from the runs in examples/.
 
 as_of_each_position : replies_of_run (record { sites = 2; names = codes "ann" ∷ []; starts = (1000) ∷ []; limits = largest; version = 1 })
     ((At 0 (Submit (AskWithdraw (place 0) 300))) ∷ (At 0 (Submit (AskCancel (Red 1)))) ∷ (At 0 (AsOf (place 0) 0))

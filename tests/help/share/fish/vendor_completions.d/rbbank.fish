@@ -1,4 +1,4 @@
-# Made by examples/from_help.py from the help of the program.
+# Made by examples/tools/from_help.py from the help of the program.
 complete -c rbbank -f
 complete -c rbbank -n '__fish_use_subcommand' -a script -d 'Answers the commands on standard input, a line of JSON each'
 complete -c rbbank -n '__fish_use_subcommand' -a audit -d 'Says whether one world can have recorded the sites\' histories on standard input'

@@ -1,11 +1,10 @@
 #!/usr/bin/env python3
-"""Runs every script, all histories, every migration and every site of this folder through a built program, and compares
+"""Runs every script, all histories, every migration and every site of examples/ through a built program, and compares
 what it writes, what it says on standard error, its status, and a site's journal. What the program's own help shows is
 run as well, its version is looked at, and a run of tellers is audited.
 
 usage: check.py [--quiet] PROGRAM      (--quiet prints only what is different)
 """
-import glob
 import os
 import re
 import subprocess
@@ -13,8 +12,6 @@ import sys
 import tempfile
 
 import bank
-
-HERE = os.path.dirname(os.path.abspath(__file__))
 
 
 def stored(path, otherwise):
@@ -100,7 +97,7 @@ def main():
         sys.exit(0 if words in (["--help"], ["-h"]) else 2)
     if not os.access(words[0], os.X_OK) or os.path.isdir(words[0]):
         sys.exit(f"check: {words[0]}: no program")
-    paths = sorted(glob.glob(os.path.join(HERE, "*.jsonl")))
+    paths = bank.examples()
     same = [is_same(words[0], path) for path in paths]
     results = list(zip(map(os.path.basename, paths), same))
     results += [(command + " --help", helps(words[0], command)) for command in ["script", "audit", "migrate", "site"]]

@@ -1,10 +1,10 @@
 #!/usr/bin/env python3
-"""Makes tables of the tests and computed runs from the scripts of this folder, each with its replies.
+"""Makes tables of the tests and computed runs from the scripts of examples/, each with its replies.
 
 usage: from_rows.py [--check]
 
-The source is each NAME.jsonl here that is answered whole, with NAME.expected, and more.rows, and for messages that no
-site sent forged.rows. Made are
+The source is each scripts/NAME.jsonl that is answered whole, with NAME.expected, and scripts/more.rows, and for
+messages that no site sent histories/forged.rows. Made are
   crates/rb_tests/src/row_texts.rt, forged_texts.rt   the same texts, whole files
   crates/rb_world/proofs/WorkedRows.antt, ForgedRows.antt
                                                       the replies as terms, computed, behind the line "-- Made: .."
@@ -18,12 +18,14 @@ import re
 import sys
 import textwrap
 
-HERE = os.path.dirname(os.path.abspath(__file__))
-CRATES = os.path.join(os.path.dirname(HERE), "crates")
+EXAMPLES = os.path.dirname(os.path.dirname(os.path.abspath(__file__)))
+ROOT = os.path.dirname(EXAMPLES)
+SCRIPTS = os.path.join(EXAMPLES, "scripts")
+CRATES = os.path.join(ROOT, "crates")
 TABLES = os.path.join(CRATES, "rb_tests", "src")
 COMPUTED = os.path.join(CRATES, "rb_world", "proofs")
 WIDTH = 139
-MADE = "-- Made: the rest of this file, by examples/from_rows.py, from the runs in examples/.\n"
+MADE = "-- Made: the rest of this file, by examples/tools/from_rows.py, from the runs in examples/.\n"
 UNFOLDED = re.compile(r"^-- Each run unfolds ([^.]+)\.$", re.MULTILINE)
 # limits that terms name, each as a number of lines
 CENTS, RATE, BLUE, RED, EPOCH = "MOST_CENTS", "MOST_RATE", "MOST_BLUE", "MOST_RED", "MOST_EPOCH"
@@ -41,27 +43,26 @@ def read(path):
 
 
 def blocks(name):
-    """The blocks of a file of this folder, each by its name, less the comment at the top."""
-    comment, *parts = read(os.path.join(HERE, name)).split("\n\n")
+    """The blocks of a file of examples/, each by its name, less the comment at the top."""
+    comment, *parts = read(os.path.join(EXAMPLES, name)).split("\n\n")
     if not all(line.startswith("#") for line in comment.splitlines()):
         sys.exit(f"from_rows: {name} has no comment at the top")
     return dict(part.rstrip("\n").split("\n", 1) for part in parts)
 
 
 def examples():
-    """The names of the scripts of this folder that are answered whole."""
-    stems = (os.path.basename(path).removesuffix(".jsonl") for path in glob.glob(os.path.join(HERE, "*.jsonl")))
-    whole = (stem for stem in stems if not os.path.exists(os.path.join(HERE, stem + ".status")))
-    return sorted(stem for stem in whole if not stem.endswith((".histories", ".migration", ".site")))
+    """The names of the scripts that are answered whole."""
+    stems = (os.path.basename(path).removesuffix(".jsonl") for path in glob.glob(os.path.join(SCRIPTS, "*.jsonl")))
+    return sorted(stem for stem in stems if not os.path.exists(os.path.join(SCRIPTS, stem + ".status")))
 
 
 def rows():
     """Each script with its replies, by its name."""
     known = {}
     for name in examples():
-        stem = os.path.join(HERE, name)
+        stem = os.path.join(SCRIPTS, name)
         known[name] = (read(stem + ".jsonl"), read(stem + ".expected"))
-    for name, lines in blocks("more.rows").items():
+    for name, lines in blocks("scripts/more.rows").items():
         script, replies = lines.split("\nreplies:\n")
         known[name] = (script + "\n", replies + "\n")
     return known
@@ -69,7 +70,7 @@ def rows():
 
 def forged():
     """The configuration and the entries of each run of messages that no site sent, by its name."""
-    return {name: lines.split("\n") for name, lines in blocks("forged.rows").items()}
+    return {name: lines.split("\n") for name, lines in blocks("histories/forged.rows").items()}
 
 
 def listed(terms):
@@ -245,7 +246,7 @@ def with_runs(path, runs):
 def table(says, name, parts):
     """A file of Rust with a text of parts, an empty line between them."""
     whole = "\n\n".join(parts)
-    return f'//! Made by examples/from_rows.py. {says}\n\npub const {name}: &str = r#"{whole}"#;\n'
+    return f'//! Made by examples/tools/from_rows.py. {says}\n\npub const {name}: &str = r#"{whole}"#;\n'
 
 
 def made():
@@ -276,7 +277,7 @@ def main():
     wrong = False
     for path, text in made():
         if sys.argv[1:] and not same(path, text):
-            print(f"{os.path.relpath(path, os.path.dirname(HERE))} isn't what from_rows.py makes", file=sys.stderr)
+            print(f"{os.path.relpath(path, ROOT)} isn't what from_rows.py makes", file=sys.stderr)
             wrong = True
         elif not sys.argv[1:] and not same(path, text):
             with open(path, "w", encoding="utf-8") as file:

@@ -1,7 +1,7 @@
 #!/usr/bin/env python3
 """Shows a script's commands beside the replies of `rbbank script`, or what `rbbank audit` finds in histories.
 
-Without a file it shows the stored run of this folder. It says which program ran: the proved one, a built one, or
+Without a file it shows the stored run. It says which program ran: the proved one, a built one, or
 `rt try`, which proves nothing and builds for about a minute. The replies are compared with those that are stored.
 """
 import argparse
@@ -15,7 +15,7 @@ import draw
 import explain
 import world
 
-STORED = os.path.join(bank.HERE, "deposit_reaches_the_other_site.jsonl")
+STORED = bank.example("deposit_reaches_the_other_site.jsonl")
 
 
 def options():

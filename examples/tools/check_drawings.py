@@ -27,7 +27,7 @@ SCRIPTS = ["draw.py", "explain.py", "demo.py", "bank.py", "check.py", "check_dra
 
 def examples():
     """The scripts and histories, but for the long run of tellers."""
-    for path in sorted(glob.glob(os.path.join(bank.HERE, "*.jsonl"))):
+    for path in bank.examples():
         name = os.path.basename(path).removesuffix(".jsonl")
         if not name.endswith((".migration", ".site")) and not name.startswith("tellers"):
             yield name, bank.read(path)
@@ -74,11 +74,11 @@ def pictures():
 
 def stored(program):
     """Each stored file, with what it has to be."""
-    yield os.path.join(bank.HERE, "drawings.txt"), drawings(program)
-    yield os.path.join(bank.HERE, "explanations.txt"), explanations(program)
-    yield os.path.join(bank.HERE, "bad_lines.txt"), reasons(program)
+    yield os.path.join(bank.EXAMPLES, "drawings.txt"), drawings(program)
+    yield os.path.join(bank.EXAMPLES, "explanations.txt"), explanations(program)
+    yield os.path.join(bank.EXAMPLES, "bad_lines.txt"), reasons(program)
     for name in pictures():
-        data = bank.read(os.path.join(bank.HERE, name + ".jsonl"))
+        data = bank.read(bank.example(name + ".jsonl"))
         yield os.path.join(PICTURES, name + ".svg"), picture.svg(draw.drawing_of(program, data))
 
 
@@ -91,7 +91,7 @@ def run_of(program, words, given=b""):
 
 def words(program):
     """Whether the scripts' words do what they say."""
-    path = os.path.join(bank.HERE, "stale_token.jsonl")
+    path = bank.example("stale_token.jsonl")
     asked = ["--program", program]
     for script in SCRIPTS:
         out, err, status = run_of(program, [script, "--help"])
@@ -108,7 +108,7 @@ def words(program):
     yield "draw.py --color", status == 0 and "\x1b[31m●" in out
     out, err, status = run_of(program, ["explain.py", path, *asked, "--as", "audit"])
     yield "explain.py --as audit", status == 2 and "this is a command, and a history has entries" in out
-    changed = os.path.join(bank.HERE, "changed_reply.histories.jsonl")
+    changed = bank.example("changed_reply.histories.jsonl")
     out, err, status = run_of(program, ["demo.py", changed, *asked, "--draw"])
     yield "demo.py of histories", status == 1 and "The replies are those that are stored." in out
 

@@ -15,9 +15,9 @@ import subprocess
 import sys
 from typing import NamedTuple, Optional
 
-ROOT = os.path.dirname(os.path.dirname(os.path.abspath(__file__)))
+ROOT = os.path.dirname(os.path.dirname(os.path.dirname(os.path.abspath(__file__))))
 STORED = os.path.join(ROOT, "tests", "help")
-MADE_BY = "Made by examples/from_help.py from the help of the program."
+MADE_BY = "Made by examples/tools/from_help.py from the help of the program."
 COMMAND = re.compile(r"  (\S+)(?:\s+(.*))?$")
 OPTION = re.compile(r"\s+(?:-(\w), )?--([\w-]+)(?: <([^>]+)>)?(?:\s\s+(.*))?$")
 FILE = "FILE"  # the name of a value that is a file's
