@@ -4,10 +4,12 @@ toolchain's own are left. A statement is a function with a contract, as World::r
 
 usage: closure.py                  the headline's: the functions and laws of the first table of docs/PROVED.md
        closure.py STATEMENT..      that of others, as Ledger::apply, rb_site::Site::open, run_script, Funds
-       closure.py --parts          the four parts of docs/MODEL.md: the headline, the program's text, what contracts of
-                                   other public functions rest on, and what only ties inner code to proofs
-       closure.py --write          writes docs/MODEL.md: each definition in its part with the comment above it, and the
-                                   words before the first section of a crate in each part as they are
+       closure.py --all            every definition with the comment above it, in four parts: the headline, the program's
+                                   text, what contracts of other public functions rest on, and what only ties inner
+                                   code to proofs
+       closure.py --write          writes docs/MODEL.md: the definitions of the headline, each with the comment above it
+                                   and behind those that it names, between the first and the last section, which are
+                                   written by hand
        closure.py --check          whether docs/MODEL.md is what --write makes and names no definition that there isn't,
                                    whether the functions and clauses of the tables of docs/PROVED.md are there and rest
                                    on as many definitions as these say, README.md's numbers too, whether its table of
@@ -20,6 +22,7 @@ that clients see as a value of a model to that value.
 """
 import collections
 import glob
+import itertools
 import os
 import re
 import sys
@@ -27,8 +30,7 @@ import textwrap
 
 ROOT = os.path.dirname(os.path.dirname(os.path.abspath(__file__)))
 PARTS = ["The headline", "The program's text", "Other public contracts", "Inner contracts"]
-PROGRAM = ["rb_runs::run_script", "rb_runs::run_audit", "rb_runs::run_migrate", "rb_run_threads::run_threads",
-           "rb_run_site::run_site", "rb_cli::read_words"]
+PROGRAM = ["run_script", "run_audit", "run_migrate", "run_threads", "run_site", "read_words"]
 WORD = re.compile(r"[^\W\d]\w*")
 
 # a type of the code with its fields, and a trait with its functions
@@ -222,12 +224,17 @@ class Things:
         return [it for it in found if within in (None, it.crate)]
 
 
-def headline():
-    """The functions with the clauses, and the laws, of the headline's table."""
+def headline_table():
+    """The headline's table in docs/PROVED.md."""
     found = re.search(r"(?ms)^\| The sentence.*?\n\n", read("docs/PROVED.md"))
     if not found:
         sys.exit("closure.py: docs/PROVED.md has no table that begins with '| The sentence'")
-    table = found.group(0)
+    return found.group(0)
+
+
+def headline():
+    """The functions with the clauses, and the laws, of the headline's table."""
+    table = headline_table()
     called = [(name, re.findall(r"`(\w+)`", clauses)) for name, clauses in CALL.findall(table)]
     laws = re.findall(r"`(\w+)`", " ".join(re.findall(r"laws? ((?:(?:, )?`\w+`)+)", table)))
     return called, laws
@@ -320,13 +327,14 @@ def tell_closure(things, names):
     print(f"{sum(it.kind == 'definition' for it in found)} definitions")
 
 
-def tell_parts(things):
-    part_of = parts(things)
+def tell_all(things):
+    """Every definition with its comment, part by part, in each by crate from the bottom up and by file."""
+    part_of, order = parts(things), re.findall(r"(?m)^(rb\w+)", read("crates.txt"))
     for at, name in enumerate(PARTS):
-        found = [things.definitions[key] for key in part_of if part_of[key] == at]
-        print(f"{name}: {len(found)} definitions")
-        tell(found)
-        print()
+        print(f"## {name}\n")
+        for crate in reversed(order):
+            found = [it for key, it in things.definitions.items() if it.crate == crate and part_of[key] == at]
+            print("\n".join(section(crate, found)) if found else "", end="\n" if found else "")
 
 
 def wrapped(text):
@@ -335,17 +343,23 @@ def wrapped(text):
     return textwrap.fill(text, 120, subsequent_indent=behind, break_long_words=False, break_on_hyphens=False)
 
 
-def entries(found):
-    """The lines for the definitions of a file: those without a comment of their own join the one before."""
-    items = []
+def joined(found):
+    """The definitions of a file in groups: one without a comment of its own joins the one before."""
+    groups = []
     for it in found:
-        if it.comment or not items:
-            items.append(([it.name], it.comment))
+        if it.comment or not groups:
+            groups.append([it])
         else:
-            items[-1][0].append(it.name)
-    for names, comment in items:
-        ending = "." if comment and not comment.endswith(".") else ""
-        yield wrapped("- " + ", ".join(f"`{name}`" for name in names) + (": " if comment else "") + comment + ending)
+            groups[-1].append(it)
+    return groups
+
+
+def entry(group):
+    """The lines for definitions that have one comment."""
+    comment = group[0].comment
+    ending = "." if comment and not comment.endswith(".") else ""
+    names = ", ".join(f"`{it.name}`" for it in group)
+    return wrapped("- " + names + (": " if comment else "") + comment + ending)
 
 
 def section(crate, found):
@@ -357,24 +371,53 @@ def section(crate, found):
     for file in dict.fromkeys(it.file for it in found):
         first = read("crates", crate, file).splitlines()[0]
         head = f"**{file.removeprefix('specs/')}**" + (": " + first[3:] if first.startswith("-- ") else "")
-        yield wrapped(head) + "\n\n" + "\n".join(entries([it for it in found if it.file == file])) + "\n"
+        groups = joined(it for it in found if it.file == file)
+        yield wrapped(head) + "\n\n" + "\n".join(map(entry, groups)) + "\n"
+
+
+def behind_what_they_name(things, groups):
+    """Groups of definitions in an order in which each is behind those that it names, and those of a file are together
+    where they can be."""
+    place = {id(it): at for at, group in enumerate(groups) for it in group}
+    waits = [{place[id(named)] for it in group for named in things.named_by(it) if id(named) in place} - {at}
+             for at, group in enumerate(groups)]
+    left, file = list(range(len(groups))), None
+    while left:
+        ready = [at for at in left if not waits[at] & set(left)] or left
+        at = next((at for at in ready if groups[at][0].file == file), ready[0])
+        left.remove(at)
+        file = groups[at][0].file
+        yield groups[at]
+
+
+def by_need(things):
+    """The rows of the headline's table, each with the definitions that it rests on and none before it does; first the
+    row that rests on the fewest."""
+    rows, listed = [], set()
+    for row in re.findall(r"(?m)^\| (?!The sentence|---).*\|$", headline_table()):
+        found = things.closure([it for name in named_in(things, row) for it in things.statements(name)])
+        rows.append((row, {id(it): it for it in found if it.kind == "definition"}))
+    order = re.findall(r"(?m)^(rb\w+)", read("crates.txt"))
+    for row, rests in sorted(rows, key=lambda it: len(it[1])):
+        new = [it for it in things.definitions.values() if id(it) in rests and id(it) not in listed]
+        new.sort(key=lambda it: order.index(it.crate), reverse=True)
+        listed.update(rests)
+        if new:
+            by_file = (joined(its) for _, its in itertools.groupby(new, key=lambda it: (it.crate, it.file)))
+            yield row, list(behind_what_they_name(things, [group for groups in by_file for group in groups]))
 
 
 def model(things, text):
-    """docs/MODEL.md: the definitions part by part, and what this text has by hand before them and at the end."""
-    part_of, order = parts(things), re.findall(r"(?m)^(rb\w+)", read("crates.txt"))
-    made = [re.match(r"(?s).*?(?=^## )", text, re.MULTILINE | re.DOTALL).group(0)]
-    for at, part in blocks(text, r"^## .*$"):
-        name = at.group(0)[3:]
-        by_hand = re.split(r"(?m)^### .*crates/\w+/specs.*$", part)[0]
-        made.append(by_hand)
-        if name in PARTS:
-            # (the definitions in the order of the files; crates from the bottom up)
-            for crate in reversed(order):
-                found = [it for key, it in things.definitions.items()
-                         if it.crate == crate and part_of[key] == PARTS.index(name)]
-                made += [block + "\n" for block in section(crate, found)] if found else []
-    return "".join(made)
+    """docs/MODEL.md: the definitions of the headline, and what this text has by hand before them and behind them."""
+    sections = blocks(text, r"^## .*$")
+    made = [text[:sections[0][0].start()], sections[0][1]]
+    for row, groups in by_need(things):
+        sentence, clauses = (cell.strip() for cell in row.split("|")[1:3])
+        sentence = sentence.removeprefix("... ")
+        made.append(f"## {sentence[0].upper()}{sentence[1:]}\n\n" + wrapped(f"{clauses}.") + "\n\n")
+        for (crate, file), its in itertools.groupby(groups, key=lambda it: (it[0].crate, it[0].file)):
+            made.append(f"**{crate}, {file.removeprefix('specs/')}**\n\n" + "\n".join(map(entry, its)) + "\n\n")
+    return "".join(made) + sections[-1][1]
 
 
 def known(things):
@@ -433,8 +476,8 @@ def check(things):
 
 def main():
     things, words = Things(), sys.argv[1:]
-    if words == ["--parts"]:
-        tell_parts(things)
+    if words == ["--all"]:
+        tell_all(things)
     elif words == ["--write"]:
         made = model(things, read("docs/MODEL.md"))
         with open(os.path.join(ROOT, "docs/MODEL.md"), "w", encoding="utf-8") as file:
