@@ -4,18 +4,17 @@ toolchain's own are left. A statement is a function with a contract, as World::r
 
 usage: closure.py                  the headline's: the functions and laws of the first table of docs/PROVED.md
        closure.py STATEMENT..      that of others, as Ledger::apply, rb_site::Site::open, run_script, Funds
-       closure.py --all            every definition with the comment above it, in four parts: the headline, the program's
-                                   text, what contracts of other public functions rest on, and what only ties inner
-                                   code to proofs
+       closure.py --all            every definition with the comment above it, in four parts: those of the headline, of
+                                   the program's text, of other public contracts, and of inner contracts
        closure.py --write          writes docs/MODEL.md: the definitions of the headline, each with the comment above it
                                    and behind those that it names, between the first and the last section, which are
                                    written by hand
-       closure.py --check          whether docs/MODEL.md is what --write makes and names no definition that there isn't,
+       closure.py --check          whether docs/MODEL.md is what --write makes and names only definitions that exist,
                                    whether the functions and clauses of the tables of docs/PROVED.md are there and rest
                                    on as many definitions as these say, README.md's numbers too, whether its table of
                                    conditions has just the public functions that have one, whether other crates cite
                                    each file of proofs/Public and none else of proofs/, and whether no two definitions
-                                   share a name; this is silent where all is well
+                                   share a name; this is silent if all is well
 
 Words are resolved by the 'use' lines of their file. A type of the code is resolved to the types of its fields, and one
 that clients see as a value of a model to that value.

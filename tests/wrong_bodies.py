@@ -4,8 +4,8 @@ each.
 
 usage: wrong_bodies.py CRATE..      tries the mutants of these crates
        wrong_bodies.py --all        tries those of every crate, some hours of processor time
-       wrong_bodies.py --check      proves nothing: whether each mutant still applies, and docs/PROVED.md has their
-                                    numbers, and the names of those of must-fail/
+       wrong_bodies.py --check      proves nothing: whether each mutant still applies, and docs/PROVED.md has the names
+                                    of those of must-fail/
 
 A file tests/wrong_bodies/CRATE.edits has the crate's mutants, each under its name in brackets, in the form of a
 must-fail edit: a line 'file: src/..', and pairs of lines 'old: TEXT' and 'new: TEXT'. It applies where each old text is
@@ -69,29 +69,13 @@ def check():
             if why:
                 faults += 1
                 print(f"wrong_bodies: {crate} {name}: {why}")
-    if faults or not counted() or not named():
+    if faults or not named():
         sys.exit(1)
     return count
 
 
-def counted():
-    """Whether the table of docs/PROVED.md has the number of each crate's mutants; says where it hasn't."""
-    with open(os.path.join(ROOT, "docs", "PROVED.md"), encoding="utf-8") as file:
-        said = set(re.findall(r"^\| (\w+) \| (\d+) \| (\d+) \|$", file.read(), flags=re.M))
-    found = set()
-    for crate in sorted(os.listdir(CRATES)):
-        in_gate = len(glob.glob(os.path.join(CRATES, crate, "must-fail", "*.edit")))
-        there = os.path.exists(os.path.join(MUTANTS, crate + ".edits"))
-        others = len(mutants_of(crate)) if there else 0
-        if in_gate or others:
-            found.add((crate, str(in_gate), str(others)))
-    for crate, in_gate, others in sorted(found - said):
-        print(f"wrong_bodies: docs/PROVED.md should say | {crate} | {in_gate} | {others} |")
-    return not found - said
-
-
 def named():
-    """Whether the tables of promises in docs/PROVED.md name each mutant of the gate once; says which they don't."""
+    """Whether the table of promises in docs/PROVED.md names each mutant of the gate once; says which it doesn't."""
     with open(os.path.join(ROOT, "docs", "PROVED.md"), encoding="utf-8") as file:
         rows = re.findall(r"^\|.*\| \d+ \|([^|]*)\|[^|]*\|$", file.read(), flags=re.M)
     said = collections.Counter(name for cell in rows for name in re.findall(r"`(\w+)`", cell))
