@@ -13,7 +13,7 @@ help:
 	@echo '                     copies the program, its manual page and completions for three shells, after make build'
 	@echo '  make examples      every example, and every case of tests/cases, through the program, after make build'
 	@echo '  make test          the gate; about an hour; less than a minute where nothing changed since'
-	@echo '                     (docs/GATE.md)'
+	@echo '                     (docs/CHANGING.md)'
 	@echo '  make bindings      the library for C, Rust and Python (bindings/), their tests and the shop of examples/shop;'
 	@echo '                     wants gcc or clang, and cargo'
 	@echo
@@ -99,7 +99,7 @@ crash: build
 broker: build
 	@examples/broker/three_sites.sh crates/rbbank/out/rbbank
 
-# Each allocation of the program and of five tests refused in turn (docs/GATE.md, "Beside the gate"); it wants cc.
+# Each allocation of the program and of five tests refused in turn (docs/CHANGING.md, "Beside the gate"); it wants cc.
 refuse: build
 	@cd crates/rb_tests && rt test
 	@cd crates/rb_tests_runs && rt test

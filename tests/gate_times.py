@@ -1,11 +1,13 @@
 #!/usr/bin/env python3
 """Runs the gate's proofs and says how much processor time each crate took.
 
-usage: gate_times.py [--every SECONDS] [COMMAND..]      (COMMAND: `rt ci` where none is given)
+usage: gate_times.py [--every SECONDS] [COMMAND..]      (COMMAND: `rt ci` if none is given)
+       gate_times.py --write-table FILE                 puts what such a run printed into docs/CHANGING.md
 
 While the command runs, the prover's processes are looked at twice a second. The table that is printed at the end has,
-for each crate, the minutes of processor time of its proof, of its tests and of its mutants (docs/GATE.md), and the last
-line the sum, beside that of all processes of the command. What a process took in its last half second is missing.
+for each crate, the minutes of processor time of its proof, of its tests and of its mutants. The line behind it has the
+commit, the sums of the prover and of all processes, and the longest lane, a crate whose tasks wait for one another.
+What a process took in its last half second is missing.
 """
 import os
 import re
@@ -14,6 +16,9 @@ import subprocess
 import sys
 import time
 
+PAGE = os.path.join(os.path.dirname(os.path.dirname(os.path.abspath(__file__))), "docs", "CHANGING.md")
+# a table as it is printed, and the line behind it
+TABLE = re.compile(r"(?m)^\| Crate \| proof \| tests \| mutants \|\n(?:\|.*\n)+\nAt commit (?:.+\n)+")
 PROVER = "rattle"
 TICKS = os.sysconf("SC_CLK_TCK")
 KINDS = ("proof", "tests", "mutants")
@@ -62,7 +67,7 @@ def look(session, seen):
 
 
 def table_of(seen):
-    """The rows of the table, and the minutes of all."""
+    """The rows of the table, the minutes of all, and those of the longest lane with its crate."""
     minutes = {}
     for crate, kind, seconds in seen.values():
         minutes.setdefault(crate, dict.fromkeys(KINDS, 0.0))[kind] += seconds / 60
@@ -70,10 +75,34 @@ def table_of(seen):
     rows += [f"| {crate} | " + " | ".join(f"{of[it]:.1f}" if of[it] else "-" for it in KINDS) + " |"
              for crate, of in sorted(minutes.items())]
     sums = [sum(of[it] for of in minutes.values()) for it in KINDS]
-    return [*rows, "| together | " + " | ".join(f"{it:.1f}" for it in sums) + " |"], sum(sums)
+    lane = max(((sum(of.values()), crate) for crate, of in minutes.items()), default=(0.0, "none"))
+    return [*rows, "| together | " + " | ".join(f"{it:.1f}" for it in sums) + " |"], sum(sums), lane
+
+
+def commit():
+    """The commit whose sources are proved, with its day."""
+    words = ["git", "log", "-1", "--format=%h of %cs"]
+    run = subprocess.run(words, cwd=os.path.dirname(PAGE), capture_output=True, text=True)
+    return run.stdout.strip() or "unknown"
+
+
+def write_table(path):
+    """Puts the table that a run printed in place of the one of the page; says why not."""
+    with open(path, encoding="utf-8") as file:
+        printed = TABLE.search(file.read())
+    with open(PAGE, encoding="utf-8") as file:
+        page = file.read()
+    if not printed or len(TABLE.findall(page)) != 1:
+        print(f"gate_times: {PAGE if printed else path} has no such table", file=sys.stderr)
+        return 1
+    with open(PAGE, "w", encoding="utf-8") as file:
+        file.write(TABLE.sub(lambda _: printed.group(0), page))
+    return 0
 
 
 def main(words):
+    if words[:1] == ["--write-table"] and len(words) == 2:
+        return write_table(words[1])
     if re.fullmatch("-h|--help", words[0] if words else ""):
         print(__doc__.strip())
         return 0
@@ -85,11 +114,13 @@ def main(words):
     while running.poll() is None:
         look(running.pid, seen)
         time.sleep(every)
-    rows, minutes = table_of(seen)
+    rows, minutes, lane = table_of(seen)
     used = resource.getrusage(resource.RUSAGE_CHILDREN)
-    print("\n".join(rows))
-    print(f"the prover {minutes:.1f}, all processes {(used.ru_utime + used.ru_stime) / 60:.1f} minutes of processor "
-          f"time, in {(time.time() - begun) / 60:.1f} minutes on {len(os.sched_getaffinity(0))} processors")
+    total, wall = (used.ru_utime + used.ru_stime) / 60, (time.time() - begun) / 60
+    print("\n".join(rows) + "\n")
+    print(f"At commit {commit()} the prover took {minutes:.1f}, all processes {total:.1f} minutes of processor time,\n"
+          f"in {wall:.1f} minutes on {len(os.sched_getaffinity(0))} processors. The longest lane is that of {lane[1]}, "
+          f"{lane[0]:.1f}.")
     return running.returncode
 
 

@@ -4,17 +4,28 @@ tests.
 
 usage: refuse.py PROGRAM TESTS RUNS     (what `rt run` built in crates/rbbank/out, and `rt test` in crates/rb_tests/out
                                          and crates/rb_tests_runs/out)
-       refuse.py --gate TESTS RUNS      (as `rt ci` leaves them there: four of the tests alone, and where all is well
-                                         nothing is printed)
+       refuse.py --gate TESTS RUNS      (as `rt ci` leaves them there: four of the tests alone, and nothing is printed
+                                         if all is well)
 
-A process is run with its first allocation refused, another with its second, and so on until a run meets
-no refusal. The program has to write a prefix of what is expected and end in status 4, or all of it in status 0;
-a test (crates/rb_tests/src/refused.rt, money.rt; crates/rb_tests_runs/src/scripts.rt, seats.rt) has to pass, and may
-say that it was stopped only where an allocation was refused. Ends in status 1 where a run does otherwise, and where no
-run of an input was stopped on the way, or none inside a batch.
+A test can't have an allocator of its own, so a small library (refuse_nth.c) is loaded before the C library. A process
+is run with its first allocation refused, another with its second, and so on until a run meets no refusal. The program
+has to write a prefix of what is expected and end in status 4, or all of it in status 0. A test has to pass, and may say
+that it was stopped only if an allocation was refused; its last run shows that nothing else stops it. Ends in status 1
+if a run does otherwise, and if no run of an input was stopped on the way, or none inside a batch.
 
 A run of one teller writes nothing before it ends in status 4. Its threads take memory in an order that differs from
-run to run. Where it was a link that was refused memory, one message is lost, and the other site goes on without it.
+run to run. If it was a link that was refused memory, one message is lost, and the other site goes on without it.
+
+The tests (crates/rb_tests/src/refused.rt, money.rt; crates/rb_tests_runs/src/scripts.rt, seats.rt):
+  refuse_each                 four rows by World::run: the world is that of the events before, and answers the rest as
+                              the row says; some refusals fall inside a batch
+  refuse_script               a row by run_script: what is written is a prefix of the row's replies
+  reserved                    with capacity for three operations none of applying, rewinding, going forward and undoing
+                              asks for memory
+  memory_is_looked_at_last    a fault of a configuration is answered with or without memory; one without a fault is
+                              made, or answered by out of memory
+  refuse_seats                a row through seats: after a refusal the seat has no receipt more, and the same call is
+                              answered as if it were the first
 """
 import itertools
 import os
