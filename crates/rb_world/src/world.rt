@@ -143,13 +143,33 @@ impl<E: KeepsEntry, R: KeepsEvent> World<E, R> {
         }
         match event {
             WorldEvent::At(_, arrived) => self.arrive(event, arrived, reply),
-            WorldEvent::Deliver(_, number) => match self.message(*number) {
-                Some(message) => self.arrive(event, &Event::Receive(message), reply),
-                None => {
-                    *reply = Reply::Refused(Refusal::NoMessage);
-                    Ok(())
-                }
-            },
+            WorldEvent::Deliver(_, number) => self.deliver(event, *number, reply),
+        }
+    }
+
+    /// A message of this number is delivered to a site. Its copies are in a call of their own, since each function
+    /// clears them before it does anything.
+    #[inline(never)]
+    fn deliver(
+        &mut self,
+        event: &WorldEvent,
+        number: u32,
+        reply: &mut Reply,
+    ) -> Result<(), AllocError>
+        requires command { IsCommand event.now }
+        requires site { site_of event.now < length self.old.world.sites }
+        requires delivery { event.now ≡ WorldEvent.Deliver (site_of event.now) number }
+        ensures ok { OnOk result ((reply.new ≡ next_reply self.old event.now)
+            × (self.new ≡ next_world self.old event.now)) }
+        ensures err { OnErr result (self.new ≡ self.old) }
+        ensures recordable { OnErr result (is_recorded self.old.settings self.old.world event.now ≡ true) }
+    {
+        match self.message(number) {
+            Some(message) => self.arrive(event, &Event::Receive(message), reply),
+            None => {
+                *reply = Reply::Refused(Refusal::NoMessage);
+                Ok(())
+            }
         }
     }
 
