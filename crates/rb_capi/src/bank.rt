@@ -10,8 +10,7 @@ ghost use Rattle.rb_capi.specs.Copies.{Copies};
 
 use crate::bank_handle::BankHandle;
 use crate::copy::copy_from;
-use rb_history::{LineFault, append_reply};
-use rb_history::{open_command, open_config};
+use rb_history::{LineFault, append_reply, open_command, open_config};
 use rb_world::LeanWorld;
 use std::alloc::Global;
 use std::marker::Model;

@@ -11,7 +11,7 @@ use Rattle.rb_history.specs.Entries.{entry_in, entry_of_line, entry_of_object}
 use Rattle.rb_history.specs.Fields.{field}
 use Rattle.rb_history.specs.Fits.{IsEvent, IsReply, ReadEntriesFit}
 use Rattle.rb_history.specs.Recorded.{event_at}
-use Rattle.rb_history.specs.RepliesRead.{reply_told}
+use Rattle.rb_history.specs.RepliesRead.{reply_parsed}
 use Rattle.rb_history.proofs.FitsLaws.{fits_field, fits_if, fits_map, fits_some, fits_then}
 use Rattle.rb_history.proofs.NumbersFit.{Fits, fits_get, fits_read}
 use Rattle.rb_history.proofs.PartsFit.{number}
@@ -26,11 +26,11 @@ entry s d f =
     let Q = FitsLine s in
     let site_there = fits_field (λ n. n < s.sites) (codes "site") (number_below s.sites) d (number s.sites) in
     let event_there = fits_field (IsEvent s) (codes "event") (event_at s) d (event s) in
-    let reply_there = fits_then Fits IsReply reply_told (get (codes "reply") d) (fits_get (codes "reply") d f) reply in
+    let reply_there = fits_then Fits IsReply reply_parsed (get (codes "reply") d) (fits_get (codes "reply") d f) reply in
     fits_if Q (size_of d == 3) (entry_in s d) (λ e.
     fits_then (λ n. n < s.sites) Q _ (field (codes "site") (number_below s.sites) d) site_there (λ site a.
     fits_then (IsEvent s) Q _ (field (codes "event") (event_at s) d) event_there (λ made b.
-    fits_map IsReply Q _ (field (codes "reply") reply_told d) reply_there (λ given c. (a, b, c)))))
+    fits_map IsReply Q _ (field (codes "reply") reply_parsed d) reply_there (λ given c. (a, b, c)))))
 
 -- each entry that is read is one of which a line has all
 pub read_fits : ReadEntriesFit

@@ -13,7 +13,7 @@ use Rattle.rb_history.specs.Entries.{entry_in, entry_of_object}
 use Rattle.rb_history.specs.Lines.{Gives}
 use Rattle.rb_history.specs.declared.fault.LineFault.{LineFault}
 use Rattle.rb_history.specs.Recorded.{event_at}
-use Rattle.rb_history.specs.RepliesRead.{reply_told}
+use Rattle.rb_history.specs.RepliesRead.{reply_parsed}
 use Rattle.rb_history.specs.Values.{number_below, size_of}
 use Rattle.rb_history.specs.Fields.{field}
 
@@ -25,17 +25,17 @@ bounded : (d : Data) (n bound : ℕ) → number_below bound d ≡ Some n → n <
 bounded d n bound e = option_and_then_some (λ k. if nat_lt k bound then Some k else None) (option_and_then as_u64 (as_number d)) n e
     (λ k found is. cut (nat_lt k bound) k n bound refl is)
 
-told : (site : ℕ) (event : Event) (o : Option Reply) (x : ℕ × Entry)
+written : (site : ℕ) (event : Event) (o : Option Reply) (x : ℕ × Entry)
     → option_map (λ reply. (site, record { event = event; reply = reply })) o ≡ Some x → site ≡ x.0
-told site event None x e = absurd (none-some x e)
-told site event (Some reply) x e = ap (λ (y : ℕ × Entry). y.0) (Some_inj _ _ e)
+written site event None x e = absurd (none-some x e)
+written site event (Some reply) x e = ap (λ (y : ℕ × Entry). y.0) (Some_inj _ _ e)
 
 in_below : (s : Settings) (d : Data) (x : ℕ × Entry) → entry_in s d ≡ Some x → x.0 < s.sites
 in_below s d x e = option_and_then_some _ (field (codes "site") (number_below s.sites) d) x e (λ site found rest.
     let below : site < s.sites = option_and_then_some (number_below s.sites) (get (codes "site") d) site found
     (λ v there is. bounded v site s.sites is) in
     let same : site ≡ x.0 = option_and_then_some _ (field (codes "event") (event_at s) d) x rest
-    (λ event there is. told site event (field (codes "reply") reply_told d) x is) in
+    (λ event there is. written site event (field (codes "reply") reply_parsed d) x is) in
     subst (λ k. k < s.sites) same below)
 
 of_below : (t : Bool) (s : Settings) (d : Data) (x : ℕ × Entry) → (if t then entry_in s d else None) ≡ Some x → x.0 < s.sites

@@ -184,9 +184,9 @@ event_text s (Batch rs) h = deeper (event_json s (Batch rs)) 4 5
     (one_text _ _ 3 (list_text (request_json s) (IsRequest s) 2 (request_text s) rs h)) (omega arith)
 event_text s (Receive (ShadowMessage v)) h = one_text _ _ 4 (shadow_text s v h)
 event_text s (Receive (TokenOnItsWay m)) (epoch, to, red) =
-    let told = three_text (number_json m.epoch) (number_json m.to) (number_json m.red) 0 (number_text m.epoch (omega arith))
+    let written = three_text (number_json m.epoch) (number_json m.to) (number_json m.red) 0 (number_text m.epoch (omega arith))
     (number_text m.to (omega arith)) (number_text m.red (omega arith)) in
-    deeper (event_json s (Receive (TokenOnItsWay m))) 2 5 (one_text _ _ 1 told) (omega arith)
+    deeper (event_json s (Receive (TokenOnItsWay m))) 2 5 (one_text _ _ 1 written) (omega arith)
 event_text s (Apply x) h = deeper (event_json s (Apply x)) 1 5 (one_text _ (name_json x) 0 (string_text _)) (omega arith)
 event_text s (Pass to) h = deeper (event_json s (Pass to)) 1 5 (one_text _ (number_json to) 0 (number_text to (omega arith))) (omega arith)
 event_text s (Balance a) h = deeper (event_json s (Balance a)) 1 5 (one_text _ _ 0 (string_text _)) (omega arith)
@@ -207,11 +207,11 @@ row_text r (position, name, moved, balance) =
       same = rw (a.same, b.same, c.same) refl;
     }
 
-number_told : (key : List ℕ) (n : ℕ) → n < 2 ^ 64 → IsText (one_json key (number_json n)) 4
-number_told key n h = deeper (one_json key (number_json n)) 1 4 (one_text key (number_json n) 0 (number_text n h)) (omega arith)
+number_written : (key : List ℕ) (n : ℕ) → n < 2 ^ 64 → IsText (one_json key (number_json n)) 4
+number_written key n h = deeper (one_json key (number_json n)) 1 4 (one_text key (number_json n) 0 (number_text n h)) (omega arith)
 
-string_told : (key text : List ℕ) → IsText (one_json key (string text)) 4
-string_told key text = deeper (one_json key (string text)) 1 4 (one_text key (string text) 0 (string_text text)) (omega arith)
+string_written : (key text : List ℕ) → IsText (one_json key (string text)) 4
+string_written key text = deeper (one_json key (string text)) 1 4 (one_text key (string text) 0 (string_text text)) (omega arith)
 
 small_number : (r : Refusal) → number_of_refusal r < 2 ^ 64
 small_number OutOfMemory = lit< tt
@@ -242,19 +242,19 @@ refusal_text (BadMessage why) h =
     let a = number_text why (omega arith) in
     let b = number_text 17 (lit< tt) in
     record { numbers = (b.numbers, (a.numbers, tt)); shallow = omega arith; same = rw (b.same, a.same) refl }
-refusal_text r h = number_told _ (number_of_refusal r) (small_number r)
+refusal_text r h = number_written _ (number_of_refusal r) (small_number r)
 
 reply_text : (r : Reply) → IsReply r → IsText (reply_json r) 4
 reply_text (Made x kind) h = record { numbers = (tt, (tt, tt)); shallow = omega arith; same = refl }
 reply_text (Names xs) h = deeper (reply_json (Names xs)) 2 4 (one_text _ _ 1 (list_text name_json IsName 0 (λ x k. string_text _) xs h))
     (omega arith)
-reply_text (Held x) h = string_told _ _
-reply_text (Already x) h = string_told _ _
-reply_text (Taken n) h = number_told _ n (omega arith)
-reply_text (Stale n) h = number_told _ n (omega arith)
-reply_text (Applied x) h = string_told _ _
-reply_text (Passed n) h = number_told _ n (omega arith)
-reply_text (BalanceIs n) h = number_told _ n h
+reply_text (Held x) h = string_written _ _
+reply_text (Already x) h = string_written _ _
+reply_text (Taken n) h = number_written _ n (omega arith)
+reply_text (Stale n) h = number_written _ n (omega arith)
+reply_text (Applied x) h = string_written _ _
+reply_text (Passed n) h = number_written _ n (omega arith)
+reply_text (BalanceIs n) h = number_written _ n h
 reply_text (StatementIs t) (start, rows, balance) =
     let a = number_text t.balance balance in
     let b = list_text row_json IsStatementRow 1 row_text t.rows rows in

@@ -16,23 +16,23 @@ between text front behind middle more back rest e f g =
     e ∙ ap (λ l. front ++ l) (f ∙ ap (λ l. middle ++ l) g) ∙ whole
 
 -- a part behind another
-pub two_told : (text a front b back more rest : List ℕ) → text ≡ (front ++ (a ++ back)) ++ more → more ≡ b ++ rest
+pub two_written : (text a front b back more rest : List ℕ) → text ≡ (front ++ (a ++ back)) ++ more → more ≡ b ++ rest
     → text ≡ (front ++ (a ++ (back ++ b))) ++ rest
-two_told text a front b back more rest e f =
+two_written text a front b back more rest e f =
     let whole : (front ++ (a ++ back)) ++ (b ++ rest) ≡ (front ++ (a ++ (back ++ b))) ++ rest = simp append_assoc in
     e ∙ ap (λ l. (front ++ (a ++ back)) ++ l) f ∙ whole
 
 -- a string with no escape
-pub string_told : (name text rest : List ℕ) → escape name ≡ name → text ≡ name ++ (codes "\"" ++ rest) → text ≡ behind_quote name ++ rest
-string_told name text rest plain e = e ∙ sym (append_assoc name (codes "\"") rest) ∙ ap (λ l. (l ++ codes "\"") ++ rest) (sym plain)
+pub string_written : (name text rest : List ℕ) → escape name ≡ name → text ≡ name ++ (codes "\"" ++ rest) → text ≡ behind_quote name ++ rest
+string_written name text rest plain e = e ∙ sym (append_assoc name (codes "\"") rest) ∙ ap (λ l. (l ++ codes "\"") ++ rest) (sym plain)
 
 -- an operation's name
-pub name_told : (x : OpName) (text rest : List ℕ) → IsName x → text ≡ name_text x ++ (codes "\"" ++ rest)
+pub name_written : (x : OpName) (text rest : List ℕ) → IsName x → text ≡ name_text x ++ (codes "\"" ++ rest)
     → text ≡ behind_quote (name_text x) ++ rest
-name_told x text rest h e = string_told (name_text x) text rest (escape_plain (name_text x) (plain_name x h)) e
+name_written x text rest h e = string_written (name_text x) text rest (escape_plain (name_text x) (plain_name x h)) e
 
 -- a kind's word
-pub label_told : (k : Label) (word text mid rest : List ℕ) → word ≡ word_of k → text ≡ word ++ mid → mid ≡ codes "\"" ++ rest
+pub label_written : (k : Label) (word text mid rest : List ℕ) → word ≡ word_of k → text ≡ word ++ mid → mid ≡ codes "\"" ++ rest
     → text ≡ behind_quote (word_of k) ++ rest
-label_told k word text mid rest is e f =
-    string_told (word_of k) text rest (label_plain k) (e ∙ ap (λ l. l ++ mid) is ∙ ap (λ l. word_of k ++ l) f)
+label_written k word text mid rest is e f =
+    string_written (word_of k) text rest (label_plain k) (e ∙ ap (λ l. l ++ mid) is ∙ ap (λ l. word_of k ++ l) f)

@@ -63,11 +63,11 @@ shadow_fits s account amount blue list behind rest b known fits counts back = re
 }
 
 -- the text of its event, read part by part
-pub event_told : (s : Settings) (account : Place) (amount : ℕ) (blue text list behind rest : List ℕ) (b : Back)
+pub event_written : (s : Settings) (account : Place) (amount : ℕ) (blue text list behind rest : List ℕ) (b : Back)
     → text ≡ shadow_front s account amount ++ list → BeginsWithCounts s.version blue list behind → BeginsWithBack s b behind rest
     → text ≡ compact_text (event_json s (Receive (ShadowMessage (shadow_of account amount blue b)))) ++ rest
-event_told s account amount blue text list behind rest b e counts back =
-    e ∙ ap (λ l. shadow_front s account amount ++ l) (counts.told ∙ ap (λ l. compact_text (blue_json s.version blue) ++ l) back.told)
+event_written s account amount blue text list behind rest b e counts back =
+    e ∙ ap (λ l. shadow_front s account amount ++ l) (counts.written ∙ ap (λ l. compact_text (blue_json s.version blue) ++ l) back.written)
     ∙ event_parts s account amount blue b rest
 
 -- the text of an entry behind its event
@@ -75,12 +75,12 @@ abbrev pub end_text : Reply → ℕ → List ℕ
 end_text reply site = codes ",\"reply\":" ++ (compact_text (reply_json reply) ++ (codes ",\"site\":" ++ (decimal site ++ codes "}")))
 
 -- the line of its receipt, cut at its counts
-pub receipt_told : (s : Settings) (account : Place) (amount : ℕ) (blue : List ℕ) (b : Back) (reply : Reply) (site : ℕ)
+pub receipt_written : (s : Settings) (account : Place) (amount : ℕ) (blue : List ℕ) (b : Back) (reply : Reply) (site : ℕ)
     → compact_text (entry_json s site (record { event = Receive (ShadowMessage (shadow_of account amount blue b)); reply = reply }))
     ≡ (codes "{\"event\":" ++ shadow_front s account amount)
     ++ (compact_text (blue_json s.version blue) ++ (shadow_back s b ++ end_text reply site))
 unfolding escape_byte
-receipt_told s account amount blue b reply site =
+receipt_written s account amount blue b reply site =
     let behind = compact_text (blue_json s.version blue) ++ (shadow_back s b ++ end_text reply site) in
     ap (λ l. codes "{\"event\":" ++ l) (sym (event_parts s account amount blue b (end_text reply site)))
     ∙ sym (append_assoc (codes "{\"event\":") (shadow_front s account amount) behind)

@@ -9,7 +9,7 @@ use Rattle.rb_money.specs.Refusals.{number_of_refusal}
 use Rattle.rb_history.specs.Values.{number_below, size_of}
 use Rattle.rb_history.specs.Fields.{field}
 use Rattle.rb_history.specs.Fits.{Each, IsCause, IsRefusal}
-use Rattle.rb_history.specs.RepliesRead.{cause_at, find_refusal, plain_refusals, refusal_told, tells_declined}
+use Rattle.rb_history.specs.RepliesRead.{cause_at, find_refusal, plain_refusals, refusal_parsed, tells_declined}
 use Rattle.rb_history.proofs.FitsLaws.{IsByte, IsWord, fits_choice, fits_field, fits_if, fits_map, fits_then}
 use Rattle.rb_history.proofs.PartsFit.{byte_at, number, word_at}
 
@@ -25,7 +25,7 @@ plain_fit : Each IsRefusal plain_refusals
 plain_fit = (tt, (tt, (tt, (tt, (tt, (tt, (tt, (tt, (tt, (tt, (tt, (tt, (tt, (tt, (tt, (tt, (tt, (tt, (tt, (tt, tt))))))))))))))))))))
 
 -- the refusal of a number
-pub refusal : (d : Data) (n : ℕ) → IfSome (refusal_told d n) IsRefusal
+pub refusal : (d : Data) (n : ℕ) → IfSome (refusal_parsed d n) IsRefusal
 refusal d n =
     let Q = IsRefusal in
     fits_choice Q (n == 6) _ _ (fits_if Q (size_of d == 2) _ (λ e.

@@ -9,8 +9,8 @@ use Rattle.rb_site.specs.declared.reply.Reply.TheVariants.{Made, Names, Held, Al
 use Rattle.rb_history.specs.Values.{name_at, number_below, size_of}
 use Rattle.rb_history.specs.Fields.{field, label_at, six_in, six_of}
 use Rattle.rb_history.specs.Fits.{Each, IsMoved, IsRefusal, IsReply, IsStatementRow}
-use Rattle.rb_history.specs.RepliesRead.{answer_of, made_told, moved_told, names_at, names_in, refusal_told, reply_told, row_at, rows_at}
-use Rattle.rb_history.specs.RepliesRead.{rows_in, short_of, simple_of, statement_told}
+use Rattle.rb_history.specs.RepliesRead.{answer_of, made_parsed, moved_parsed, names_at, names_in, refusal_parsed, reply_parsed, row_at, rows_at}
+use Rattle.rb_history.specs.RepliesRead.{rows_in, short_of, simple_of, statement_parsed}
 use Rattle.rb_history.proofs.FitsLaws.{IsLong, IsWord, fits_choice, fits_cons, fits_either, fits_field, fits_if, fits_made, fits_map}
 use Rattle.rb_history.proofs.FitsLaws.{fits_next, fits_then}
 use Rattle.rb_history.proofs.NumbersFit.{Fits, FitItems, FitsNumber, fits_array, fits_get, fits_signed}
@@ -34,7 +34,7 @@ signed (unsigned n) h = fits_if IsMoved (nat_lt n (2 ^ 63)) _ (λ e. ltb-true n 
 signed (negative z) h = h
 signed (float x) h = tt
 
-moved : (d : Data) → Fits d → IfSome (moved_told d) IsMoved
+moved : (d : Data) → Fits d → IfSome (moved_parsed d) IsMoved
 moved d f = fits_then FitsNumber IsMoved as_i64 (as_number d) (fits_signed d f) signed
 
 row : (d : Data) → Fits d → IfSome (row_at d) IsStatementRow
@@ -45,7 +45,7 @@ row d f =
     fits_then IsWord Q _ (number_below (2 ^ 32) p.0) (number (2 ^ 32) p.0) (λ position a.
     fits_then IsName Q _ (name_at p.1) (name p.1) (λ x b.
     fits_next Q _ (label_at p.2) (λ label.
-    fits_then IsMoved Q _ (moved_told p.3) (moved p.3 g) (λ z c.
+    fits_then IsMoved Q _ (moved_parsed p.3) (moved p.3 g) (λ z c.
     fits_next Q _ (as_bool p.4) (λ cancelled.
     fits_map IsLong Q _ (number_below (2 ^ 64) p.5) (number (2 ^ 64) p.5) (λ balance e. (a, b, c, e))))))))
 
@@ -53,7 +53,7 @@ rows : (ds : Items) → FitItems ds → IfSome (rows_in ds) (Each IsStatementRow
 rows no_items f = tt
 rows (item d ds) f = fits_cons IsStatementRow (row_at d) (rows_in ds) (row d f.0) (rows ds f.1)
 
-statement : (d : Data) → Fits d → IfSome (statement_told d) IsReply
+statement : (d : Data) → Fits d → IfSome (statement_parsed d) IsReply
 statement d f =
     let listed = λ (v : Data) (g : Fits v). fits_then FitItems (Each IsStatementRow) rows_in (as_array v) (fits_array v g) rows in
     let all = fits_then Fits (Each IsStatementRow) rows_at (get (codes "rows") d) (fits_get (codes "rows") d f) listed in
@@ -83,7 +83,7 @@ short d =
     let all = λ (v : Data). fits_next (Each IsName) names_in (as_array v) names in
     fits_either IsReply (get (codes "names") d) _ _ (λ v. fits_map (Each IsName) IsReply Names (names_at v) (all v) (λ xs h. h)) (simple d)
 
-made : (d : Data) → IfSome (made_told d) IsReply
+made : (d : Data) → IfSome (made_parsed d) IsReply
 made d =
     fits_then IsName IsReply _ (field (codes "name") name_at d) (fits_field IsName (codes "name") name_at d name) (λ x h.
     fits_made IsReply (Made x) (field (codes "kind") label_at d) (λ label. h))
@@ -92,12 +92,12 @@ answer : (d : Data) → Fits d → IfSome (answer_of d) IsReply
 answer d f =
     fits_choice IsReply (size_of d == 1) _ _ (short d)
     (fits_choice IsReply (size_of d == 2) _ _ (made d)
-    (fits_if IsReply (size_of d == 3) (statement_told d) (λ e. statement d f)))
+    (fits_if IsReply (size_of d == 3) (statement_parsed d) (λ e. statement d f)))
 
 -- a reply
-pub reply : (d : Data) → Fits d → IfSome (reply_told d) IsReply
+pub reply : (d : Data) → Fits d → IfSome (reply_parsed d) IsReply
 reply d f =
-    let why = λ (v : Data). fits_next IsRefusal (refusal_told d) (number_below (2 ^ 8) v) (refusal d) in
-    let refused = λ (v : Data). fits_map IsRefusal IsReply Refused (option_and_then (refusal_told d) (number_below (2 ^ 8) v)) (why v)
+    let why = λ (v : Data). fits_next IsRefusal (refusal_parsed d) (number_below (2 ^ 8) v) (refusal d) in
+    let refused = λ (v : Data). fits_map IsRefusal IsReply Refused (option_and_then (refusal_parsed d) (number_below (2 ^ 8) v)) (why v)
     (λ r h. h) in
     fits_either IsReply (get (codes "refused") d) _ _ refused (answer d f)

@@ -15,7 +15,7 @@ use Rattle.rb_site.specs.declared.reply.Reply.TheVariants.{Refused}
 use Rattle.rb_statements.specs.declared.row.Row.{Row}
 use Rattle.rb_history.specs.Fits.{Each, IsMoved, IsRefusal, IsReply, IsStatementRow}
 use Rattle.rb_history.specs.Replies.{refusal_json, reply_json}
-use Rattle.rb_history.specs.RepliesRead.{moved_told, names_in, reply_told, row_at, rows_in}
+use Rattle.rb_history.specs.RepliesRead.{moved_parsed, names_in, reply_parsed, row_at, rows_in}
 use Rattle.rb_history.specs.Statements.{row_json}
 use Rattle.rb_shadow.specs.Labels.{label_of_word, word_of}
 use Rattle.rb_history.specs.Values.{integer_json, name_json}
@@ -30,7 +30,7 @@ names_back : (xs : List OpName) → Each IsName xs → names_in (items_of (map n
 names_back [] h = refl
 names_back (x ∷ xs) h = rw (back x h.0, names_back xs h.1) refl
 
-moved_back : (z : ℤ) → IsMoved z → moved_told (integer_json z) ≡ Some z
+moved_back : (z : ℤ) → IsMoved z → moved_parsed (integer_json z) ≡ Some z
 moved_back (pos n) h = rw (below n (2 ^ 63) h) refl
 moved_back (negsuc n) h = refl
 
@@ -48,7 +48,7 @@ rows_back : (rs : List Row) → Each IsStatementRow rs → rows_in (items_of (ma
 rows_back [] h = refl
 rows_back (r ∷ rs) h = rw (row_by r.position r.name r.kind r.moved r.cancelled r.balance h.0, rows_back rs h.1) refl
 
-refusal_back : (r : Refusal) → IsRefusal r → reply_told (refusal_json r) ≡ Some (Refused r)
+refusal_back : (r : Refusal) → IsRefusal r → reply_parsed (refusal_json r) ≡ Some (Refused r)
 refusal_back OutOfMemory h = absurd h
 refusal_back (AlreadyCancelled position) h = rw (below position (2 ^ 32) h) refl
 refusal_back (RedBehind seen needed) (a, b) = rw (below seen (2 ^ 32) a, below needed (2 ^ 32) b) refl
@@ -58,7 +58,7 @@ refusal_back (BadMessage why) h = rw (below why (2 ^ 8) h) refl
 refusal_back _ h = refl
 
 -- the object of each reply of which a line has all is read as the reply
-pub reply_back : (r : Reply) → IsReply r → reply_told (reply_json r) ≡ Some r
+pub reply_back : (r : Reply) → IsReply r → reply_parsed (reply_json r) ≡ Some r
 reply_back (Made x kind) h = rw (label_back kind, back x h) refl
 reply_back (Names xs) h = rw (names_back xs h) refl
 reply_back (Held x) h = rw (back x h) refl

@@ -39,14 +39,14 @@ BeginsWithEach written P xs text rest = Each P xs × (text ≡ items_text false 
 pub record BeginsWithNumbered (ns text rest : List ℕ) : Type 0 where
   pub sites : length ns ≡ MOST_SITES
   pub fit : Each (λ n. n < 2 ^ 32) ns
-  pub told : text ≡ items_text false (items_of (map numbered_json (numbered_from 0 ns))) ++ rest
+  pub written : text ≡ items_text false (items_of (map numbered_json (numbered_from 0 ns))) ++ rest
 
 -- the counts of all sites, in a version of the format
 pub record BeginsWithCounts (version : ℕ) (ns text rest : List ℕ) : Type 0 where
   pub sites : length ns ≡ MOST_SITES
   pub fit : Each (λ n. n < 2 ^ 32) ns
   pub further : version ≡ 1 → Each (λ n. n ≡ 0) (drop MOST_SITES_OF_VERSION_1 ns)
-  pub told : text ≡ compact_text (blue_json version ns) ++ rest
+  pub written : text ≡ compact_text (blue_json version ns) ++ rest
 
 -- what a home had applied, in a version of the format
 pub record BeginsWithDeps (version : ℕ) (d : Deps) (text rest : List ℕ) : Type 0 where
@@ -54,7 +54,7 @@ pub record BeginsWithDeps (version : ℕ) (d : Deps) (text rest : List ℕ) : Ty
   pub blue : Each (λ n. n < 2 ^ 32) d.blue
   pub further : version ≡ 1 → Each (λ n. n ≡ 0) (drop MOST_SITES_OF_VERSION_1 d.blue)
   pub red : d.red < 2 ^ 32
-  pub told : text ≡ compact_text (deps_json version d) ++ rest
+  pub written : text ≡ compact_text (deps_json version d) ++ rest
 
 abbrev pub BeginsWithEvent : Settings → Event → List ℕ → List ℕ → Type 0
 BeginsWithEvent s e text rest = IsEvent s e × (text ≡ compact_text (event_json s e) ++ rest)

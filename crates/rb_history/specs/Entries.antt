@@ -19,7 +19,7 @@ use Rattle.rb_site.specs.declared.message.Message.TheVariants.{Shadow as ShadowM
 use Rattle.rb_token.specs.declared.message.TokenMessage.{TokenMessage}
 use Rattle.rb_history.specs.Counts.{blue_json}
 use Rattle.rb_history.specs.Recorded.{event_at}
-use Rattle.rb_history.specs.RepliesRead.{reply_told}
+use Rattle.rb_history.specs.RepliesRead.{reply_parsed}
 use Rattle.rb_history.specs.Replies.{reply_json}
 use Rattle.rb_history.specs.Values.{list_json, name_json, number_below, number_json, one_json, pair_json, size_of, three_json}
 use Rattle.rb_history.specs.Fields.{field}
@@ -91,7 +91,7 @@ entry_json s site x = object
 abbrev pub entry_in : Settings → Data → Option (ℕ × Entry)
 entry_in s d =
     option_and_then (λ site. option_and_then (λ event. option_map (λ reply. (site, record { event = event; reply = reply }))
-    (field (codes "reply") reply_told d))
+    (field (codes "reply") reply_parsed d))
     (field (codes "event") (event_at s) d))
     (field (codes "site") (number_below s.sites) d)
 

@@ -22,7 +22,7 @@ is_shadow _ = false
 pub record IsCutReceipt (s : Settings) (line front counts behind : List ℕ) : Type 0 where
   pub entry : ℕ × Entry
   pub read : entry_of_line s line ≡ Some entry
-  pub told : (version : ℕ) → compact_text (entry_json (in_version version s) entry.0 entry.1)
+  pub written : (version : ℕ) → compact_text (entry_json (in_version version s) entry.0 entry.1)
       ≡ front ++ (compact_text (blue_json version counts) ++ behind)
 
 -- the line is an entry, whose line in version 2 was added at the end

@@ -31,4 +31,4 @@ pub record BeginsWithBack (s : Settings) (b : Back) (text rest : List ℕ) : Typ
   pub home : b.home < 2 ^ 8
   pub name : IsName b.name
   pub kind : IsKind s b.kind
-  pub told : text ≡ shadow_back s b ++ rest
+  pub written : text ≡ shadow_back s b ++ rest

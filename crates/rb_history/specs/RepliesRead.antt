@@ -41,13 +41,13 @@ behind_of d = if size_of d == 3 then option_and_then
     (field (codes "seen") (number_below (2 ^ 32)) d) else None
 
 -- a batch refused, from an object of three members
-abbrev pub refused_batch_told : Data → Option Refusal
-refused_batch_told d = if size_of d == 3 then option_and_then
+abbrev pub refused_batch_parsed : Data → Option Refusal
+refused_batch_parsed d = if size_of d == 3 then option_and_then
     (λ index. option_map (BatchRefused index) (field (codes "cause") cause_at d)) (field (codes "index") (number_below (2 ^ 8)) d) else None
 
 -- a bad message, from an object of two members
-abbrev pub bad_message_told : Data → Option Refusal
-bad_message_told d = if size_of d == 2 then option_map BadMessage (field (codes "why") (number_below (2 ^ 8)) d) else None
+abbrev pub bad_message_parsed : Data → Option Refusal
+bad_message_parsed d = if size_of d == 2 then option_map BadMessage (field (codes "why") (number_below (2 ^ 8)) d) else None
 
 -- the refusals that are written as their numbers alone; running out of memory is written in no line
 abbrev pub plain_refusals : List Refusal
@@ -65,10 +65,10 @@ abbrev pub plain_of : Data → ℕ → Option Refusal
 plain_of d n = if size_of d == 1 then find_refusal n plain_refusals else None
 
 -- the refusal of this number that an object is read as
-abbrev pub refusal_told : Data → ℕ → Option Refusal
-refusal_told d n = if n == 6 then cancelled_of d
+abbrev pub refusal_parsed : Data → ℕ → Option Refusal
+refusal_parsed d n = if n == 6 then cancelled_of d
     else (if n == 9 then behind_of d
-    else (if n == 13 then refused_batch_told d else (if n == 17 then bad_message_told d else plain_of d n)))
+    else (if n == 13 then refused_batch_parsed d else (if n == 17 then bad_message_parsed d else plain_of d n)))
 
 -- ---- the other replies
 
@@ -81,8 +81,8 @@ abbrev pub names_at : Data → Option (List OpName)
 names_at d = option_and_then names_in (as_array d)
 
 -- the whole number, with a sign or none, that fits 64 bits
-abbrev pub moved_told : Data → Option ℤ
-moved_told d = option_and_then as_i64 (as_number d)
+abbrev pub moved_parsed : Data → Option ℤ
+moved_parsed d = option_and_then as_i64 (as_number d)
 
 -- a row, from the list of its position, name and kind, what it moved, whether it is cancelled, and the balance after it
 abbrev pub row_at : Data → Option Row
@@ -93,7 +93,7 @@ row_at d =
     record { position = position; name = name; kind = kind; moved = moved; cancelled = cancelled; balance = balance })
     (number_below (2 ^ 64) p.5))
     (as_bool p.4))
-    (moved_told p.3))
+    (moved_parsed p.3))
     (label_at p.2))
     (name_at p.1))
     (number_below (2 ^ 32) p.0))
@@ -122,12 +122,12 @@ abbrev pub short_of : Data → Option Reply
 short_of d = either (get (codes "names") d) (λ list. option_map Names (names_at list)) (simple_of d)
 
 -- an operation that was made, of two members
-abbrev pub made_told : Data → Option Reply
-made_told d = option_and_then (λ name. option_map (Made name) (field (codes "kind") label_at d)) (field (codes "name") name_at d)
+abbrev pub made_parsed : Data → Option Reply
+made_parsed d = option_and_then (λ name. option_map (Made name) (field (codes "kind") label_at d)) (field (codes "name") name_at d)
 
 -- a statement, of three members
-abbrev pub statement_told : Data → Option Reply
-statement_told d = option_and_then (λ start. option_and_then (λ balance. option_map (λ rows.
+abbrev pub statement_parsed : Data → Option Reply
+statement_parsed d = option_and_then (λ start. option_and_then (λ balance. option_map (λ rows.
     Statement (record { start = start; rows = rows; balance = balance }))
     (field (codes "rows") rows_at d))
     (field (codes "balance") (number_below (2 ^ 64)) d))
@@ -136,9 +136,9 @@ statement_told d = option_and_then (λ start. option_and_then (λ balance. optio
 -- the reply that is no refusal
 abbrev pub answer_of : Data → Option Reply
 answer_of d = if size_of d == 1 then short_of d
-    else (if size_of d == 2 then made_told d else (if size_of d == 3 then statement_told d else None))
+    else (if size_of d == 2 then made_parsed d else (if size_of d == 3 then statement_parsed d else None))
 
 -- the reply that an object is
-abbrev pub reply_told : Data → Option Reply
-reply_told d = either (get (codes "refused") d) (λ n. option_map Refused (option_and_then (refusal_told d) (number_below (2 ^ 8) n)))
+abbrev pub reply_parsed : Data → Option Reply
+reply_parsed d = either (get (codes "refused") d) (λ n. option_map Refused (option_and_then (refusal_parsed d) (number_below (2 ^ 8) n)))
     (answer_of d)

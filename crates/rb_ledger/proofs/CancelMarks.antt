@@ -1,5 +1,6 @@
 -- Which operations are cancelled, from one list to the next.
-use Rattle.std.proofs.Common.{◌≡◌, ℕ, zero, suc, ◌+◌, ◌-◌, ◌<◌, ◌≤◌, Bool, true, false, cond, List, [], ◌∷◌, ◌++◌, length, take, get_or, set}
+use Rattle.std.proofs.Common.{◌≡◌, ℕ, zero, suc, ◌+◌, ◌-◌, ◌<◌, ◌≤◌, Bool, true, false, cond, List, [], ◌∷◌, ◌++◌}
+use Rattle.std.proofs.Common.{length, take, get_or, set}
 use Rattle.std.proofs.Common.{map, refl, ap, sym, ◌∙◌, arith, ◌⊎◌, inl, inr, Some, None, length-set}
 use Rattle.std.specs.Prelude.{slice_get, nat_lt, option_and_then, is_some}
 use Rattle.std.proofs.lemmas.Bool.Decides.{nat_tests}

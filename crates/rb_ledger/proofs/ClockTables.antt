@@ -4,7 +4,9 @@ use Rattle.std.proofs.Common.{append_assoc, mul-le-mul_right}
 use Rattle.std.proofs.Common.{refl, ap, sym, ◌∙◌, subst, arith, inl, inr, Some, ◌⊎◌, length-take-le}
 use Rattle.std.specs.Prelude.{replicate, slice_get, slice_set}
 use Rattle.std.proofs.lemmas.Bool.{cases_lt}
-use Rattle.std.proofs.lemmas.List.{drop-append-le, take-append-le, take-take, take-append-drop, length-drop, drop-drop, drop-take, length-append, length-map, length_push, take_all, take_more}
+use Rattle.std.proofs.lemmas.List.{drop-append-le, take-append-le, take-take, take-append-drop, length-drop}
+use Rattle.std.proofs.lemmas.List.{drop-drop, drop-take, length-append, length-map, length_push, take_all}
+use Rattle.std.proofs.lemmas.List.{take_more}
 use Rattle.std.proofs.Math.Seq.{drop-append_seam}
 use Rattle.rb_ledger.specs.declared.counts.TheConstants.{LESS}
 use Rattle.rb_ledger.specs.ClockLists.{AreBased, AreNear, base_of, clocks_of, kept_step, step_added, steps_of, sums}
@@ -97,7 +99,8 @@ clock_pushed w bs (p ∷ os) ss ts o count =
     let next : suc (length os) * w ≡ w + length os * w = omega arith in
     let whole : length ss ≡ w + length os * w = count ∙ next in
     let rest = clock_pushed w bs os (drop w ss) ts o (omega (arith, whole, length-drop w ss)) in
-    ap (λ xs. sums (take w (drop p bs)) xs ∷ clocks_of w bs (os ++ o ∷ []) (drop w (ss ++ ts))) (take-append-le w ss ts (omega (arith, whole)))
+    ap (λ xs. sums (take w (drop p bs)) xs ∷ clocks_of w bs (os ++ o ∷ []) (drop w (ss ++ ts)))
+    (take-append-le w ss ts (omega (arith, whole)))
     ∙ ap (λ xs. sums (take w (drop p bs)) (take w ss) ∷ clocks_of w bs (os ++ o ∷ []) xs) (drop-append-le w ss ts (omega (arith, whole)))
     ∙ ap (λ xs. sums (take w (drop p bs)) (take w ss) ∷ xs) rest
 
@@ -207,6 +210,7 @@ pub record IsCut (w n : ℕ) (bs os ss cs ps ts : List ℕ) : Type 0 where
   pub based : AreBased w 0 (length cs) ps
   pub clocks : clocks_of w cs ps ts ≡ take n (clocks_of w bs os ss)
 
+-- the first clocks of a list, with the entries that they are kept by, are kept by prefixes of these
 pub cut : (w n m : ℕ) (bs os ss cs ps ts : List ℕ) → AreBased w 0 (length bs) os → length ss ≡ length os * w →
     ps ≡ take n os → m ≡ length ps * w → cs ≡ take m bs → ts ≡ take m ss → IsCut w n bs os ss cs ps ts
 cut w n m bs os ss cs ps ts are count first is bases steps =
@@ -236,6 +240,7 @@ pub record IsLonger (w : ℕ) (bs os ss cs ps ts ns : List ℕ) : Type 0 where
   pub based : AreBased w 0 (length cs) ps
   pub clocks : clocks_of w cs ps ts ≡ clocks_of w bs os ss ++ take w ns ∷ []
 
+-- a clock that is near a base is kept by its steps above that base, behind the clocks before it
 pub longer : (w o : ℕ) (bs os ss ps ts ns base : List ℕ) → AreBased w 0 (length bs) os → length ss ≡ length os * w →
     length bs ≤ length os * w + w → o ≤ length os * w → o + w ≤ length bs → w ≤ length ns → base ≡ take w (drop o bs) → AreNear base ns →
     ps ≡ os ++ o ∷ [] → ts ≡ ss ++ steps_of base ns → IsLonger w bs os ss bs ps ts ns
@@ -267,7 +272,8 @@ longer_anew w o bs cs os ss ps ts ns base are count few at many is based near st
     let own : base ≡ base_of ns = based ∙ ap (λ k. take w (drop k cs)) at ∙ ap (λ xs. take w (drop (length bs) xs)) is
     ∙ ap (take w) (drop-append_seam bs (base_of ns)) ∙ take_all w (base_of ns) (omega (arith, wide)) in
     let wider : AreBased w 0 (length cs) os = based_wider w 0 (length bs) (length cs) os (omega (arith, all)) are in
-    let l = longer w o cs os ss ps ts ns base wider count (omega (arith, few, all)) (omega (arith, few, at)) (omega (arith, at, all)) (omega (arith, many)) based
+    let l = longer w o cs os ss ps ts ns base wider count (omega (arith, few, all)) (omega (arith, few, at))
+    (omega (arith, at, all)) (omega (arith, many)) based
     (subst (λ xs. AreNear xs ns) (sym own) near) starts steps in
     record {
       steps = l.steps;
@@ -302,7 +308,8 @@ same_but (k ∷ ks) [] own n many each = absurd (omega (arith, many))
 same_but (k ∷ ks) (m ∷ ns) zero n many each =
     ap (λ xs. n ∷ xs) (same_all ks ns (omega (arith, many)) (λ i low. each (suc i) (omega (arith, low)) (λ e. omega (arith, e))))
 same_but (k ∷ ks) (m ∷ ns) (suc own) n many each =
-    let rest = same_but ks ns own n (omega (arith, many)) (λ i low apart. each (suc i) (omega (arith, low)) (λ e. apart (omega (arith, e)))) in
+    let rest = same_but ks ns own n (omega (arith, many))
+    (λ i low apart. each (suc i) (omega (arith, low)) (λ e. apart (omega (arith, e)))) in
     ap (λ x. x ∷ slice_set ks own n) (each zero (omega arith) (λ e. omega (arith, e))) ∙ ap (λ xs. m ∷ xs) rest
 
 -- an item is set behind the first ones

@@ -144,7 +144,8 @@ front_links os ps ls o is =
 
 -- the links that are seen after a pop
 pub seen_popped : (os ps : List OwnLink) (ls ms : List ℕ) (o : OwnLink) (n k : ℕ) (r : Option ℕ) (t : LinkTable) →
-    AreNumbered 0 os (length ls) → record { items = map (both_links ls) os; cancelled = marks os; limit = k } ≡ t → os ≡ ps ++ o ∷ [] → 0 < o.second →
+    AreNumbered 0 os (length ls) → record { items = map (both_links ls) os; cancelled = marks os; limit = k } ≡ t
+    → os ≡ ps ++ o ∷ [] → 0 < o.second →
     n ≡ length ls → ls ≡ ms ++ option_to_list r → ((d : ℕ) → 0 < n → r ≡ Some (get_or ls (n - 1) d)) →
     map (both_links ms) ps ≡ take (length t.items - 1) t.items
 seen_popped os ps ls ms o n k r t are view is some count items value =

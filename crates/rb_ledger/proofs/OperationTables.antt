@@ -2,11 +2,13 @@
 use Rattle.std.proofs.Common.{◌≡◌, ℕ, zero, suc, ◌+◌, ◌-◌, ◌<◌, ◌≤◌, List, [], ◌∷◌, ◌++◌, length, take, drop, get_or}
 use Rattle.std.proofs.Common.{refl, ap, sym, ◌∙◌, subst, arith, inl, inr, Some, None, true, false}
 use Rattle.std.proofs.Common.{length-take-le}
-use Rattle.std.specs.Prelude.{Bool, not, is_some, option_to_list, if◌then◌else◌, Option, option_map, slice_get, slice_index, slice_set, replicate, ◌==◌, nat_le}
+use Rattle.std.specs.Prelude.{Bool, not, is_some, option_to_list, if◌then◌else◌, Option, option_map, slice_get}
+use Rattle.std.specs.Prelude.{slice_index, slice_set, replicate, ◌==◌, nat_le}
 use Rattle.std.specs.Prelude.{◌&&◌, ◌⊎◌, unwrap_or}
 use Rattle.std.proofs.lemmas.Bool.{and_parts}
 use Rattle.std.proofs.lemmas.Bool.Decides.{nat_tests}
-use Rattle.std.proofs.lemmas.List.{get_or_append_left, length-set, length-map, length_push, map_push, take-append-drop, take-take, take_all, set-append_left, set-get_or}
+use Rattle.std.proofs.lemmas.List.{get_or_append_left, length-set, length-map, length_push, map_push}
+use Rattle.std.proofs.lemmas.List.{take-append-drop, take-take, take_all, set-append_left, set-get_or}
 use Rattle.std.proofs.lemmas.Option.{slice_get_past, slice_get-map}
 use Rattle.std.proofs.Math.Seq.{get_or-append_seam, take-append_seam}
 use Rattle.rb_money.specs.Settings.{Settings}
@@ -148,7 +150,8 @@ same_operations : (w k : ℕ) (bs : List Body) (cs ds : List (List ℕ)) → Are
 unfolding AreInOrder
 same_operations w k [] cs ds are many = refl
 same_operations w k (b ∷ bs) cs ds (step, are) many =
-    ap (λ ns. with_counts w b ns ∷ operations_of w bs (cs ++ ds)) (get_or_append_left cs ds [] b.clock (omega (arith, many, none_above (b.clock + 1) bs are)))
+    ap (λ ns. with_counts w b ns ∷ operations_of w bs (cs ++ ds))
+    (get_or_append_left cs ds [] b.clock (omega (arith, many, none_above (b.clock + 1) bs are)))
     ∙ ap (λ us. with_counts w b (get_or cs b.clock []) ∷ us) (same_operations w (b.clock + 1) bs cs ds are many)
 
 -- one more operation
@@ -225,7 +228,15 @@ name_again (Red n) home own = refl
 pub whole_again : (w n : ℕ) (ns : List ℕ) (v : Shadow) (k : Colour) (m : ℕ) → k ≡ shown_colour v.name → m ≡ number_of v.name →
     is_foreign v.name v.home ≡ false →
     clock_of_counts w (slice_set ns (row_of v.name) (number_of v.name - 1)) ≡ v.deps →
-    with_counts w (record { colour = k; home = v.home; account = v.account; number = m; kind = v.kind; clock = n; amount = v.amount }) ns ≡ v
+    with_counts w (record {
+      colour = k;
+      home = v.home;
+      account = v.account;
+      number = m;
+      kind = v.kind;
+      clock = n;
+      amount = v.amount;
+    }) ns ≡ v
 whole_again w n ns v k m colour number own clock =
     let name = ap (λ j. kept_name j v.home m) colour ∙ ap (kept_name (shown_colour v.name) v.home) number ∙ name_again v.name v.home own in
     let same = ap (λ x. clock_of_counts w (slice_set ns (row_of x) (m - 1))) name

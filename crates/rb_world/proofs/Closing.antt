@@ -1,5 +1,6 @@
 -- The reports of a world's sites.
-use Rattle.std.proofs.Common.{◌≡◌, ◌∙◌, Bool, true, false, List, [], ◌∷◌, ◌++◌, Some, ap, arith, length, map, reverse, subst, sym, append_assoc}
+use Rattle.std.proofs.Common.{◌≡◌, ◌∙◌, Bool, true, false, List, [], ◌∷◌, ◌++◌, Some, ap, arith, length, map}
+use Rattle.std.proofs.Common.{reverse, subst, sym, append_assoc}
 use Rattle.std.proofs.lemmas.List.{append-nil, reverse-append}
 use Rattle.std.proofs.lemmas.List.Elements.{All-pop}
 use Rattle.rb_money.specs.Settings.{Settings}

@@ -102,6 +102,7 @@ pub record IsTaken (config : Settings) (xs : List SeenSite) (messages : List Mes
     pub settings : x.settings ≡ config
     pub room : is_full config (state_of x) ≡ false
 
+-- a world of these sites and messages
 abbrev pub sites_and : List ModelSite → List Message → World
 sites_and ts ms = record { sites = ts; messages = ms }
 

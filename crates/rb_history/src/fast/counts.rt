@@ -33,7 +33,7 @@ fn parse_first<'a>(text: &'a str, counts: &mut [u32]) -> Option<&'a str>
 fn parse_numbered_one(text: &str, least: usize) -> Option<(usize, u32, &str)>
     ensures near { IfSome result (λ p. (least ≤ p.0) × (p.0 < MOST_SITES)) }
     ensures some { IfSome result (λ p. (0 < p.1) × (p.1 < 2 ^ 32)) }
-    ensures told { IfSome result (λ p. text.now ≡ compact_text (numbered_json (p.0, p.1)) ++ p.2.now) }
+    ensures written { IfSome result (λ p. text.now ≡ compact_text (numbered_json (p.0, p.1)) ++ p.2.now) }
 {
     let (site, rest) = parse_byte(parse_prefix(text, "[")?)?;
     let (count, rest) = parse_word_between(rest, ",", "]")?;

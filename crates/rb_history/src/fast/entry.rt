@@ -37,7 +37,7 @@ pub fn parse_entry_end(alloc: Global, config: &Config, text: &str, reply: &mut R
 pub fn parse_entry(alloc: Global, config: &Config, line: &str, entry: &mut Entry) -> Option<u8>
     ensures read { IfSome result (λ site. (entry_of_line config.now line.now ≡ Some (site, entry.new))
         × (site < config.now.sites)) }
-    ensures told { IfSome result (λ site. line.now ≡ compact_text (entry_json config.now site entry.new)) }
+    ensures written { IfSome result (λ site. line.now ≡ compact_text (entry_json config.now site entry.new)) }
 {
     // For a fact alone: its settings are those of a configuration.
     let _sites = config.sites();

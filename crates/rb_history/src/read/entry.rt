@@ -5,7 +5,7 @@ ghost use Rattle.rb_history.specs.Entries.{entry_of_object};
 ghost use Rattle.rb_history.specs.Fields.{field};
 ghost use Rattle.rb_history.specs.Lines.{Gives};
 ghost use Rattle.rb_history.specs.Recorded.{event_at};
-ghost use Rattle.rb_history.specs.RepliesRead.{reply_told};
+ghost use Rattle.rb_history.specs.RepliesRead.{reply_parsed};
 ghost use Rattle.rb_history.specs.Values.{number_below};
 
 use crate::fault::LineFault;
@@ -30,7 +30,7 @@ fn event_of(alloc: Global, config: &Config, value: &Value) -> Result<Event, Line
 
 /// The reply of an entry.
 fn reply_of(alloc: Global, value: &Value) -> Result<Reply, LineFault>
-    ensures { Gives result (field (codes "reply") reply_told (view value.now)) }
+    ensures { Gives result (field (codes "reply") reply_parsed (view value.now)) }
 {
     match value.get(key!(reply)) {
         Some(given) => reply(alloc, given),

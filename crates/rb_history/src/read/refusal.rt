@@ -1,9 +1,9 @@
 //! Refusals, from a history's line.
 ghost use Rattle.std.specs.Prelude.{◌≡◌};
 ghost use Rattle.serde_json.specs.View.{view};
-ghost use Rattle.rb_history.specs.RepliesRead.{refused_batch_told, behind_of, cancelled_of, cause_at};
-ghost use Rattle.rb_history.specs.RepliesRead.{tells_declined, bad_message_told, plain_of};
-ghost use Rattle.rb_history.specs.RepliesRead.{refusal_told};
+ghost use Rattle.rb_history.specs.RepliesRead.{refused_batch_parsed, behind_of, cancelled_of, cause_at};
+ghost use Rattle.rb_history.specs.RepliesRead.{tells_declined, bad_message_parsed, plain_of};
+ghost use Rattle.rb_history.specs.RepliesRead.{refusal_parsed};
 
 use crate::keys::key;
 use crate::read::value::{byte, size, word};
@@ -56,7 +56,7 @@ fn behind(value: &Value) -> Option<Refusal>
 }
 
 fn batch(value: &Value) -> Option<Refusal>
-    ensures { result ≡ refused_batch_told (view value.now) }
+    ensures { result ≡ refused_batch_parsed (view value.now) }
 {
     if size(value) != 3 {
         return None;
@@ -67,7 +67,7 @@ fn batch(value: &Value) -> Option<Refusal>
 }
 
 fn message(value: &Value) -> Option<Refusal>
-    ensures { result ≡ bad_message_told (view value.now) }
+    ensures { result ≡ bad_message_parsed (view value.now) }
 {
     if size(value) != 2 {
         return None;
@@ -87,7 +87,7 @@ fn plain(value: &Value, number: u8) -> Option<Refusal>
 
 /// The refusal of this number that an object is read as.
 pub fn refusal(value: &Value, number: u8) -> Option<Refusal>
-    ensures { result ≡ refusal_told (view value.now) number }
+    ensures { result ≡ refusal_parsed (view value.now) number }
 {
     if number == 6 {
         return cancelled(value);

@@ -3,7 +3,7 @@ ghost use Rattle.std.specs.Prelude.{◌≡◌, ◌^◌, option_and_then, option_
 ghost use Rattle.serde_json.specs.View.{view};
 ghost use Rattle.rb_site.specs.declared.reply.Reply.TheVariants.{Names, Refused};
 ghost use Rattle.rb_history.specs.Lines.{Gives, GivesAs};
-ghost use Rattle.rb_history.specs.RepliesRead.{answer_of, made_told, names_at, refusal_told, reply_told, short_of};
+ghost use Rattle.rb_history.specs.RepliesRead.{answer_of, made_parsed, names_at, refusal_parsed, reply_parsed, short_of};
 ghost use Rattle.rb_history.specs.RepliesRead.{simple_of};
 ghost use Rattle.rb_history.specs.Values.{number_below};
 
@@ -87,7 +87,7 @@ fn short(alloc: Global, value: &Value) -> Result<Reply, LineFault>
 
 /// An operation that was made, from an object of two members.
 fn made(value: &Value) -> Option<Reply>
-    ensures { result ≡ made_told (view value.now) }
+    ensures { result ≡ made_parsed (view value.now) }
 {
     let name = name(value.get(key!(name))?)?;
     let kind = label(value.get(key!(kind))?)?;
@@ -116,7 +116,7 @@ fn answer(alloc: Global, value: &Value) -> Result<Reply, LineFault>
 
 /// A refusal, by the value of its number.
 fn refused(value: &Value, number: &Value) -> Option<Reply>
-    ensures { result ≡ option_map Refused (option_and_then (refusal_told (view value.now))
+    ensures { result ≡ option_map Refused (option_and_then (refusal_parsed (view value.now))
         (number_below (2 ^ 8) (view number.now))) }
 {
     let number = byte(number)?;
@@ -125,7 +125,7 @@ fn refused(value: &Value, number: &Value) -> Option<Reply>
 
 /// The reply that an object is.
 pub fn reply(alloc: Global, value: &Value) -> Result<Reply, LineFault>
-    ensures { Gives result (reply_told (view value.now)) }
+    ensures { Gives result (reply_parsed (view value.now)) }
 {
     let Some(number) = value.get(key!(refused)) else {
         return answer(alloc, value);

@@ -3,7 +3,7 @@ ghost use Rattle.std.specs.Prelude.{◌≡◌, ◌^◌};
 ghost use Rattle.serde_json.specs.View.{view};
 ghost use Rattle.rb_history.specs.Fields.{field};
 ghost use Rattle.rb_history.specs.Lines.{GivesAs, Gives};
-ghost use Rattle.rb_history.specs.RepliesRead.{row_at, rows_at, statement_told};
+ghost use Rattle.rb_history.specs.RepliesRead.{row_at, rows_at, statement_parsed};
 ghost use Rattle.rb_history.specs.Values.{number_below};
 
 use crate::fault::LineFault;
@@ -64,7 +64,7 @@ fn cents(value: &Value, key: &str) -> Option<u64>
 
 /// A statement, from an object of three members.
 pub fn statement(alloc: Global, value: &Value) -> Result<Reply, LineFault>
-    ensures { Gives result (statement_told (view value.now)) }
+    ensures { Gives result (statement_parsed (view value.now)) }
 {
     let Some(start) = cents(value, key!(start)) else {
         return Err(LineFault::Bad);

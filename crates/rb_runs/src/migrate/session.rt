@@ -9,8 +9,7 @@ ghost use Rattle.rb_runs.specs.MigrationSession.{first_migration};
 
 use crate::fault::fault_at;
 use crate::migrate::versions::Versions;
-use rb_history::LineFault;
-use rb_history::open_config;
+use rb_history::{LineFault, open_config};
 use rb_lines::{Responder, ScriptFault, is_blank, text_on};
 use std::alloc::Global;
 

@@ -4,8 +4,7 @@ ghost use Rattle.rb_history.specs.declared.fault.LineFault.TheVariants.{Bad};
 ghost use Rattle.rb_history.specs.OnLines.{command_on};
 ghost use Rattle.rb_runs.specs.ScriptSession.{AnswersCommand};
 
-use rb_history::{LineFault, append_reply};
-use rb_history::open_command;
+use rb_history::{LineFault, append_reply, open_command};
 use rb_site::Reply;
 use rb_world::LeanWorld;
 use std::alloc::Global;

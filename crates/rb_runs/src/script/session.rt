@@ -8,8 +8,7 @@ ghost use Rattle.rb_runs.specs.ScriptSession.{first_session};
 
 use crate::fault::fault_at;
 use crate::script::command::answer_command;
-use rb_history::LineFault;
-use rb_history::open_config;
+use rb_history::{LineFault, open_config};
 use rb_lines::{Responder, ScriptFault, is_blank};
 use rb_money::Refusal;
 use rb_site::Reply;

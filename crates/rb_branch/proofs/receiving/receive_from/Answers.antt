@@ -12,7 +12,8 @@ pub loop-index-preserved : goal.loop-index-preserved
 loop-index-preserved g c = record {
   served = serves_more _ _ _ _ _ _ c.loop-index.invariant.served c.receive_at.ensures.served;
   front =
-      refuses_then _ _ _ _ _ _ c.args.seat.now c.loop-index.seat c.receive_at.new.seat c.loop-index.invariant.served c.loop-index.invariant.front c.in_ok-index.ensures.refused;
+      refuses_then _ _ _ _ _ _ c.args.seat.now c.loop-index.seat c.receive_at.new.seat c.loop-index.invariant.served
+      c.loop-index.invariant.front c.in_ok-index.ensures.refused;
 }
 
 pub returns-clause-served : goal.returns-clause-served

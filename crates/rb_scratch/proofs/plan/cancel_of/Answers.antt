@@ -20,7 +20,9 @@ returns-then-not-may_be_cancelled-clause-reason c =
     let is : IsFound c.args.ledger.now.entries c.args.target c.in-Some.position c.unwrap-found.result =
     Found.is_found _ _ _ _ c.unwrap-found.result (sym c.find.ensures ∙ c.in-Some.is) c.operation.ensures c.unwrap-found.ensures
     in
-    Found.uncancellable c.args.ledger.now.entries c.args.target _ is.found (ap may_be_cancelled (sym c.kind-kind.ensures) ∙ sym c.may_be_cancelled.ensures ∙ c.if-not-may_be_cancelled.true)
+    Found.uncancellable c.args.ledger.now.entries c.args.target _ is.found
+    (ap may_be_cancelled (sym c.kind-kind.ensures) ∙ sym c.may_be_cancelled.ensures
+    ∙ c.if-not-may_be_cancelled.true)
 
 pub returns-in-Some-first_cancel-clause-reason : goal.returns-in-Some-first_cancel-clause-reason
 unfolding plan_of
@@ -28,7 +30,8 @@ returns-in-Some-first_cancel-clause-reason c =
     let is : IsFound c.args.ledger.now.entries c.args.target c.in-Some.position c.unwrap-found.result =
     Found.is_found _ _ _ _ c.unwrap-found.result (sym c.find.ensures ∙ c.in-Some.is) c.operation.ensures c.unwrap-found.ensures
     in
-    Found.cancelled_at c.args.ledger.now.entries c.args.target _ _ _ _ is (ap may_be_cancelled (sym c.kind-kind.ensures) ∙ sym c.may_be_cancelled.ensures
+    Found.cancelled_at c.args.ledger.now.entries c.args.target _ _ _ _ is
+    (ap may_be_cancelled (sym c.kind-kind.ensures) ∙ sym c.may_be_cancelled.ensures
     ∙ c.if-not-may_be_cancelled.false) c.first_cancel.ensures c.in-Some-first_cancel.is
 
 pub returns-clause-planned : goal.returns-clause-planned

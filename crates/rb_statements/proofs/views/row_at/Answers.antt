@@ -15,11 +15,13 @@ unwrap-moved-requires c = Steps.has_moved _ _ _ _ _ c.requires.on c.requires.som
 pub returns-clause-row : goal.returns-clause-row
 returns-clause-row c =
     let fits : FitsSigned w64 c.unwrap-moved.result = search rules in
-    let (there, own) = Steps.found_there _ _ _ _ c.unwrap-entry.result c.requires.on c.requires.some c.operation.ensures c.unwrap-entry.ensures
+    let (there, own) = Steps.found_there _ _ _ _ c.unwrap-entry.result c.requires.on c.requires.some
+    c.operation.ensures c.unwrap-entry.ensures
     in
     let moved = to_z-of_z w64 c.unwrap-moved.result fits ∙ Steps.moved_there _ _ _ _ _ _ c.requires.on c.requires.some c.moved.ensures.moved
     c.unwrap-moved.ensures in
-    simp (sym c.name.ensures) at (Steps.own_row _ _ _ _ c.unwrap-entry.result _ _ _ _ _ c.requires.some there own (c.label.ensures ∙ ap (λ (k : Kind). label_of k) c.kind.ensures) moved
+    simp (sym c.name.ensures) at (Steps.own_row _ _ _ _ c.unwrap-entry.result _ _ _ _ _ c.requires.some there own
+    (c.label.ensures ∙ ap (λ (k : Kind). label_of k) c.kind.ensures) moved
     refl c.is_cancelled.ensures.first c.requires.sum)
 
 pub returns-clause-moved : goal.returns-clause-moved

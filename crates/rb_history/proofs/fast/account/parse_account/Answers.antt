@@ -3,7 +3,7 @@ use Rattle.std.specs.Prelude.{unwrap_or}
 use Rattle.rb_money.specs.Settings.{place_in}
 use Rattle.rb_history.specs.Beginnings.{behind_quote}
 use Rattle.rb_history.proofs.PlacesRead.{name_there, nobody_there}
-use Rattle.rb_history.proofs.Joined.{string_told}
+use Rattle.rb_history.proofs.Joined.{string_written}
 use Rattle.rb_history.proofs.fast.account.parse_account.Goals as goal
 
 pub returns-in-Some-clause-text : goal.returns-in-Some-clause-text
@@ -12,7 +12,7 @@ returns-in-Some-clause-text c =
     let name = c.in_ok-name.name.now in
     let rest = c.in_ok-name.rest.now in
     let found : place_in names name ≡ Some c.in-Some.place = search rules in
-    string_told name c.args.text.now rest c.in_ok-name.ensures.0 c.in_ok-name.ensures.1
+    string_written name c.args.text.now rest c.in_ok-name.ensures.0 c.in_ok-name.ensures.1
     ∙ ap (λ o. behind_quote (unwrap_or o (codes "?")) ++ rest) (sym (name_there names name c.in-Some.place found))
 
 pub returns-then-eq-clause-text : goal.returns-then-eq-clause-text
@@ -20,5 +20,5 @@ returns-then-eq-clause-text c =
     let name = c.in_ok-name.name.now in
     let rest = c.in_ok-name.rest.now in
     let is : name ≡ codes "?" = search rules in
-    string_told name c.args.text.now rest c.in_ok-name.ensures.0 c.in_ok-name.ensures.1
+    string_written name c.args.text.now rest c.in_ok-name.ensures.0 c.in_ok-name.ensures.1
     ∙ ap (λ l. behind_quote l ++ rest) (is ∙ sym (nobody_there c.args.config.now c.accounts.ensures.configured))

@@ -15,14 +15,14 @@ returns-then-version-eq1 c =
     let rest = c.in_ok-rest.rest.now in
     let one : c.args.version ≡ 1 = search rules in
     let read = c.in_ok-list.ensures ∙ ap (λ l. codes "[" ++ l) c.in_ok-rest.ensures.1 in
-    let told : BeginsWithCounts 1 (widened first) text rest = record {
+    let written : BeginsWithCounts 1 (widened first) text rest = record {
       sites = widened_length first few;
       fit = widened_fits first c.in_ok-rest.ensures.0;
       further = λ version. widened_further first few;
-      told = read ∙ ap (λ blue. compact_text blue ++ rest) (sym (widened_json first few));
+      written = read ∙ ap (λ blue. compact_text blue ++ rest) (sym (widened_json first few));
     } in
     subst (λ v. BeginsWithCounts v c.widened.result text rest) (sym one) (subst (λ ns. BeginsWithCounts 1 ns text rest)
-    (sym c.widened.ensures) told)
+    (sym c.widened.ensures) written)
 
 -- what is known of a value that there is
 if_some : {A : Type 0} {P Q : A → Type 0} (o : Option A) → ((x : A) → P x → Q x) → IfSome o P → IfSome o Q
@@ -37,7 +37,7 @@ numbered version ns text list rest other e n = record {
   sites = n.sites;
   fit = n.fit;
   further = λ one. absurd (other one);
-  told = search rules;
+  written = search rules;
 }
 
 pub returns : goal.returns

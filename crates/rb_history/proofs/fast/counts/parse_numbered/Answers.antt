@@ -39,7 +39,7 @@ sites-preserved c =
       fit = fit_more IsWord counts least site n inv.sites near.0 near.1 inv.none (omega arith) some.1 inv.fit;
       read = subst (BeginsWith numbered_json text c.in_ok-site.rest.now (codes ",")) (sym more)
           (one_more numbered_json text c.sites.left.now c.sites.comma.now c.in_ok-parse_prefix.field-0.now c.in_ok-site.rest.now
-          (numbered_from 0 (take least counts)) (site, n) inv.read c.in_ok-parse_prefix.ensures c.in_ok-site.ensures.told);
+          (numbered_from 0 (take least counts)) (site, n) inv.read c.in_ok-parse_prefix.ensures c.in_ok-site.ensures.written);
     }
 
 pub sites-smaller : goal.sites-smaller
@@ -55,6 +55,6 @@ returns-in-Some c =
     record {
       sites = inv.sites;
       fit = fit_all IsWord counts least inv.none (omega arith) inv.fit;
-      told = all_read numbered_json text c.sites.left.now c.sites.comma.now c.in-Some.rest.now
+      written = all_read numbered_json text c.sites.left.now c.sites.comma.now c.in-Some.rest.now
           (numbered_from 0 counts) read c.in-Some.ensures;
     }

@@ -2,11 +2,11 @@ use Rattle.std.proofs.Common.{◌≡◌, ◌++◌, List, ℕ, codes, decimal, ap
 use Rattle.json.specs.Print.{escape_byte}
 use Rattle.rb_history.proofs.fast.event.parse_token.Goals as goal
 
-token_told : (text epoch to red one two rest : List ℕ) → text ≡ (codes "{\"token\":[" ++ (epoch ++ codes ",")) ++ one
+token_written : (text epoch to red one two rest : List ℕ) → text ≡ (codes "{\"token\":[" ++ (epoch ++ codes ",")) ++ one
     → one ≡ (to ++ codes ",") ++ two → two ≡ (red ++ codes "]}") ++ rest
     → text ≡ (codes "{\"token\":" ++ ((codes "[" ++ (epoch ++ (codes "," ++ (to ++ (codes "," ++ (red ++ codes "]")))))) ++ codes "}"))
     ++ rest
-token_told text epoch to red one two rest e f g =
+token_written text epoch to red one two rest e f g =
     let whole : (codes "{\"token\":[" ++ (epoch ++ codes ",")) ++ ((to ++ codes ",") ++ ((red ++ codes "]}") ++ rest)) ≡ (codes
     "{\"token\":" ++ ((codes "[" ++ (epoch ++ (codes "," ++ (to ++ (codes "," ++ (red ++ codes "]")))))) ++ codes "}"))
     ++ rest = simp append_assoc in
@@ -18,7 +18,7 @@ returns c =
     let epoch = decimal c.in_ok-epoch.epoch in
     let to = decimal c.in_ok-to.to in (
       (c.in_ok-epoch.ensures.0, c.in_ok-to.ensures.0, c.in_ok-red.ensures.0),
-      token_told c.args.text.now epoch to
+      token_written c.args.text.now epoch to
           (decimal c.in_ok-red.red) c.in_ok-epoch.rest.now c.in_ok-to.rest.now c.in_ok-red.rest.now c.in_ok-epoch.ensures.1
           c.in_ok-to.ensures.1 c.in_ok-red.ensures.1,
     )

@@ -2,7 +2,7 @@ use Rattle.std.proofs.Common.{◌≡◌, [], ◌∷◌, ◌++◌, codes, ap, sym
 use Rattle.rb_history.specs.Values.{name_json}
 use Rattle.rb_shadow.specs.NameText.{IsName}
 use Rattle.rb_history.specs.Fits.{Each}
-use Rattle.rb_history.proofs.Joined.{name_told}
+use Rattle.rb_history.proofs.Joined.{name_written}
 use Rattle.rb_history.proofs.ListRead.{BeginsWith, all_read, each_more, one_more}
 use Rattle.rb_history.proofs.fast.reply.parse_list.Goals as goal
 
@@ -24,7 +24,7 @@ loop-preserved c =
     let names = c.loop.names.items in
     let next = c.in_ok-name.rest.now in
     let made = c.in_ok-name in
-    let named = name_told made.name _ _ made.ensures.0 made.ensures.1 in
+    let named = name_written made.name _ _ made.ensures.0 made.ensures.1 in
     let pushed : c.push.new.self.items ≡ names ++ (made.name ∷ []) = search rules in
     record {
       left = search rules;

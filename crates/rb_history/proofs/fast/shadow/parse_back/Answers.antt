@@ -5,7 +5,7 @@ use Rattle.rb_shadow.specs.NameText.{name_text}
 use Rattle.rb_shadow.specs.Labels.{word_of}
 use Rattle.rb_history.specs.Entries.{last_members}
 use Rattle.rb_history.specs.Beginnings.{behind_quote}
-use Rattle.rb_history.proofs.Joined.{name_told}
+use Rattle.rb_history.proofs.Joined.{name_written}
 use Rattle.rb_history.proofs.fast.shadow.parse_back.Goals as goal
 
 back_text : (red home kind name last rest : List ℕ)
@@ -24,7 +24,7 @@ returns c =
     let name = behind_quote (name_text c.in_ok-name.name) in
     let last = members_text true (last_members c.args.config.now c.in_ok-kind.kind) in
     let rest = c.in_ok-rest.rest.now in
-    let named = name_told c.in_ok-name.name _ _ c.in_ok-name.ensures.0 c.in_ok-name.ensures.1 in
+    let named = name_written c.in_ok-name.name _ _ c.in_ok-name.ensures.0 c.in_ok-name.ensures.1 in
     let read =
     c.in_ok-red.ensures.1 ∙ ap (λ l. (codes "," ++ (red ++ codes "]")) ++ l)
     (c.in_ok-home.ensures.1 ∙ ap (λ l. (codes ",\"home\":" ++ (home ++ codes ",\"kind\":\"")) ++ l)
@@ -39,6 +39,6 @@ returns c =
       home = c.in_ok-home.ensures.0;
       name = c.in_ok-name.ensures.0;
       kind = c.in_ok-kind.ensures.kind.0;
-      told = read ∙ back_text red home label name last rest
+      written = read ∙ back_text red home label name last rest
           ∙ ap (λ k. whole (behind_quote (word_of k))) (sym c.in_ok-kind.ensures.kind.1);
     }

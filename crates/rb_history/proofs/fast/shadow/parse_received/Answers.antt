@@ -1,6 +1,6 @@
 use Rattle.std.proofs.Common.{subst}
 use Rattle.rb_history.specs.Beginnings.{BeginsWithCounts}
-use Rattle.rb_history.proofs.Receipts.{event_told, shadow_fits}
+use Rattle.rb_history.proofs.Receipts.{event_written, shadow_fits}
 use Rattle.rb_history.proofs.fast.shadow.parse_received.Goals as goal
 
 pub returns : goal.returns
@@ -14,5 +14,5 @@ returns c =
     let counts : BeginsWithCounts s.version blue list behind = subst (λ v. BeginsWithCounts v blue list behind) c.version.ensures.same
     c.in_ok-rest.ensures in (
       shadow_fits s front.account front.amount blue list behind back.rest.now back.back front.ensures.0 front.ensures.1 counts back.ensures,
-      event_told s front.account front.amount blue c.args.text.now list behind back.rest.now back.back front.ensures.2 counts back.ensures,
+      event_written s front.account front.amount blue c.args.text.now list behind back.rest.now back.back front.ensures.2 counts back.ensures,
     )

@@ -6,7 +6,7 @@ use Rattle.rb_shadow.specs.NameText.{name_text}
 use Rattle.rb_shadow.specs.Labels.{word_of}
 use Rattle.rb_history.proofs.Numerals.{integer_text}
 use Rattle.rb_history.specs.Beginnings.{behind_quote}
-use Rattle.rb_history.proofs.Joined.{name_told}
+use Rattle.rb_history.proofs.Joined.{name_written}
 use Rattle.rb_history.proofs.fast.statement.parse_row.Goals as goal
 
 row_text : (position name kind moved cancelled balance rest : List ℕ)
@@ -31,7 +31,7 @@ returns c =
     "[" ++ (position ++ (codes ",\"" ++
     (name ++ (codes ",\"" ++ (kind ++ (codes
     "," ++ (m ++ (codes "," ++ (cancelled ++ (codes "," ++ (balance ++ codes "]")))))))))))) ++ rest in
-    let named = name_told c.in_ok-name.name _ _ c.in_ok-name.ensures.0 c.in_ok-name.ensures.1 in
+    let named = name_written c.in_ok-name.name _ _ c.in_ok-name.ensures.0 c.in_ok-name.ensures.1 in
     let same : to_z w64 (of_z w64 c.in_ok-moved.moved) ≡ c.in_ok-moved.moved = search rules in
     rw same (
       (c.in_ok-position.ensures.0, c.in_ok-name.ensures.0, c.in_ok-moved.ensures.0, c.in_ok-balance.ensures.0),

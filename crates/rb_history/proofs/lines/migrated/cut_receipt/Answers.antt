@@ -14,7 +14,7 @@ use Rattle.rb_history.specs.Migrated.{IsCutReceipt, in_version}
 use Rattle.rb_history.specs.Receipts.{BeginsWithBack, shadow_back, shadow_front}
 use Rattle.rb_history.specs.declared.fast.shadow.Back.{Back}
 use Rattle.rb_history.proofs.EntryLine.{entry_line}
-use Rattle.rb_history.proofs.Receipts.{before_end, end_text, receipt_told, shadow_fits, shadow_of}
+use Rattle.rb_history.proofs.Receipts.{before_end, end_text, receipt_written, shadow_fits, shadow_of}
 use Rattle.rb_history.proofs.lines.migrated.cut_receipt.Goals as goal
 
 -- what is before the counts
@@ -32,17 +32,17 @@ cut : (s : Settings) → IsConfigured s
 cut s configured account amount blue line front list behind rest b reply site within known fits replied e counts back ended before =
     let x : Entry = record { event = Receive (ShadowMessage (shadow_of account amount blue b)); reply = reply } in
     let start = codes "{\"event\":" ++ shadow_front s account amount in
-    let end : behind ≡ shadow_back s b ++ end_text reply site = back.told ∙ ap (λ l. shadow_back s b ++ l) ended in
-    let whole = λ (version : ℕ). receipt_told (in_version version s) account amount blue b reply site
+    let end : behind ≡ shadow_back s b ++ end_text reply site = back.written ∙ ap (λ l. shadow_back s b ++ l) ended in
+    let whole = λ (version : ℕ). receipt_written (in_version version s) account amount blue b reply site
     ∙ ap (λ l. start ++ (compact_text (blue_json version blue) ++ l)) (sym end)
     ∙ ap (λ l. l ++ (compact_text (blue_json version blue) ++ behind)) (sym before) in
-    let text = e ∙ ap (λ l. start ++ l) (counts.told ∙ ap (λ l. compact_text (blue_json s.version blue) ++ l) end)
-    ∙ sym (receipt_told s account amount blue b reply site) in
+    let text = e ∙ ap (λ l. start ++ l) (counts.written ∙ ap (λ l. compact_text (blue_json s.version blue) ++ l) end)
+    ∙ sym (receipt_written s account amount blue b reply site) in
     record {
       entry = (site, x);
       read = ap (entry_of_line s) text ∙ entry_line s configured site x within
           (shadow_fits s account amount blue list behind rest b known fits counts back) replied;
-      told = whole;
+      written = whole;
     }
 
 pub returns : goal.returns

@@ -3,17 +3,17 @@ use Rattle.serde_json.specs.Data.{Data}
 use Rattle.serde_json.specs.View.{view}
 use Rattle.rb_history.specs.Lines.{Gives}
 use Rattle.rb_history.specs.Values.{size_of}
-use Rattle.rb_history.specs.RepliesRead.{answer_of, made_told, short_of, statement_told}
+use Rattle.rb_history.specs.RepliesRead.{answer_of, made_parsed, short_of, statement_parsed}
 use Rattle.rb_history.proofs.read.reply.answer.Goals as goal
 
 -- an object of one member, of two or of three
 of_one : (d : Data) → size_of d ≡ 1 → answer_of d ≡ short_of d
 of_one d e = rw e refl
 
-of_two : (d : Data) → size_of d ≡ 2 → answer_of d ≡ made_told d
+of_two : (d : Data) → size_of d ≡ 2 → answer_of d ≡ made_parsed d
 of_two d e = rw e refl
 
-of_three : (d : Data) → size_of d ≡ 3 → answer_of d ≡ statement_told d
+of_three : (d : Data) → size_of d ≡ 3 → answer_of d ≡ statement_parsed d
 of_three d e = rw e refl
 
 pub returns-then-size-eq1 : goal.returns-then-size-eq1

@@ -16,8 +16,8 @@ returns c =
     let old = c.args.out.now.items in
     let made = c.args.shadow.now in
     let account = compact_text (account_json c.args.config.now made.account) in
-    let told = λ (version : ℕ). compact_text (deps_json version made.deps) in
-    let deps = told c.version.result in
+    let written = λ (version : ℕ). compact_text (deps_json version made.deps) in
+    let deps = written c.version.result in
     let first = codes "{\"shadow\":{\"account\":" ++ (account ++ []) in
     let second = codes ",\"amount\":" ++ (decimal made.amount ++ codes ",\"deps\":") in
     let two = both old c.append_account.new.out.items c.append_number.new.out.items first second c.in_ok-append_account.ensures
@@ -25,7 +25,7 @@ returns c =
     then c.append_deps.result old c.append_number.new.out.items c.append_deps.new.out.items
     (first ++ second) deps _ two c.append_deps.ensures (front_text account (decimal made.amount) deps
     ∙ ap (λ v. codes "{\"shadow\":{\"account\":" ++
-    (account ++ (codes ",\"amount\":" ++ (decimal made.amount ++ (codes ",\"deps\":" ++ told v))))) c.version.ensures.same)
+    (account ++ (codes ",\"amount\":" ++ (decimal made.amount ++ (codes ",\"deps\":" ++ written v))))) c.version.ensures.same)
 
 pub returns-in_err-append_number : goal.returns-in_err-append_number
 returns-in_err-append_number c = failed c.from_residual-in_err-append_number.result c.args.out.now.items c.append_account.new.out.items

@@ -67,7 +67,8 @@ cancel_one_less-requires-clause-some c =
     let may = Legal.IsValid-last _ c.args.before.now last index.clocked.valid in
     let before = Legal.IsValid-front _ c.args.before.now (last ∷ []) index.clocked.valid in
     let target : c.args.parts.target ≡ position_of c.args.before.now (target_of last.kind) = ap (λ (p : UndoParts). p.target) is in
-    λ i at. subst (λ (xs : List Cancels). 0 < (get_or xs i no_cancels).count) (sym (c.truncate.ensures.items ∙ ap (λ n. take n c.args.self.now.cancels.items) c.len.ensures))
+    λ i at. subst (λ (xs : List Cancels). 0 < (get_or xs i no_cancels).count)
+    (sym (c.truncate.ensures.items ∙ ap (λ n. take n c.args.self.now.cancels.items) c.len.ensures))
     (CancelFacts.counted_before c.args.before.now last _ i before.unique before.targets may.fresh may.target index.cancels (sym target
     ∙ at))
 
@@ -79,7 +80,8 @@ returns-clause-index c =
     Indexed.indexed_front _ c.args.before.now c.args.self.now _ last c.args.links.now index
     linked
     refl (c.retreat.ensures.entries ∙ ap (λ (p : UndoParts). lowered c.args.self.now.clock p.name) is)
-    (c.cancel_one_less.ensures.items ∙ ap (changed_at c.args.parts.target one_less) (c.truncate.ensures.items ∙ ap (λ n. take n c.args.self.now.cancels.items) c.len.ensures)
+    (c.cancel_one_less.ensures.items ∙ ap (changed_at c.args.parts.target one_less)
+    (c.truncate.ensures.items ∙ ap (λ n. take n c.args.self.now.cancels.items) c.len.ensures)
     ∙ ap (λ n. changed_at n one_less (take (length c.args.before.now) c.args.self.now.cancels.items)) target)
     (
     c.set_head-2.ensures ∙ ap (heads_at c.args.parts.other.0 (record {

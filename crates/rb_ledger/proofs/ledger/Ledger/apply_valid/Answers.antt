@@ -45,7 +45,8 @@ invariant_of-self c =
           (λ us. us ++ c.args.shadow.now ∷ []) c.all-2.ensures
           ∙ sym c.push-3.ensures.items) (Indexed.own _ _ _ c.push.ensures.index);
       links = ChainFacts.links_moved _ _ _ _ _ _ (ChainFacts.links_push _ _ c.args.shadow.now _ _ c.self.invariant.links links)
-          c.push.ensures.index.config c.push-3.ensures.items (c.push-2.ensures.items ∙ ap (λ ls. ls ++ c.links_of-links.result ∷ []) c.mark.ensures.items);
+          c.push.ensures.index.config c.push-3.ensures.items
+          (c.push-2.ensures.items ∙ ap (λ ls. ls ++ c.links_of-links.result ∷ []) c.mark.ensures.items);
       cancelled = c.push-2.ensures.cancelled ∙ ap (λ bs. bs ++ false ∷ []) (c.mark.ensures.cancelled
           ∙ ap (marked_at c.parts-parts.result.target true) c.self.invariant.cancelled ∙ ap (λ n. marked_at n true (all_cancelled
           c.self.inside.entries.items)) target)

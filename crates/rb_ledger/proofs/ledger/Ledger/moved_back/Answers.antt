@@ -27,4 +27,5 @@ returns-clause-sums c =
     let (t, there, named, found) = FoundNames.found_there us x c.args.target at in
     OneMore.moved_back us c.args.shadow.now _ x _ _ c.requires.valid.unique c.requires.target is
     (c.in-Some.ensures ∙ there ∙ sym found) (sym c.if-is_cancelled.false ∙ c.is_cancelled.ensures.found x at)
-    (subst (λ (k : Kind). pos c.moved-added.result.0 ≡ pos c.moved-added.result.1 +ℤ moved k c.args.shadow.now.amount) c.kind.ensures c.moved-added.ensures.sums)
+    (subst (λ (k : Kind). pos c.moved-added.result.0 ≡ pos c.moved-added.result.1 +ℤ moved k c.args.shadow.now.amount)
+    c.kind.ensures c.moved-added.ensures.sums)

@@ -52,6 +52,7 @@ invariant_of-self-2 c = record {
 pub returns-clause-items : goal.returns-clause-items
 returns-clause-items c = LinkTables.pushed_two _ _ _ _ _ _ c.args.links.now c.self.invariant.numbered c.push_reserved-3.ensures.items
     c.push_reserved-2.ensures.items
-    (ap (both_links c.push_reserved-2.new.self.items) c.new-2.ensures ∙ LinkTables.both_pushed _ _ c.args.links.now _ c.push_reserved-2.ensures.items
+    (ap (both_links c.push_reserved-2.new.self.items) c.new-2.ensures
+    ∙ LinkTables.both_pushed _ _ c.args.links.now _ c.push_reserved-2.ensures.items
     (omega (arith, c.len-second.ensures, c.push_reserved-2.ensures.len, c.self.inside.second.ok.0)))
     ∙ ap (λ (t : LinkTable). t.items ++ c.args.links.now ∷ []) c.self.view_is

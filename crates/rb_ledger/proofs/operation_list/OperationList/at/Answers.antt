@@ -18,7 +18,8 @@ returns-in_err-body c =
 
 pub invariant_of-result : goal.invariant_of-result
 invariant_of-result c =
-    let there : slice_get c.self.inside.bodies.items c.args.index ≡ Some c.in_ok-body.body.now = ReadItems.read_at _ _ _ _ _ c.deref.ensures.value refl
+    let there : slice_get c.self.inside.bodies.items c.args.index ≡ Some c.in_ok-body.body.now = ReadItems.read_at _ _
+    _ _ _ c.deref.ensures.value refl
     (slice_get_read _ _ _ _ refl c.in_ok-body.ensures.lookup.3.0 c.in_ok-body.ensures.lookup.1) in
     omega (
       arith,

@@ -9,7 +9,8 @@ invariant_of-self c =
     let fewer = OperationTables.popped_count _ _ b is c.self.invariant.order in
     let kept = c.kept_clocks.ensures ∙ ap (clock_count 0) c.deref.ensures.value in
     record {
-      clocks = ap length c.truncate.ensures.items ∙ length-take-le _ c.self.inside.clocks.items (omega (arith, kept, fewer, c.self.invariant.clocks)) ∙ kept;
+      clocks = ap length c.truncate.ensures.items ∙ length-take-le _ c.self.inside.clocks.items
+          (omega (arith, kept, fewer, c.self.invariant.clocks)) ∙ kept;
       order = OperationTables.popped_order _ _ b is c.self.invariant.order;
       bodies_fit = omega (arith, c.self.invariant.bodies_fit, c.pop.ensures.capacity);
       clocks_fit = omega (arith, c.self.invariant.clocks_fit, c.truncate.ensures.limit);

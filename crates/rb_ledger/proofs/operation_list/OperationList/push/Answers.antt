@@ -84,5 +84,6 @@ returns-clause-items c =
     ∙ ap (operations_of w (bs ++ body ∷ [])) longer
     ∙ OperationTables.pushed w bs cs more body c.self.invariant.order c.self.invariant.clocks
     ∙ ap (λ es. operations_of w bs cs ++ with_counts w body (get_or es n []) ∷ []) (sym longer)
-    ∙ ap (λ u. operations_of w bs cs ++ u ∷ []) (OperationTables.whole_again w n _ v _ _ c.colour.ensures c.number.ensures c.requires.home c.keep-clock.ensures.clock)
+    ∙ ap (λ u. operations_of w bs cs ++ u ∷ []) (OperationTables.whole_again w n _ v _ _ c.colour.ensures
+    c.number.ensures c.requires.home c.keep-clock.ensures.clock)
     ∙ ap (λ (t : OperationTable). t.items ++ v ∷ []) c.self.view_is

@@ -32,7 +32,8 @@ returns-in-Ok-clause-ok c =
     ∙ ap (batch_of c.self.inside.journal.settings c.view-token.result.me c.self.inside.journal.ops c.self.inside.token.token 0)
     (sym c.as_slice-asked.ensures)
     ∙ runs c.self.inside.token.token c.view-token.ensures.shows in
-    let P : SiteState → Type 0 = λ z. Follows c.args.keeps z (state_as c.batch-made.new.self.settings c.self.inside.token.me c.batch-made.new.self.ops
+    let P : SiteState → Type 0 = λ z. Follows c.args.keeps z
+    (state_as c.batch-made.new.self.settings c.self.inside.token.me c.batch-made.new.self.ops
     c.self.inside.inbox.held c.self.inside.token.token) c.args.sent.now.items c.batch-made.new.sent.items
     (outcome_of z.settings z.site (Batch c.args.requests.now)) c.in-Ok.made in
     follows_with c.args.keeps c.args.self.now _ c.args.sent.now.items c.batch-made.new.sent.items _ _ c.in-Ok.made c.put.ensures

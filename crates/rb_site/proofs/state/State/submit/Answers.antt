@@ -59,7 +59,8 @@ invariant_of-self-2 c = tied_as c.self.inside.journal.settings c.apply_made.new.
 
 pub returns-clause-ok : goal.returns-clause-ok
 returns-clause-ok c =
-    let P : SiteState → Type 0 = λ z. Follows true z (state_as c.apply_made.new.self.settings c.self.inside.token.me c.apply_made.new.self.ops
+    let P : SiteState → Type 0 = λ z. Follows true z
+    (state_as c.apply_made.new.self.settings c.self.inside.token.me c.apply_made.new.self.ops
     c.self.inside.inbox.held c.self.inside.token.token) c.args.sent.now.items c.push_reserved.new.self.items
     (outcome_of z.settings z.site (Submit c.args.request.now)) (plain c.give-2.new.place) in
     let old : SiteState = state_as c.self.inside.journal.settings c.self.inside.token.me c.self.inside.journal.ops c.self.inside.inbox.held

@@ -14,7 +14,8 @@ sites-init g c =
     let room : length c.self.inside.sites.items ≤ vec_capacity c.self.inside.reports = c.self.invariant.3 in
     let many : vec_len c.self.inside.sites ≡ length c.self.inside.sites.items = c.self.inside.sites.ok.0 in
     let settings : c.self.inside.config ≡ c.args.self.settings = ap (λ (w : SeenWorld). w.settings) c.self.view_is in (
-      (let P : List SiteReport → Type 0 = λ rs. IsClosing g.E.KeepsEntry.KEEPS c.args.self.settings c.args.self.world.sites rs c.self.inside.sites.items in
+      (let P : List SiteReport → Type 0 = λ rs. IsClosing g.E.KeepsEntry.KEEPS c.args.self.settings
+          c.args.self.world.sites rs c.self.inside.sites.items in
           subst P (sym none)
           (closing-first g.E.KeepsEntry.KEEPS c.args.self.settings c.args.self.world.sites c.self.inside.sites.items
           (ap (λ (w : SeenWorld). w.world.sites) c.self.view_is) (subst (λ s. AreOf s c.self.inside.sites.items) settings
@@ -28,9 +29,11 @@ sites-preserved g c =
     let longer : vec_len c.push_reserved.new.self ≡ vec_len c.sites.reports + 1 = c.push_reserved.ensures.len in
     let same : vec_capacity c.push_reserved.new.self ≡ vec_capacity c.sites.reports = c.push_reserved.ensures.capacity in
     let fewer : vec_len c.pop.new.self + 1 ≡ vec_len c.sites.sites = c.in-Some.ensures.cases in (
-      (let P : List SiteReport → Type 0 = λ rs. IsClosing g.E.KeepsEntry.KEEPS c.args.self.settings c.args.self.world.sites rs c.pop.new.self.items in
+      (let P : List SiteReport → Type 0 = λ rs. IsClosing g.E.KeepsEntry.KEEPS c.args.self.settings
+          c.args.self.world.sites rs c.pop.new.self.items in
           subst P (sym c.push_reserved.ensures.items)
-          (closing-next g.E.KeepsEntry.KEEPS c.args.self.settings c.args.self.world.sites c.sites.sites.items c.pop.new.self.items c.sites.reports.items
+          (closing-next g.E.KeepsEntry.KEEPS c.args.self.settings c.args.self.world.sites c.sites.sites.items
+          c.pop.new.self.items c.sites.reports.items
           c.in-Some.site c.close.result c.in-Some.ensures.items c.sites.invariant.0 c.close.ensures)),
       omega arith,
     )
@@ -40,5 +43,6 @@ returns g c =
     let none : vec_len c.sites.sites ≡ 0 = c.in_default.ensures.cases.0 in
     let P : List SiteReport → Type 0 = λ rs. AreReportsOf g.E.KeepsEntry.KEEPS c.args.self.settings c.args.self.world.sites rs in
     subst P (sym c.reverse.ensures.items)
-    (closing-whole g.E.KeepsEntry.KEEPS c.args.self.settings c.args.self.world.sites c.sites.reports.items c.sites.sites.items (sym c.sites.sites.ok.0
+    (closing-whole g.E.KeepsEntry.KEEPS c.args.self.settings c.args.self.world.sites c.sites.reports.items
+    c.sites.sites.items (sym c.sites.sites.ok.0
     ∙ none) c.sites.invariant.0)
