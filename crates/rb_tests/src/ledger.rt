@@ -265,6 +265,27 @@ fn refuses(rt: HostRuntime) -> Result<(), Fail> {
     Ok(())
 }
 
+/// Whether the ledger knows the operation. `None` too if it isn't sound.
+fn known(ledger: &Ledger, operation: Operation) -> Option<bool> {
+    let shadow = shadow_of(operation);
+    match shadow.sound(ledger.config()) {
+        Ok(()) => ledger.knows(&shadow),
+        Err(_) => None,
+    }
+}
+
+/// An operation is known once one of its name was applied, as the same or as another.
+#[test]
+fn knows(rt: HostRuntime) -> Result<(), Fail> {
+    let ledger = ledger_after(rt.alloc(), &ACCOUNTS, &[KNOWN])?;
+    let other = (BLUE_1, 0, (0, 0), ANN, 101, Kind::Deposit);
+    let next = (BLUE_2, 0, (1, 1), ANN, 100, Kind::Deposit);
+    equal(&rt, known(&ledger, KNOWN), Some(true));
+    equal(&rt, known(&ledger, other), Some(false));
+    equal(&rt, known(&ledger, next), None);
+    Ok(())
+}
+
 /// Forty deposits, the n-th of n cents, three to ann and then one to bob in turn: each balance as of each position is
 /// the sum.
 #[test]
