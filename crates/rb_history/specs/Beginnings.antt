@@ -8,12 +8,11 @@ use Rattle.rb_money.specs.Settings.{Settings}
 use Rattle.rb_money.specs.declared.limits.TheConstants.{MOST_SITES, MOST_SITES_OF_VERSION_1}
 use Rattle.rb_money.specs.declared.place.Place.{Place}
 use Rattle.rb_scratch.specs.declared.request.Request.{Request}
-use Rattle.rb_shadow.specs.declared.deps.Deps.{Deps}
 use Rattle.rb_site.specs.declared.event.Event.{Event}
 use Rattle.rb_site.specs.declared.reply.Reply.{Reply}
 use Rattle.rb_history.specs.Replies.{reply_json}
 use Rattle.rb_history.specs.Counts.{blue_json, numbered_from, numbered_json}
-use Rattle.rb_history.specs.Entries.{deps_json, event_json, request_json}
+use Rattle.rb_history.specs.Entries.{event_json, request_json}
 use Rattle.rb_history.specs.Fits.{Each, IsEvent, IsReply, IsRequest}
 
 -- a string behind its first quote
@@ -48,16 +47,10 @@ pub record BeginsWithCounts (version : ℕ) (ns text rest : List ℕ) : Type 0 w
   pub further : version ≡ 1 → Each (λ n. n ≡ 0) (drop MOST_SITES_OF_VERSION_1 ns)
   pub written : text ≡ compact_text (blue_json version ns) ++ rest
 
--- what a home had applied, in a version of the format
-pub record BeginsWithDeps (version : ℕ) (d : Deps) (text rest : List ℕ) : Type 0 where
-  pub sites : length d.blue ≡ MOST_SITES
-  pub blue : Each (λ n. n < 2 ^ 32) d.blue
-  pub further : version ≡ 1 → Each (λ n. n ≡ 0) (drop MOST_SITES_OF_VERSION_1 d.blue)
-  pub red : d.red < 2 ^ 32
-  pub written : text ≡ compact_text (deps_json version d) ++ rest
-
+-- an event that fits, in a configuration's version of the format
 abbrev pub BeginsWithEvent : Settings → Event → List ℕ → List ℕ → Type 0
 BeginsWithEvent s e text rest = IsEvent s e × (text ≡ compact_text (event_json s e) ++ rest)
 
+-- a reply that fits
 abbrev pub BeginsWithReply : Reply → List ℕ → List ℕ → Type 0
 BeginsWithReply r text rest = IsReply r × (text ≡ compact_text (reply_json r) ++ rest)
