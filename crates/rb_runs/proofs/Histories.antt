@@ -1,5 +1,5 @@
 -- One entry more of an input.
-use Rattle.std.proofs.Common.{◌≡◌, ℕ, zero, suc, List, [], ◌∷◌, ◌++◌, length, Some, refl, ap, sym}
+use Rattle.std.proofs.Common.{◌≡◌, ℕ, zero, suc, List, [], ◌∷◌, ◌++◌, Some, ap, sym}
 use Rattle.std.specs.Prelude.{slice_get, slice_set}
 use Rattle.rb_site.specs.declared.entry.Entry.{Entry}
 use Rattle.rb_runs.specs.Inputs.{with_entry}

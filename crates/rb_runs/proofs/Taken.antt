@@ -1,5 +1,5 @@
 -- What one line does.
-use Rattle.std.proofs.Common.{◌≡◌, ◌+◌, ℕ, false, List, [], ◌∷◌, Some, Result, Ok, Err, length, refl, sym, ap, ◌∙◌, subst}
+use Rattle.std.proofs.Common.{◌≡◌, ◌+◌, ℕ, false, List, [], ◌∷◌, Some, Result, Ok, Err, refl, sym, ap, ◌∙◌, subst}
 use Rattle.std.proofs.Common.{◌⊎◌, inl, inr, None}
 use Rattle.std.specs.Prelude.{MatchResult}
 use Rattle.rb_money.specs.Settings.{Settings}
