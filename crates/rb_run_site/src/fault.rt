@@ -18,7 +18,7 @@ pub enum SiteFault {
     BadConfig { line: u64 },
     /// The configuration has no site of the number.
     NoSite,
-    /// The file has something else than a journal of this configuration.
+    /// The file is no journal of this configuration.
     AnotherJournal,
     /// A line of the journal is no entry of this site.
     BadEntry { line: u64 },
