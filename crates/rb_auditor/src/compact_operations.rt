@@ -1,4 +1,8 @@
 //! Operations that are kept in little memory.
+//!
+//! An operation is kept in little memory if its clock has entries of the bank's sites alone, its own entry is its
+//! number less 1, and a blue name is its home's, as with those that sites make. All else is kept whole, in 112 bytes.
+//! So 71 bytes an entry became 58.
 ghost use Rattle.std.specs.Prelude.{◌≡◌, ◌≤◌, IsTrue, drop, length};
 ghost use Rattle.rb_money.specs.declared.limits.TheConstants.{MOST_SITES as THE_MOST_SITES};
 ghost use Rattle.rb_shadow.specs.Sound.{are_entries};

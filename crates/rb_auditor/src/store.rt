@@ -1,4 +1,8 @@
 //! The messages of all histories.
+//!
+//! Each entry is replayed as it is read, and only a step of 8 bytes is kept of it; a message is kept once, if it was
+//! sent before it is received. With all entries kept and replayed at the end an audit took 257 bytes an entry, in place
+//! of some 55.
 ghost use Rattle.std.specs.Prelude.{◌≡◌, ◌<◌, ◌≤◌, ◌+◌, ◌^◌, ◌++◌, [], Some, IfSome, IfOk, OnErr, length, slice_get};
 ghost use Rattle.rb_money.specs.declared.limits.TheConstants.{MOST_SITES as THE_MOST_SITES};
 ghost use Rattle.rb_scratch.specs.declared.request.TheConstants.{MOST_REQUESTS};

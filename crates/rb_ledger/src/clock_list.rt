@@ -1,4 +1,11 @@
 //! Clocks, in their order.
+//!
+//! Of a run of one site's operations the clock is kept once, since their clocks differ in their own entries alone; only
+//! the clock that was kept last is compared. A deposit takes 15 bytes less at its home for that.
+//!
+//! An entry takes a byte: what it is more than that of a base, which is that of the clock before if all entries fit,
+//! and else is kept anew, each entry 64 less than the clock's. A clock of eight sites takes 13 bytes in place of 36,
+//! and a deposit 2 % more instructions. Two bytes an entry would be 10 bytes a clock more.
 ghost use Rattle.std.specs.Prelude.{◌≡◌, ◌⊎◌, ◌-◌, ◌+◌, ◌<◌, ◌≤◌, ◌++◌, ◌∷◌, [], length, take, List, ℕ, IsTrue, OnOk};
 ghost use Rattle.std.specs.Prelude.{slice_get, slice_index_or, slice_set, Some};
 ghost use Rattle.rb_money.specs.declared.limits.TheConstants.{MOST_OPERATIONS, MOST_SITES};

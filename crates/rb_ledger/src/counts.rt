@@ -1,4 +1,7 @@
 //! What is kept of clocks.
+//!
+//! The entries of up to three sites are copied one by one, and of more sites by a call, which takes 5 to 17
+//! instructions more.
 ghost use Rattle.std.specs.Prelude.{◌≡◌, ◌-◌, ◌+◌, ◌<◌, ◌≤◌, ◌++◌, ◌∷◌, length, take};
 ghost use Rattle.std.specs.Prelude.{slice_set, vec_len, vec_capacity};
 ghost use Rattle.std.specs.Prelude.{IsTrue, ℕ};

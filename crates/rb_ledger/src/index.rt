@@ -1,4 +1,7 @@
 //! The index of a list of operations.
+//!
+//! Counts, links, running balances, the positions of names and the clock are kept beside the list of operations, so
+//! that no call walks it.
 ghost use Rattle.std.specs.Prelude.{◌≡◌, ◌≤◌, ◌<◌, ◌+◌, length, pos, [], ◌∷◌, ◌++◌, List, IfOk, ℕ, slice_index};
 ghost use Rattle.std.specs.Prelude.{slice_index_or, vec_len, vec_capacity};
 ghost use Rattle.rb_money.specs.declared.limits.TheConstants.{MOST_OPERATIONS};

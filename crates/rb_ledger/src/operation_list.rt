@@ -1,4 +1,8 @@
 //! The operations of a ledger, in their order.
+//!
+//! Of a clock the red entry and those of the bank's sites are kept beside the operation's other fields: 48 bytes at up
+//! to three sites, 68 at eight, in place of 104. A balance on a second account is in a list of its own. An operation is
+//! given by value, or lent as an `OperationRef`, since a plan of a cancellation and a statement read two fields of one.
 ghost use Rattle.std.specs.Prelude.{◌≡◌, ◌↔◌, ◌-◌, ◌+◌, ◌<◌, ◌≤◌, ◌++◌, ◌∷◌, [], length, take, drop, OnOk, OnErr, IfOk};
 ghost use Rattle.std.specs.Prelude.{IsTrue, Some, false, slice_get, slice_index_or};
 ghost use Rattle.rb_money.specs.declared.limits.TheConstants.{MOST_OPERATIONS, MOST_SITES};

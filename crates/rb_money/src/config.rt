@@ -1,4 +1,7 @@
 //! The configuration of a bank.
+//!
+//! A repeated name is found by a set that lives as long as the check, and not by the map that is kept, since out of
+//! memory has to come last.
 ghost use Rattle.std.specs.Prelude.{◌≡◌, ◌≢◌, ◌≤◌, [], length, map, None, IfErr, IfOk, OnOk};
 ghost use Rattle.std.specs.Arc.{arc_value};
 ghost use Rattle.rb_money.specs.Faults.{account_fault, account_of, config_fault, listed, settings_of};

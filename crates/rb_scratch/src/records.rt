@@ -1,4 +1,7 @@
 //! The records of what is tried.
+//!
+//! The records of a batch are parts in an array of sixteen, which takes no memory, and are handed to the site's log as
+//! the batch is kept. The array is 320 bytes, so calls that would move it are made in place.
 ghost use Rattle.std.specs.Prelude.{◌≡◌, ◌<◌, ◌≤◌, [], ◌∷◌, ◌++◌, length, MatchOption, IfErr, OnOk, OnErr};
 ghost use Rattle.rb_scratch.specs.declared.request.TheConstants.{MOST_REQUESTS};
 

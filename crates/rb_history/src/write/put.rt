@@ -1,4 +1,7 @@
 //! Texts put into space that is there. Each goes to a place in it, and its end is where the next goes.
+//!
+//! Replies and rows are put straight into the output. Put together on the stack first, each piece of 128 bytes is
+//! cleared and copied by a call, a third of a statement.
 ghost use Rattle.std.specs.Prelude.{◌≡◌, ◌≤◌, ◌<◌, ◌+◌, ◌^◌, [], ◌∷◌, codes, cond, decimal, length};
 ghost use Rattle.std.specs.Fmt.{signed_decimal};
 ghost use Rattle.json.specs.Print.{quoted};

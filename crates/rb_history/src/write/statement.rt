@@ -1,4 +1,7 @@
 //! Statements, as they are written.
+//!
+//! A statement without rows is written by a path of its own. One path for both made space twice and saved registers for
+//! rows, 54 of 546 instructions.
 ghost use Rattle.std.specs.Prelude.{◌≡◌, ◌≤◌, ◌+◌, ◌++◌, [], cond, codes, decimal, false, length, map};
 ghost use Rattle.std.specs.Fmt.{signed_decimal};
 ghost use Rattle.serde_json.specs.Written.{compact_text, items_text};

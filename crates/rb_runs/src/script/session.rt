@@ -1,4 +1,7 @@
 //! The lines of a script, one at a time.
+//!
+//! One place has all replies, and a batch's names go into the memory of those before. A place for each command is
+//! cleared and let go, 11 to 21 instructions, and names are taken and freed, 150 of 2,490 of a batch of two.
 ghost use Rattle.std.specs.Prelude.{◌≡◌, None, Some, MatchResult};
 ghost use Rattle.rb_money.specs.Settings.{Settings};
 ghost use Rattle.rb_world.specs.Laws.{opened};
