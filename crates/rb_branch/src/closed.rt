@@ -11,8 +11,8 @@ ghost use Rattle.rb_branch.specs.declared.limits.TheConstants.{MOST_SEATS};
 ghost use Rattle.rb_money.specs.declared.limits.TheConstants.{MOST_SITES};
 
 use crate::closing::take_back;
-use crate::given::Given;
 use crate::merge::merges;
+use crate::returned_seat::ReturnedSeat;
 use crate::{Books, Entries, GatherFault, Seat};
 use rb_site::SiteReport;
 use std::alloc::{AllocError, Global};
@@ -125,7 +125,7 @@ impl<E: Entries, R: Ledger> Closed<E, R> {
     fn take_in(
         self,
         seats: Vec<Seat<E, R>>,
-    ) -> Result<(Vec<SiteReport>, Vec<Given>, bool), AllocError>
+    ) -> Result<(Vec<SiteReport>, Vec<ReturnedSeat>, bool), AllocError>
         ensures reports { IfOk result (λ r. r.0.items ≡ self.reports) }
         ensures given { IfOk result (λ r. r.1.items ≡ seats.items) }
         ensures fits { IfOk result (λ r. receipts_in r.1.items < 2 ^ 64) }
@@ -153,7 +153,7 @@ impl<E: Entries, R: Ledger> Closed<E, R> {
 fn look_at_all(
     alloc: Global,
     reports: &[SiteReport],
-    seats: &[Given],
+    seats: &[ReturnedSeat],
     missing: bool,
 ) -> Result<(), GatherFault>
     requires fits { receipts_in seats.now < 2 ^ 64 }
@@ -177,7 +177,7 @@ fn look_at_each<W: Threads + Sync>(
     rt: &W,
     alloc: Global,
     reports: &[SiteReport],
-    seats: &[Given],
+    seats: &[ReturnedSeat],
     missing: bool,
 ) -> Result<(), GatherFault>
     requires fits { receipts_in seats.now < 2 ^ 64 }
@@ -200,7 +200,7 @@ fn look_at_each<W: Threads + Sync>(
 /// The first fault that was found, if any.
 fn first_fault(
     reports: &[SiteReport],
-    seats: &[Given],
+    seats: &[ReturnedSeat],
     missing: bool,
     found: &[Result<(), GatherFault>],
 ) -> Result<(), GatherFault>
@@ -225,7 +225,7 @@ fn look_at(
     alloc: Global,
     report: &SiteReport,
     number: usize,
-    seats: &[Given],
+    seats: &[ReturnedSeat],
     missing: bool,
 ) -> Result<(), GatherFault>
     requires fits { receipts_in seats.now < 2 ^ 64 }
@@ -266,7 +266,7 @@ fn count_entries(reports: &[SiteReport]) -> u64
 }
 
 /// How many receipts there are.
-fn count_receipts(seats: &[Given]) -> u64
+fn count_receipts(seats: &[ReturnedSeat]) -> u64
     requires { receipts_in seats.now < 2 ^ 64 }
     ensures { result ≡ receipts_in seats.now }
 {
@@ -278,7 +278,7 @@ fn count_receipts(seats: &[Given]) -> u64
 }
 
 /// How many receipts there are of a site.
-fn count_at(site: u8, seats: &[Given]) -> u64
+fn count_at(site: u8, seats: &[ReturnedSeat]) -> u64
     requires { receipts_in seats.now < 2 ^ 64 }
     ensures { result ≡ receipts_at site seats.now }
 {

@@ -2,7 +2,7 @@
 ghost use Rattle.std.specs.Prelude.{◌≡◌, ◌+◌, ◌≤◌, [], All, IfOk, vec_capacity, vec_len};
 ghost use Rattle.rb_branch.specs.Gathered.{IsClosedReport, entries_in, receipts_in};
 
-use crate::given::Given;
+use crate::returned_seat::ReturnedSeat;
 use crate::{Desk, Entries, Seat};
 use rb_money::Config;
 use rb_site::{Site, SiteReport};
@@ -69,7 +69,7 @@ pub(crate) fn take_back<E: Entries, R: Ledger>(
     alloc: Global,
     seats: Vec<Seat<E, R>>,
     mut all: Share<R>,
-) -> Result<(Vec<Given>, Share<R>), AllocError>
+) -> Result<(Vec<ReturnedSeat>, Share<R>), AllocError>
     requires { all.parts ≤ R.parts }
     ensures same { IfOk result (λ r. r.0.items ≡ seats.items) }
     ensures share { IfOk result (λ r. (r.1.parts ≡ all.parts + vec_len seats)

@@ -14,7 +14,7 @@ ghost use Rattle.rb_shadow.specs.declared.op_name.OpName.{OpName as NameOf};
 ghost use Rattle.rb_site.specs.declared.message.Message.{Message as MessageOf};
 ghost use Rattle.rb_site.specs.declared.event.Event.TheVariants.{Apply};
 
-use crate::given::Given;
+use crate::returned_seat::ReturnedSeat;
 use crate::{Books, CallFault, Entries, MOST_RECEIPTS, Receipt};
 use rb_kit::reserve_one;
 use rb_money::Refusal;
@@ -276,7 +276,7 @@ impl<E: Entries, R: Ledger> Seat<E, R> {
     }
 
     /// Gives the seat's receipts and its share back.
-    pub(crate) fn give_back(self) -> (Given, Share<R>)
+    pub(crate) fn give_back(self) -> (ReturnedSeat, Share<R>)
         ensures given { result.0 ≡ self }
         ensures share { (result.1.parts ≡ 1) × (result.1.amount ≡ length self.receipts) }
     {
@@ -286,6 +286,6 @@ impl<E: Entries, R: Ledger> Seat<E, R> {
             share,
             of: _,
         } = self;
-        (Given::new(site, receipts), share)
+        (ReturnedSeat::new(site, receipts), share)
     }
 }

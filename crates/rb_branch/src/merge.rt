@@ -5,8 +5,8 @@ ghost use Rattle.rb_branch.specs.Gathered.{IsGathered};
 ghost use Rattle.rb_branch.specs.Owners.{AllRead, AreDistinct, AreOwners, IsHolder};
 
 use crate::Receipt;
-use crate::given::Given;
 use crate::owners::owners_of;
+use crate::returned_seat::ReturnedSeat;
 use rb_site::Entry;
 use std::alloc::{AllocError, Global};
 
@@ -16,7 +16,7 @@ pub(crate) fn merges(
     alloc: Global,
     site: u8,
     history: &[Entry],
-    seats: &[Given],
+    seats: &[ReturnedSeat],
 ) -> Result<bool, AllocError>
     requires { length seats.now < 2 ^ 16 }
     ensures { IfOk result (λ b. IsTrue b ↔ IsGathered site history.now seats.now) }
@@ -39,7 +39,13 @@ pub(crate) fn merges(
 }
 
 /// The seat that the table has at this index, if its next receipt has the number one above the index.
-fn holder(site: u8, index: usize, seats: &[Given], next: &[usize], owners: &[u16]) -> Option<usize>
+fn holder(
+    site: u8,
+    index: usize,
+    seats: &[ReturnedSeat],
+    next: &[usize],
+    owners: &[u16],
+) -> Option<usize>
     requires len { length next.now ≡ length seats.now }
     requires index { index < length owners.now }
     requires owners { AreOwners site seats.now owners.now }
@@ -67,7 +73,7 @@ fn is_of(receipt: &Receipt, entry: &Entry) -> bool
 }
 
 /// Whether all receipts of the site were read.
-fn all_read(site: u8, seats: &[Given], next: &[usize]) -> bool
+fn all_read(site: u8, seats: &[ReturnedSeat], next: &[usize]) -> bool
     requires { length next.now ≡ length seats.now }
     ensures { IsTrue result ↔ AllRead site seats.now next.now }
 {

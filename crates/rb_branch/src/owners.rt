@@ -4,7 +4,7 @@ ghost use Rattle.rb_branch.specs.Owners.{AreOwners, OwnedWithin, Puts, PutsAll};
 ghost use Rattle.rb_branch.specs.Seats.{SeenSeat};
 
 use crate::Receipt;
-use crate::given::Given;
+use crate::returned_seat::ReturnedSeat;
 use std::alloc::{AllocError, Global};
 
 /// For each number of the site, from 1 to this count, the seat that has its receipt, counted from 0; the
@@ -13,7 +13,7 @@ pub(crate) fn owners_of(
     alloc: Global,
     site: u8,
     count: usize,
-    seats: &[Given],
+    seats: &[ReturnedSeat],
 ) -> Result<Vec<u16>, AllocError>
     requires { length seats.now < 2 ^ 16 }
     ensures len { IfOk result (λ v. vec_len v ≡ count) }
@@ -27,7 +27,7 @@ pub(crate) fn owners_of(
 }
 
 /// Puts the seat at k into the table at all numbers of its receipts, if it is of this site.
-fn put_seat(owners: &mut Vec<u16>, k: u16, site: u8, seat: &Given)
+fn put_seat(owners: &mut Vec<u16>, k: u16, site: u8, seat: &ReturnedSeat)
     ensures len { vec_len owners.new ≡ vec_len owners.old }
     ensures owned { (seats : List SeenSeat) → slice_get seats k ≡ Some seat.now
         → OwnedWithin k site seats owners.old.items → OwnedWithin (k + 1) site seats owners.new.items }

@@ -26,15 +26,13 @@ ghost use Rattle.rb_history.specs.Messages.{MessagesAreRead};
 ghost use Rattle.rb_history.specs.OneLine.{ConfigsAreLines, EntriesAreLines};
 ghost use Rattle.rb_history.specs.Sites.{HeldNamesFitLines, ReadEventsFit, RepliesFitLines};
 
-pub use fast::command::parse_command;
 pub use fault::LineFault;
-pub use lines::command::{read_any_command, read_command};
+pub use lines::command::read_command;
 pub use lines::entry::{read_entry, read_line};
 pub use lines::event::read_event;
 pub use lines::migrated::append_migrated;
 pub use on_line::{open_command, open_config};
 pub use read::config::read_config;
-pub use site_command::SiteCommand;
 pub use write::config::write_config;
 pub use write::entry::{append_line, write_line};
 pub use write::event::append_event;

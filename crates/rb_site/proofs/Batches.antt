@@ -24,7 +24,7 @@ use Rattle.rb_scratch.specs.declared.request.Request.{Request}
 use Rattle.rb_scratch.specs.declared.run_fault.RunFault.{RunFault}
 use Rattle.rb_scratch.specs.declared.run_fault.RunFault.TheVariants.{Refused as RefusedFault}
 use Rattle.rb_scratch.specs.declared.request.TheConstants.{MOST_REQUESTS}
-use Rattle.rb_site.specs.declared.answer.Answer.{Answer}
+use Rattle.rb_site.specs.declared.noted_reply.NotedReply.{NotedReply}
 use Rattle.rb_site.specs.declared.event.Event.TheVariants.{Batch}
 use Rattle.rb_site.specs.declared.message.Message.{Message}
 use Rattle.rb_site.specs.declared.message.Message.TheVariants.{Shadow as ShadowMessage}
@@ -117,13 +117,13 @@ unfolding outcome_of
 batch_comes s t rs b e = ap (λ c. cond (not c) (Refuses BadBatch) (of_batch (batch_of s t.me t.ops t.token 0 rs))) e
 
 -- a batch of no requests, or of too many: it is refused, and nothing changes
-pub refuses_size : (z : SiteState) (rs : List Request) (a : Answer) → is_of_size rs ≡ false → Says true a (Refused BadBatch) →
+pub refuses_size : (z : SiteState) (rs : List Request) (a : NotedReply) → is_of_size rs ≡ false → Says true a (Refused BadBatch) →
     AnswersAlone z z (outcome_of z.settings z.site (Batch rs)) a
 refuses_size z rs a size is = answers_as _ _ _ _ a (batch_comes z.settings z.site rs false size) (refl, is, refl)
 
 -- a batch of a fit size whose requests can all be made: its operations are applied, named and sent
 pub makes_batch : (keeps : Bool) (s : Settings) (me : ℕ) (ops held : List Shadow) (token : Token) (rs : List Request) (vs : List Shadow)
-    (before after : List Message) (a : Answer) → is_of_size rs ≡ true → batch_of s me ops token 0 rs ≡ Ok vs
+    (before after : List Message) (a : NotedReply) → is_of_size rs ≡ true → batch_of s me ops token 0 rs ≡ Ok vs
     → Says keeps a (NamesMade (names_of_all vs)) → after ≡ before ++ map ShadowMessage vs
     → Follows keeps (state_as s me ops held token) (state_as s me (ops
     ++ vs) held token) before after (outcome_of s (site_as me ops held token) (Batch rs)) a
@@ -131,7 +131,7 @@ makes_batch keeps s me ops held token rs vs before after a size made is posted =
     follows_as keeps _ _ before after _ _ a (batch_comes s (site_as me ops held token) rs true size ∙ ap of_batch made) (refl, is, posted)
 
 -- a batch of a fit size whose requests can't all be made: it is refused, and nothing changes
-pub refuses_batch : (s : Settings) (me : ℕ) (ops held : List Shadow) (token : Token) (rs : List Request) (why : Refusal) (a : Answer) →
+pub refuses_batch : (s : Settings) (me : ℕ) (ops held : List Shadow) (token : Token) (rs : List Request) (why : Refusal) (a : NotedReply) →
     is_of_size rs ≡ true → batch_of s me ops token 0 rs ≡ Err why → Says true a (Refused why)
     → AnswersAlone (state_as s me ops held token) (state_as s me ops held token) (outcome_of s (site_as me ops held token) (Batch rs)) a
 refuses_batch s me ops held token rs why a size refused is = answers_as _ _ _ _ a (batch_comes s (site_as me ops held token) rs true size

@@ -32,7 +32,7 @@ use Rattle.rb_statements.specs.Statements.{balance_as_of}
 use Rattle.rb_token.specs.Seen.{SeenToken}
 use Rattle.rb_token.specs.Token.{Token, pass_message, passed_token, refusal_of_pass}
 use Rattle.rb_token.specs.declared.message.TokenMessage.{TokenMessage}
-use Rattle.rb_site.specs.declared.answer.Answer.{Answer}
+use Rattle.rb_site.specs.declared.noted_reply.NotedReply.{NotedReply}
 use Rattle.rb_site.specs.declared.reply.Reply.{Reply}
 use Rattle.rb_site.specs.Notes.{IsNoted, is_plain}
 use Rattle.rb_site.specs.declared.reply.Reply.TheVariants.{Held, Already, Applied, Balance as BalanceIs, Made, Passed, Refused}
@@ -45,17 +45,17 @@ use Rattle.rb_site.specs.Events.{outcome_of_new, reply_of, unless_known}
 use Rattle.rb_site.specs.States.{Follows, IsTied, Says, SiteState, noting, plain}
 
 -- what follows an outcome follows an equal one
-pub follows_as : (keeps : Bool) (old now : SiteState) (before after : List Message) (o p : Outcome) (a : Answer) → o ≡ p →
+pub follows_as : (keeps : Bool) (old now : SiteState) (before after : List Message) (o p : Outcome) (a : NotedReply) → o ≡ p →
     Follows keeps old now before after p a → Follows keeps old now before after o a
 follows_as keeps old now before after o p a e h = let P : Outcome → Type 0 = λ q. Follows keeps old now before after q a in
     subst P (sym e) h
 
 -- the answer is plain, and nothing is sent
-abbrev pub AnswersAlone : SiteState → SiteState → Outcome → Answer → Type 0
+abbrev pub AnswersAlone : SiteState → SiteState → Outcome → NotedReply → Type 0
 AnswersAlone old now o a = Follows true old now [] [] o a
 
 -- what answers an outcome alone answers an equal one
-abbrev pub answers_as : (old now : SiteState) (o p : Outcome) (a : Answer) → o ≡ p → AnswersAlone old now p a → AnswersAlone old now o a
+abbrev pub answers_as : (old now : SiteState) (o p : Outcome) (a : NotedReply) → o ≡ p → AnswersAlone old now p a → AnswersAlone old now o a
 answers_as old now o p a e h = follows_as true old now [] [] o p a e h
 
 -- what is noted for a history that keeps replies does for any
@@ -68,24 +68,24 @@ noted_less keeps reply None h = by (is_plain reply) h
     by false e = cc
 
 -- what follows an outcome for a history that keeps replies does so for any
-pub follows_less : (keeps : Bool) (old now : SiteState) (before after : List Message) (o : Outcome) (a : Answer) →
+pub follows_less : (keeps : Bool) (old now : SiteState) (before after : List Message) (o : Outcome) (a : NotedReply) →
     Follows true old now before after o a → Follows keeps old now before after o a
 follows_less keeps old now before after o a h = (h.0, (h.1.0, noted_less keeps (reply_of old.settings old.site.ops o) a.noted h.1.1), h.2)
 
 -- where nothing is sent, the messages stay
-pub follows_silent : (keeps : Bool) (old now : SiteState) (before : List Message) (o : Outcome) (a : Answer) →
+pub follows_silent : (keeps : Bool) (old now : SiteState) (before : List Message) (o : Outcome) (a : NotedReply) →
     Follows keeps old now [] [] o a → Follows keeps old now before before o a
 follows_silent keeps old now before o a h = (h.0, h.1, sym (append-nil before) ∙ ap (λ ms. before ++ ms) h.2)
 
 -- a plain answer with which nothing is sent, among any messages and for any history
-pub follows_plain : (keeps : Bool) (old now : SiteState) (before : List Message) (o : Outcome) (a : Answer) → AnswersAlone old now o a →
+pub follows_plain : (keeps : Bool) (old now : SiteState) (before : List Message) (o : Outcome) (a : NotedReply) → AnswersAlone old now o a →
     Follows keeps old now before before o a
 follows_plain keeps old now before o a h = follows_silent keeps old now before o a (follows_less keeps old now [] [] o a h)
 
 -- what follows with an answer follows with an equal one
-pub follows_with : (keeps : Bool) (old now : SiteState) (before after : List Message) (o : Outcome) (a b : Answer) → a ≡ b →
+pub follows_with : (keeps : Bool) (old now : SiteState) (before after : List Message) (o : Outcome) (a b : NotedReply) → a ≡ b →
     Follows keeps old now before after o b → Follows keeps old now before after o a
-follows_with keeps old now before after o a b e h = let P : Answer → Type 0 = λ x. Follows keeps old now before after o x in
+follows_with keeps old now before after o a b e h = let P : NotedReply → Type 0 = λ x. Follows keeps old now before after o x in
     subst P (sym e) h
 
 -- what a handler answers to an event is answered to an equal one, for any history, where nothing is noted
@@ -121,7 +121,7 @@ site_as me ops held token = record { me = me; ops = ops; held = held; token = to
 
 -- a pass that nothing refuses: the token's message is sent, and the site has the token no more
 pub passes : (s : Settings) (me : ℕ) (ops held : List Shadow) (token later : Token) (to reds : ℕ) (m : TokenMessage)
-    (before after : List Message) (a : Answer)
+    (before after : List Message) (a : NotedReply)
     → refusal_of_pass s.sites s.limits me token to ≡ None → reds ≡ red_count ops → m ≡ pass_message token to reds →
     later ≡ passed_token token m → Says true a (Passed m.epoch) → after ≡ before ++ TokenOnItsWay m ∷ []
     → Follows true (state_as s me ops held token) (state_as s me ops held later) before after
@@ -147,7 +147,7 @@ tied_passed s inbox old later token passed tied =
     })
 
 -- a pass that is refused: nothing changes
-pub refuses_pass : (z : SiteState) (to : ℕ) (why : Refusal) (before : List Message) (a : Answer) →
+pub refuses_pass : (z : SiteState) (to : ℕ) (why : Refusal) (before : List Message) (a : NotedReply) →
     refusal_of_pass z.settings.sites z.settings.limits z.site.me z.site.token to ≡ Some why → Says true a (Refused why)
     → Follows true z z before before (outcome_of z.settings z.site (Pass to)) a
 unfolding outcome_of
@@ -173,7 +173,7 @@ made_here z now here them r q same at list made =
     ∙ sym made
 
 -- a request that can't be made: it is refused, and nothing changes
-pub refuses_request : (z : SiteState) (r : Request) (why : Refusal) (before : List Message) (a : Answer) →
+pub refuses_request : (z : SiteState) (r : Request) (why : Refusal) (before : List Message) (a : NotedReply) →
     made_of z.settings z.site.me z.site.ops z.site.token r ≡ Err why → Says true a (Refused why)
     → Follows true z z before before (outcome_of z.settings z.site (Submit r)) a
 refuses_request z r why before a refused is =
@@ -181,7 +181,7 @@ refuses_request z r why before a refused is =
 
 -- a request that is made: its operation is applied, named and sent
 pub makes_request : (s : Settings) (me : ℕ) (ops held : List Shadow) (token : Token) (r : Request) (v : Shadow)
-    (before after : List Message) (a : Answer) → made_of s me ops token r ≡ Ok v → Says true a (Made v.name (label_of v.kind))
+    (before after : List Message) (a : NotedReply) → made_of s me ops token r ≡ Ok v → Says true a (Made v.name (label_of v.kind))
     → after ≡ before ++ ShadowMessage v ∷ [] → Follows true (state_as s me ops held token) (state_as s me (ops ++ v ∷ []) held token)
     before after (outcome_of s (site_as me ops held token) (Submit r)) a
 makes_request s me ops held token r v before after a made is posted =
@@ -203,12 +203,12 @@ as_of_comes s t a n q is = by (is_account s a) (nat_lt (length t.ops) n) (cents 
     by true false k = refl
 
 -- the balance is answered
-pub answers_as_of : (z : SiteState) (a : Place) (n k : ℕ) (given : Answer) → Ok k ≡ balance_as_of z.settings z.site.ops a n →
+pub answers_as_of : (z : SiteState) (a : Place) (n k : ℕ) (given : NotedReply) → Ok k ≡ balance_as_of z.settings z.site.ops a n →
     Says true given (BalanceIs k) → AnswersAlone z z (outcome_of z.settings z.site (AsOf a n)) given
 answers_as_of z a n k given known is = answers_as z z _ _ given (as_of_comes z.settings z.site a n (Ok k) known) (refl, is, refl)
 
 -- where there is none, it is refused
-pub refuses_as_of : (z : SiteState) (a : Place) (n : ℕ) (why : Refusal) (given : Answer)
+pub refuses_as_of : (z : SiteState) (a : Place) (n : ℕ) (why : Refusal) (given : NotedReply)
     → Err why ≡ balance_as_of z.settings z.site.ops a n → Says true given (Refused why)
     → AnswersAlone z z (outcome_of z.settings z.site (AsOf a n)) given
 refuses_as_of z a n why given none is = answers_as z z _ _ given (as_of_comes z.settings z.site a n (Err why) none) (refl, is, refl)
@@ -224,12 +224,12 @@ named_comes s t x o found = ap (λ q. unless (λ v. cond (not (is_eligible t.ops
     (outcome_of_check v (refusal_of_sound s t.ops v))) q (Refuses NotHeld)) found
 
 -- a name that no held shadow has is refused
-pub not_held : (z : SiteState) (x : OpName) (a : Answer) → find_in z.site.held x ≡ None → Says true a (Refused NotHeld) →
+pub not_held : (z : SiteState) (x : OpName) (a : NotedReply) → find_in z.site.held x ≡ None → Says true a (Refused NotHeld) →
     AnswersAlone z z (outcome_of z.settings z.site (Apply x)) a
 not_held z x a none is = answers_as z z _ _ a (named_comes z.settings z.site x None none) (refl, is, refl)
 
 -- a held shadow whose past isn't applied stays held
-pub not_ready : (z : SiteState) (x : OpName) (v : Shadow) (a : Answer) → find_in z.site.held x ≡ Some v → is_eligible z.site.ops v ≡ false
+pub not_ready : (z : SiteState) (x : OpName) (v : Shadow) (a : NotedReply) → find_in z.site.held x ≡ Some v → is_eligible z.site.ops v ≡ false
     → Says true a (Refused NotReady) → AnswersAlone z z (outcome_of z.settings z.site (Apply x)) a
 not_ready z x v a found waits is = answers_as z z _ _ a (named_comes z.settings z.site x (Some v) found
     ∙ ap (λ b. cond (not b) (Refuses NotReady) (outcome_of_check v (refusal_of_sound z.settings z.site.ops v))) waits) (refl, is, refl)
@@ -257,7 +257,7 @@ comes_to_check s t x v o found eligible sound refusal =
     ∙ ap (outcome_of_check v) (sym (refusal-sound s t.ops v sound) ∙ refusal)
 
 -- a sound held shadow whose past is applied, where the ledger's check lets it: it is applied, and held no more
-pub applies : (s : Settings) (me : ℕ) (ops held more less : List Shadow) (token : Token) (x : OpName) (v : Shadow) (a : Answer) →
+pub applies : (s : Settings) (me : ℕ) (ops held more less : List Shadow) (token : Token) (x : OpName) (v : Shadow) (a : NotedReply) →
     find_in held x ≡ Some v → is_eligible ops v ≡ true → IsSound s v → refusal_of s ops v ≡ None
     → more ≡ ops ++ v ∷ [] → less ≡ without v.name held → Says true a (Applied v.name)
     → AnswersAlone (state_as s me ops held token) (state_as s me more less token) (outcome_of s (site_as me ops held token) (Apply x)) a
@@ -266,7 +266,7 @@ applies s me ops held more less token x v a found eligible sound refusal grown t
     (ap (λ us. state_as s me us less token) grown ∙ ap (λ vs. state_as s me (ops ++ v ∷ []) vs token) taken, is, refl)
 
 -- the same where the check refuses it, but not as not ready: it is let go with that refusal
-pub drops : (s : Settings) (me : ℕ) (ops held less : List Shadow) (token : Token) (x : OpName) (v : Shadow) (why : Refusal) (a : Answer) →
+pub drops : (s : Settings) (me : ℕ) (ops held less : List Shadow) (token : Token) (x : OpName) (v : Shadow) (why : Refusal) (a : NotedReply) →
     find_in held x ≡ Some v → is_eligible ops v ≡ true → IsSound s v → refusal_of s ops v ≡ Some why → (why ≡ NotReady → ⊥)
     → less ≡ without v.name held → Says true a (Refused why)
     → AnswersAlone (state_as s me ops held token) (state_as s me ops less token) (outcome_of s (site_as me ops held token) (Apply x)) a
@@ -275,7 +275,7 @@ drops s me ops held less token x v why a found eligible sound refusal other take
     (ap (λ vs. state_as s me ops vs token) taken, is, refl)
 
 -- the same where the check refuses it as not ready: it stays held, and nothing changes
-pub waits : (s : Settings) (me : ℕ) (ops held : List Shadow) (token : Token) (x : OpName) (v : Shadow) (a : Answer) →
+pub waits : (s : Settings) (me : ℕ) (ops held : List Shadow) (token : Token) (x : OpName) (v : Shadow) (a : NotedReply) →
     find_in held x ≡ Some v → is_eligible ops v ≡ true → IsSound s v → refusal_of s ops v ≡ Some NotReady → Says true a (Refused NotReady)
     → AnswersAlone (state_as s me ops held token) (state_as s me ops held token) (outcome_of s (site_as me ops held token) (Apply x)) a
 waits s me ops held token x v a found eligible sound refusal is =
@@ -344,13 +344,13 @@ received_comes s t v f u b fault found own =
     ∙ ap (λ c. unless (λ why. Refuses (BadMessage why)) f (unless_known v u (cond c (Refuses Conflict) (outcome_of_new s t v)))) own
 
 -- a shadow at fault is refused
-pub refuses_unsound : (z : SiteState) (v : Shadow) (why : ℕ) (a : Answer) → fault_of z.settings v ≡ Some why →
+pub refuses_unsound : (z : SiteState) (v : Shadow) (why : ℕ) (a : NotedReply) → fault_of z.settings v ≡ Some why →
     Says true a (Refused (BadMessage why)) → AnswersAlone z z (outcome_of z.settings z.site (Receive (ShadowMessage v))) a
 refuses_unsound z v why a fault is =
     answers_as z z _ _ a (received_comes z.settings z.site v (Some why) _ _ fault refl refl) (refl, is, refl)
 
 -- a sound shadow whose name is applied here is answered by the one applied
-pub knows : (z : SiteState) (v u : Shadow) (a : Answer) → fault_of z.settings v ≡ None → find_in z.site.ops v.name ≡ Some u →
+pub knows : (z : SiteState) (v u : Shadow) (a : NotedReply) → fault_of z.settings v ≡ None → find_in z.site.ops v.name ≡ Some u →
     Says true a (cond (same_shadow u v) (Already v.name) (Refused Conflict))
     → AnswersAlone z z (outcome_of z.settings z.site (Receive (ShadowMessage v))) a
 knows z v u a sound found is =
@@ -362,7 +362,7 @@ knows z v u a sound found is =
     by false is = (refl, is, refl)
 
 -- the same by what is known of the one applied: whether it is the shadow
-pub knows_whether : (z : SiteState) (v : Shadow) (same : Bool) (a : Answer) → fault_of z.settings v ≡ None →
+pub knows_whether : (z : SiteState) (v : Shadow) (same : Bool) (a : NotedReply) → fault_of z.settings v ≡ None →
     Some same ≡ option_map (λ (u : Shadow). same_shadow u v) (find_in z.site.ops v.name) →
     Says true a (cond same (Already v.name) (Refused Conflict))
     → AnswersAlone z z (outcome_of z.settings z.site (Receive (ShadowMessage v))) a
@@ -381,7 +381,7 @@ knows_nothing f None e = refl
 knows_nothing f (Some u) e = cc
 
 -- a sound shadow of this site's own that isn't applied here is refused
-pub refuses_own : (z : SiteState) (v : Shadow) (a : Answer) → fault_of z.settings v ≡ None → find_in z.site.ops v.name ≡ None →
+pub refuses_own : (z : SiteState) (v : Shadow) (a : NotedReply) → fault_of z.settings v ≡ None → find_in z.site.ops v.name ≡ None →
     v.home ≡ z.site.me → Says true a (Refused Conflict) → AnswersAlone z z (outcome_of z.settings z.site (Receive (ShadowMessage v))) a
 refuses_own z v a sound none own is =
     answers_as z z _ _ a (received_comes z.settings z.site v None None true sound none (eq-eqb v.home z.site.me own)) (refl, is, refl)
@@ -428,7 +428,7 @@ known_comes s t v u b found test =
     ∙ ap (λ c. cond c (Answers (Already v.name)) (Refuses Conflict)) test
 
 -- a shadow that isn't applied, where the inbox welcomes it at the clock of a valid list: it is held
-pub holds : (s : Settings) (me : ℕ) (ops : List Shadow) (inbox later : Holding) (token : Token) (c : Deps) (v : Shadow) (a : Answer) →
+pub holds : (s : Settings) (me : ℕ) (ops : List Shadow) (inbox later : Holding) (token : Token) (c : Deps) (v : Shadow) (a : NotedReply) →
     s.sites ≤ MOST_SITES → IsValid s ops → c ≡ clock_of ops → inbox.limit ≡ s.limits.inbox
     → IsWelcome inbox c v → later ≡ record inbox { held = with_held v inbox.held } → Says true a (Held v.name)
     → AnswersAlone (state_as s me ops inbox.held token) (state_as s me ops later.held token)
@@ -447,7 +447,7 @@ holds s me ops inbox later token c v a few valid same limit welcome grown is =
     test = by (nat_le s.limits.inbox (length inbox.held)) refl
 
 -- the same where the inbox is full and the shadow isn't ready: it is refused, and nothing changes
-pub too_many : (s : Settings) (me : ℕ) (ops : List Shadow) (inbox : Holding) (token : Token) (c : Deps) (v : Shadow) (a : Answer) →
+pub too_many : (s : Settings) (me : ℕ) (ops : List Shadow) (inbox : Holding) (token : Token) (c : Deps) (v : Shadow) (a : NotedReply) →
     s.sites ≤ MOST_SITES → IsValid s ops → c ≡ clock_of ops → inbox.limit ≡ s.limits.inbox
     → IsTooMany inbox c v → Says true a (Refused InboxFull)
     → AnswersAlone (state_as s me ops inbox.held token) (state_as s me ops inbox.held token)
@@ -465,7 +465,7 @@ too_many s me ops inbox token c v a few valid same limit many is =
         ap (λ b. b && not (is_eligible ops v)) first ∙ ap not (waits_means s ops c v few valid same many.waits)
 
 -- the same where it is held already: the answer is that, and nothing changes
-pub already : (s : Settings) (me : ℕ) (ops held : List Shadow) (token : Token) (v : Shadow) (a : Answer) → find_in held v.name ≡ Some v →
+pub already : (s : Settings) (me : ℕ) (ops held : List Shadow) (token : Token) (v : Shadow) (a : NotedReply) → find_in held v.name ≡ Some v →
     Says true a (Already v.name)
     → AnswersAlone (state_as s me ops held token) (state_as s me ops held token) (outcome_of_new s (site_as me ops held token) v) a
 already s me ops held token v a found is =
@@ -473,7 +473,7 @@ already s me ops held token v a found is =
     (refl, is, refl)
 
 -- the same where another is held under its name: it is refused as a conflict, and nothing changes
-pub conflicts : (s : Settings) (me : ℕ) (ops : List Shadow) (inbox : Holding) (token : Token) (v : Shadow) (a : Answer) →
+pub conflicts : (s : Settings) (me : ℕ) (ops : List Shadow) (inbox : Holding) (token : Token) (v : Shadow) (a : NotedReply) →
     IsInConflict inbox v → Says true a (Refused Conflict)
     → AnswersAlone (state_as s me ops inbox.held token) (state_as s me ops inbox.held token)
     (outcome_of_new s (site_as me ops inbox.held token) v) a
@@ -487,7 +487,7 @@ conflicts s me ops inbox token v a (u, found, other) is =
 
 -- a shadow that the inbox refuses, but for running out of memory
 pub refused_put : (s : Settings) (me : ℕ) (ops : List Shadow) (inbox later : Holding) (token : Token) (c : Deps) (v : Shadow)
-    (why : Refusal) (a : Answer) → s.sites ≤ MOST_SITES → IsValid s ops → c ≡ clock_of ops → inbox.limit ≡ s.limits.inbox
+    (why : Refusal) (a : NotedReply) → s.sites ≤ MOST_SITES → IsValid s ops → c ≡ clock_of ops → inbox.limit ≡ s.limits.inbox
     → (why ≡ Conflict) ⊎ (why ≡ InboxFull) ⊎ (why ≡ OutOfMemory) → (why ≡ Conflict → IsInConflict inbox v) →
     (why ≡ InboxFull → IsTooMany inbox c v) → (why ≡ OutOfMemory → ⊥) → later ≡ inbox → Says true a (Refused why)
     → AnswersAlone (state_as s me ops inbox.held token) (state_as s me ops later.held token)

@@ -9,7 +9,7 @@ use Rattle.rb_money.specs.Settings.{Settings}
 use Rattle.rb_shadow.specs.Operations.{same_name}
 use Rattle.rb_shadow.specs.declared.shadow.Shadow.{Shadow}
 use Rattle.rb_inbox.specs.Held.{comes_before, with_held}
-use Rattle.rb_site.specs.declared.answer.Answer.{Answer}
+use Rattle.rb_site.specs.declared.noted_reply.NotedReply.{NotedReply}
 use Rattle.rb_site.specs.declared.entry.Entry.{Entry}
 use Rattle.rb_site.specs.declared.event.Event.{Event}
 use Rattle.rb_site.specs.declared.message.Message.{Message}
@@ -38,7 +38,7 @@ ops_grow t (Takes m) h = omega arith
 ops_grow t (Passes m) h = omega arith
 
 -- after an event there is still enough memory
-pub still_enough : (room : RoomFor) (keeps : Bool) (old now : SiteState) (before after : List Message) (o : Outcome) (a : Answer) →
+pub still_enough : (room : RoomFor) (keeps : Bool) (old now : SiteState) (before after : List Message) (o : Outcome) (a : NotedReply) →
     Follows keeps old now before after o a → length (sent_by o) ≤ MOST_REQUESTS → length old.settings.starts ≤ room.accounts →
     length old.site.ops + MOST_REQUESTS ≤ room.entries → IsEnough room now
 still_enough room keeps old now before after o a follows few accounts entries =

@@ -2,7 +2,7 @@
 use Rattle.std.proofs.Common.{◌≡◌, ℕ, Bool, false, cond, List, [], ◌∷◌, ◌++◌, ap, sym, subst, ◌∙◌}
 use Rattle.rb_money.specs.Settings.{Settings}
 use Rattle.rb_money.specs.declared.refusal.Refusal.TheVariants.{HistoryFull}
-use Rattle.rb_site.specs.declared.answer.Answer.{Answer}
+use Rattle.rb_site.specs.declared.noted_reply.NotedReply.{NotedReply}
 use Rattle.rb_site.specs.declared.entry.Entry.{Entry}
 use Rattle.rb_site.specs.declared.event.Event.{Event}
 use Rattle.rb_site.specs.declared.message.Message.{Message}
@@ -20,14 +20,14 @@ abbrev pub noted_in : SeenSite → Event → Reply → SeenSite
 noted_in x e reply = record x { entries = x.entries ++ entry e reply ∷ [] }
 
 -- what the code did is the model's step
-pub record IsStep (x : SeenSite) (now : SiteState) (before after : List Message) (e : Event) (a : Answer) : Type 0 where
+pub record IsStep (x : SeenSite) (now : SiteState) (before after : List Message) (e : Event) (a : NotedReply) : Type 0 where
   pub seen : noted_in x e a.reply ≡ next_site x e
   pub reply : a.reply ≡ reply_to x.settings (state_of x) e
   pub sent : after ≡ before ++ sent_at x.settings (state_of x) e
   pub standing : IsStanding (noted_in x e a.reply) now
 
 -- where a site is the run of its history, which isn't full, what follows the event's outcome is the model's step
-pub is_step : (keeps : Bool) (x : SeenSite) (old now : SiteState) (before after : List Message) (e : Event) (a : Answer) →
+pub is_step : (keeps : Bool) (x : SeenSite) (old now : SiteState) (before after : List Message) (e : Event) (a : NotedReply) →
     is_full x.settings (state_of x) ≡ false → IsStanding x old → Follows keeps old now before after (outcome_of old.settings old.site e) a →
     IsStep x now before after e a
 is_step keeps x old now before after e a free standing follows =
@@ -75,7 +75,7 @@ abbrev pub seen_as : Settings → ℕ → List Entry → SeenSite
 seen_as s me xs = record { settings = s; me = me; entries = xs }
 
 -- where the entry was pushed, clients see the model's step
-pub seen_now : (x : SeenSite) (now : SiteState) (before after : List Message) (e : Event) (a : Answer) (xs : List Entry) →
+pub seen_now : (x : SeenSite) (now : SiteState) (before after : List Message) (e : Event) (a : NotedReply) (xs : List Entry) →
     IsStep x now before after e a → now.site.me ≡ x.me → xs ≡ x.entries ++ entry e a.reply ∷ [] →
     seen_as now.settings now.site.me xs ≡ noted_in x e a.reply
 seen_now x now before after e a xs step me pushed =
@@ -84,6 +84,6 @@ seen_now x now before after e a xs step me pushed =
     ∙ ap (seen_as x.settings x.me) pushed
 
 -- a step keeps the site's number
-pub me_kept : (keeps : Bool) (old now : SiteState) (before after : List Message) (o : Outcome) (a : Answer) →
+pub me_kept : (keeps : Bool) (old now : SiteState) (before after : List Message) (o : Outcome) (a : NotedReply) →
     Follows keeps old now before after o a → now.site.me ≡ old.site.me
 me_kept keeps old now before after o a follows = ap (λ (z : SiteState). z.site.me) follows.0 ∙ Runs.same_me old.site o

@@ -6,7 +6,7 @@ use Rattle.rb_shadow.specs.declared.shadow.Shadow.{Shadow}
 use Rattle.rb_shadow.specs.Operations.{Among}
 use Rattle.rb_shadow.specs.Sound.{IsSound}
 use Rattle.rb_token.specs.Seen.{SeenToken}
-use Rattle.rb_site.specs.declared.answer.Answer.{Answer}
+use Rattle.rb_site.specs.declared.noted_reply.NotedReply.{NotedReply}
 use Rattle.rb_site.specs.declared.message.Message.{Message}
 use Rattle.rb_site.specs.declared.reply.Reply.{Reply}
 use Rattle.rb_site.specs.Notes.{IsNoted}
@@ -36,19 +36,19 @@ pub record IsTied (s : Settings) (inbox : Holding) (token : SeenToken) : Type 0 
   pub sound : (v : Shadow) → Among v inbox.held → IsSound s v
 
 -- the answer of a reply and of what is noted of it
-abbrev pub noting : Reply → Option Reply → Answer
+abbrev pub noting : Reply → Option Reply → NotedReply
 noting reply noted = record { reply = reply; noted = noted }
 
 -- the answer of a reply of which nothing is noted
-abbrev pub plain : Reply → Answer
+abbrev pub plain : Reply → NotedReply
 plain reply = noting reply None
 
 -- the answer has this reply, and what is noted of it for a history that keeps replies or doesn't
-abbrev pub Says : Bool → Answer → Reply → Type 0
+abbrev pub Says : Bool → NotedReply → Reply → Type 0
 Says keeps answer reply = (answer.reply ≡ reply) × IsNoted keeps reply answer.noted
 
 -- the new state, the answer, and the messages sent before and after are what the event came to
-abbrev pub Follows : Bool → SiteState → SiteState → List Message → List Message → Outcome → Answer → Type 0
+abbrev pub Follows : Bool → SiteState → SiteState → List Message → List Message → Outcome → NotedReply → Type 0
 Follows keeps old new before after o answer =
     (new ≡ record old { site = changed old.site o })
     × Says keeps answer (reply_of old.settings old.site.ops o)

@@ -10,8 +10,8 @@ ghost use Rattle.rb_scratch.specs.Tried.{IsTried};
 ghost use Rattle.rb_scratch.specs.declared.request.TheConstants.{MOST_REQUESTS};
 ghost use Rattle.rb_site.specs.States.{Says};
 
-use crate::answer::Answer;
 use crate::batch_room::BatchRoom;
+use crate::noted_reply::NotedReply;
 use crate::{Message, Reply};
 use rb_ledger::Ledger;
 use rb_money::Refusal;
@@ -75,7 +75,7 @@ pub fn run_batch(
     before: &mut Reply,
     keeps: bool,
     sent: &mut Vec<Message>,
-) -> Result<Answer, Refusal>
+) -> Result<NotedReply, Refusal>
     requires site { token.me < ledger.old.settings.sites }
     requires few { length requests.now ≤ MOST_REQUESTS }
     ensures settings { ledger.new.settings ≡ ledger.old.settings }

@@ -4,7 +4,7 @@ ghost use Rattle.rb_scratch.specs.Batches.{names_of_all};
 ghost use Rattle.rb_site.specs.Rooms.{IsRoomFor};
 ghost use Rattle.rb_site.specs.States.{Says};
 
-use crate::answer::Answer;
+use crate::noted_reply::NotedReply;
 use crate::{Message, Reply};
 use rb_kit::List;
 use rb_money::Refusal;
@@ -65,7 +65,7 @@ impl BatchRoom {
     }
 
     /// The answer that names the operations, each of which is sent. There is memory for them.
-    pub fn filled(self, made: &[Shadow], sent: &mut Vec<Message>) -> Answer
+    pub fn filled(self, made: &[Shadow], sent: &mut Vec<Message>) -> NotedReply
         requires few { length made.now ≤ self.most }
         requires room { vec_len sent.old + length made.now ≤ vec_capacity sent.old }
         ensures answer { Says self.keeps result (Reply.Names (names_of_all made.now)) }
@@ -83,7 +83,7 @@ impl BatchRoom {
         } else {
             None
         };
-        Answer {
+        NotedReply {
             reply: Reply::Names(List::new(with_names(names, made))),
             noted,
         }

@@ -14,8 +14,8 @@ ghost use Rattle.rb_token.specs.Seen.{Shows};
 ghost use Rattle.rb_scratch.specs.declared.request.TheConstants.{MOST_REQUESTS};
 ghost use Rattle.rb_site.specs.States.{Says};
 
-use crate::answer::Answer;
 use crate::batch::run_batch;
+use crate::noted_reply::NotedReply;
 use crate::{Message, Reply};
 use rb_ledger::{Ledger, OperationList};
 use rb_money::{Config, Place, Refusal};
@@ -163,7 +163,7 @@ impl Journal {
         before: &mut Reply,
         keeps: bool,
         sent: &mut Vec<Message>,
-    ) -> Result<Answer, Refusal>
+    ) -> Result<NotedReply, Refusal>
         requires site { token.me < self.old.settings.sites }
         requires few { length requests.now ≤ MOST_REQUESTS }
         ensures made { IfOk result (λ answer. (made : List TheShadow)

@@ -2,7 +2,6 @@
 //! Tests: rb_tests, site.rt, worlds.rt.
 #![tactic(auto)]
 
-mod answer;
 mod batch;
 mod batch_room;
 mod entry;
@@ -10,9 +9,10 @@ mod event;
 mod journal;
 mod keeps_entry;
 mod message;
+mod noted_reply;
 mod reply;
 mod report;
-mod room;
+mod report_lists;
 mod same;
 mod site;
 mod state;

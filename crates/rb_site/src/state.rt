@@ -13,8 +13,8 @@ ghost use Rattle.rb_scratch.specs.declared.request.TheConstants.{MOST_REQUESTS};
 ghost use Rattle.rb_site.specs.Events.{first_site, outcome_of, outcome_of_new};
 ghost use Rattle.rb_site.specs.States.{Follows, Says, noting, plain};
 
-use crate::answer::give;
 use crate::journal::Journal;
+use crate::noted_reply::give;
 use crate::{Event, Message, Reply};
 use rb_inbox::{Inbox, PutAnswer};
 use rb_kit::List;

@@ -12,8 +12,8 @@ use rb_money::Config;
 use rb_site::WorldEvent;
 use std::alloc::Global;
 
-/// The same as `read_command`, for a caller that has tried `parse_command`: the usual spelling isn't looked for first.
-pub fn read_any_command(alloc: Global, config: &Config, line: &str) -> Result<WorldEvent, LineFault>
+/// The command that a line is if it isn't spelled as programs spell it.
+fn read_any_command(alloc: Global, config: &Config, line: &str) -> Result<WorldEvent, LineFault>
     ensures value { Gives result (command_at config.now line.now) }
     ensures command { IfOk result IsCommand }
 {

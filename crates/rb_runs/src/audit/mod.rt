@@ -1,6 +1,6 @@
 //! An audit: a configuration and the lines of histories in, and one line out.
 
-mod answer;
 mod collected;
 pub mod laws;
 pub mod run;
+mod verdict;

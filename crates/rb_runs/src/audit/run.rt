@@ -5,8 +5,8 @@ ghost use Rattle.rb_lines.specs.declared.fault.ScriptFault.TheVariants.{Gather, 
 ghost use Rattle.rb_lines.specs.declared.limits.TheConstants.{MOST_READS};
 ghost use Rattle.rb_runs.specs.Audit.{CollectsAs, AuditEndsAs};
 
-use crate::audit::answer::answer;
 use crate::audit::collected::Collected;
+use crate::audit::verdict::answer;
 use rb_lines::{ScriptFault, Sink, Source, run_lines, write_all};
 use std::alloc::Global;
 

@@ -5,7 +5,7 @@ use Rattle.std.proofs.lemmas.List.{map-append}
 use Rattle.rb_scratch.specs.declared.request.TheConstants.{MOST_REQUESTS}
 use Rattle.rb_site.specs.Events.{is_full, outcome_of, reply_to, sent_at}
 use Rattle.rb_site.specs.Seen.{SeenSite, entry, next_site, state_of}
-use Rattle.rb_site.specs.declared.answer.Answer.{Answer}
+use Rattle.rb_site.specs.declared.noted_reply.NotedReply.{NotedReply}
 use Rattle.rb_site.specs.declared.entry.Entry.{Entry}
 use Rattle.rb_site.specs.declared.reply.Reply.{Reply}
 use Rattle.rb_site.specs.Notes.{IsNoted}
@@ -38,7 +38,7 @@ enough_more old new now more same enough = record {
 }
 
 -- what is noted of the answer's reply, where it says another that is equal
-noted_as : (keeps now : Bool) (a : Answer) (reply : Reply) → Says keeps a reply → keeps ≡ now → IsNoted now a.reply a.noted
+noted_as : (keeps now : Bool) (a : NotedReply) (reply : Reply) → Says keeps a reply → keeps ≡ now → IsNoted now a.reply a.noted
 noted_as keeps now a reply says same =
     subst (λ k. IsNoted k a.reply a.noted) same (subst (λ r. IsNoted keeps r a.noted) (sym says.0) says.1)
 

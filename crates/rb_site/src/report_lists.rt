@@ -10,12 +10,12 @@ use std::marker::Model;
 /// Memory for the balances and the counts of a report, so that closing a site takes none. Clients see
 /// for how many accounts and operations it is enough.
 #[derive(Drop)]
-pub struct Room {
+pub struct ReportLists {
     balances: Vec<u64>,
     counts: Vec<u32>,
 }
 
-impl Model for Room {
+impl Model for ReportLists {
     ghost use Rattle.std.specs.Prelude.{◌≡◌, [], vec_capacity};
     ghost use Rattle.rb_site.specs.Reports.{RoomFor};
 
@@ -26,17 +26,17 @@ impl Model for Room {
     ghost invariant = { λ r. (r.balances.items ≡ []) × (r.counts.items ≡ []) };
 }
 
-impl Room {
+impl ReportLists {
     /// Memory for this number of accounts, and for no operation yet, where the report has these lists. `Err` means out
     /// of memory.
-    pub fn open(alloc: Global, reports: bool, accounts: usize) -> Result<Room, AllocError>
+    pub fn open(alloc: Global, reports: bool, accounts: usize) -> Result<ReportLists, AllocError>
         ensures { reports ≡ true → IfOk result (λ room. accounts ≤ room.accounts) }
     {
         let mut balances = Vec::new(alloc);
         if reports {
             balances.reserve(accounts)?;
         }
-        Ok(Room {
+        Ok(ReportLists {
             balances,
             counts: Vec::new(alloc),
         })
@@ -64,7 +64,7 @@ impl Room {
         ensures counts { reports ≡ true → result.1.items ≡ counts_of ledger.now.entries }
         ensures unreported { reports ≡ false → (result.0.items ≡ []) × (result.1.items ≡ []) }
     {
-        let Room { balances, counts } = self;
+        let ReportLists { balances, counts } = self;
         if !reports {
             return (balances, counts);
         }

@@ -1,7 +1,7 @@
 use Rattle.std.proofs.Common.{inl, inr, ap, subst, ◌∙◌}
 use Rattle.rb_history.specs.Verdicts.{order_json, stuck_json, verdict_line}
 use Rattle.rb_auditor.specs.Findings.{IsFound, Refutes}
-use Rattle.rb_runs.proofs.audit.answer.answer.Goals as goal
+use Rattle.rb_runs.proofs.audit.verdict.answer.Goals as goal
 
 pub returns-in_ok-order_line-in-Ok : goal.returns-in_ok-order_line-in-Ok
 returns-in_ok-order_line-in-Ok c = record {

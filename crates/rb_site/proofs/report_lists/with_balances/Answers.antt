@@ -7,7 +7,7 @@ use Rattle.rb_money.specs.Amounts.{cents}
 use Rattle.rb_money.specs.Settings.{Settings}
 use Rattle.rb_shadow.specs.Operations.{bal}
 use Rattle.rb_site.proofs.Reports.{at_end, not_beyond, room_left}
-use Rattle.rb_site.proofs.room.with_balances.Goals as goal
+use Rattle.rb_site.proofs.report_lists.with_balances.Goals as goal
 
 pub loop-place-preserved : goal.loop-place-preserved
 loop-place-preserved c = (

@@ -7,12 +7,12 @@ use std::marker::Model;
 
 /// The site's number and the receipts of a seat that was given back.
 #[derive(Drop)]
-pub struct Given {
+pub struct ReturnedSeat {
     site: u8,
     receipts: Vec<Receipt>,
 }
 
-impl Model for Given {
+impl Model for ReturnedSeat {
     ghost use Rattle.rb_branch.specs.Seats.{SeenSeat};
 
     ghost Value = { SeenSeat };
@@ -20,12 +20,12 @@ impl Model for Given {
     ghost view = { λ g. record { site = g.site; receipts = g.receipts.items } };
 }
 
-impl Given {
+impl ReturnedSeat {
     /// A seat of this site with these receipts.
-    pub(crate) fn new(site: u8, receipts: Vec<Receipt>) -> Given
+    pub(crate) fn new(site: u8, receipts: Vec<Receipt>) -> ReturnedSeat
         ensures { result ≡ record { site = site; receipts = receipts.items } }
     {
-        Given { site, receipts }
+        ReturnedSeat { site, receipts }
     }
 
     /// The site's number.

@@ -3,7 +3,7 @@ use Rattle.std.proofs.Common.{◌≡◌, ◌≤◌, length, map, vec_len, vec_ca
 use Rattle.std.specs.List.{range_with_len}
 use Rattle.rb_money.specs.Amounts.{cents}
 use Rattle.rb_shadow.specs.Operations.{bal}
-use Rattle.rb_site.proofs.room.with_balances.Given as goal
+use Rattle.rb_site.proofs.report_lists.with_balances.Given as goal
 
 abbrev pub invariant-loop-place : goal.invariant-loop-place
 invariant-loop-place l =

@@ -3,7 +3,7 @@ use Rattle.std.proofs.Common.{◌≡◌, ◌≤◌, length, take, vec_len, vec_c
 use Rattle.std.specs.Prelude.{map}
 use Rattle.rb_shadow.specs.Operations.{cancel_count}
 use Rattle.rb_shadow.specs.declared.shadow.Shadow.{Shadow}
-use Rattle.rb_site.proofs.room.with_counts.Given as goal
+use Rattle.rb_site.proofs.report_lists.with_counts.Given as goal
 
 abbrev pub invariant-loop-before : goal.invariant-loop-before
 invariant-loop-before l =

@@ -5,7 +5,7 @@ use Rattle.std.proofs.lemmas.Bool.Decides.{nat_tests}
 use Rattle.rb_shadow.specs.Operations.{cancel_count}
 use Rattle.rb_shadow.specs.declared.shadow.Shadow.{Shadow}
 use Rattle.rb_site.proofs.Reports.{more_counts, room_left, whole}
-use Rattle.rb_site.proofs.room.with_counts.Goals as goal
+use Rattle.rb_site.proofs.report_lists.with_counts.Goals as goal
 
 -- the count of an entry whose place from 0 is k, if there is one
 counted : (f : Shadow → ℕ) (us : List Shadow) (k : ℕ) (n : Option ℕ) →

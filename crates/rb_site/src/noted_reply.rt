@@ -7,12 +7,12 @@ use crate::Reply;
 
 /// A reply, and the same once more where it holds memory and the history keeps replies.
 #[derive(Drop)]
-pub struct Answer {
+pub struct NotedReply {
     pub reply: Reply,
     pub noted: Option<Reply>,
 }
 
-impl Answer {
+impl NotedReply {
     /// Puts the reply in the place of another, and what is noted of it where nothing was.
     #[inline(always)]
     pub fn put(self, reply: &mut Reply, noted: &mut Option<Reply>)
