@@ -12,7 +12,7 @@ help:
 	@echo '  make install PREFIX=/usr/local'
 	@echo '                     copies the program, its manual page and completions for three shells, after make build'
 	@echo '  make examples      every example, and every case of tests/cases, through the program, after make build'
-	@echo '  make test          the gate; about an hour; less than a minute where nothing changed since'
+	@echo '  make test          the gate; about an hour; less than a minute if nothing changed since'
 	@echo '                     (docs/CHANGING.md)'
 	@echo '  make bindings      the library for C, Rust and Python (bindings/), their tests and the shop of examples/shop;'
 	@echo '                     wants gcc or clang, and cargo'
@@ -35,9 +35,9 @@ try:
 	@test -n "$(FILE)" || { echo 'usage: make try FILE=examples/scripts/stale_token.jsonl'; exit 2; }
 	@examples/tools/bank.py --try "$(FILE)"
 
-# Proves and builds the program, and prints where it lies.
+# Proves and builds the program, and prints its path.
 build:
-	@echo 'Proving and building: less than an hour the first time, seconds where nothing changed since (four processors).'
+	@echo 'Proving and building: less than an hour the first time, seconds if nothing changed since (four processors).'
 	@cd crates/rbbank && rt run -- script < stdin > /dev/null
 	@echo $(CURDIR)/crates/rbbank/out/rbbank
 

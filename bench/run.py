@@ -127,7 +127,7 @@ def main():
     words.add_argument("program", nargs="?", help="a built rbbank; without it, `make build` makes it")
     words.add_argument("--kinds", default=",".join(dict.fromkeys([*AT_EACH, *kinds.SHORTEST, *generate.AT_SITES])))
     words.add_argument("--sizes", default=SIZES, help=f"commands, the least first, {SIZES}")
-    words.add_argument("--runs", type=int, default=3, help="rounds, of which the best is told")
+    words.add_argument("--runs", type=int, default=3, help="rounds, of which the best is printed")
     words.add_argument("--seed", type=int, default=1)
     given = words.parse_args()
     chosen = given.kinds.split(",")

@@ -10,7 +10,7 @@ A case begins with its name in brackets. Its lines:
   <> TEXT   a line of input that is a line of the output too; the case runs again with a space before each of them
   ? TEXT    a line of input behind the others: the case runs once with each such line
   ! TEXT    a line of standard error; !~ TEXT: a part of it
-  = N       the exit status, where it isn't 0
+  = N       the exit status, if it isn't 0
   & FILE    the file that standard output goes to
   % BYTES   the addresses that the program may have
 """
@@ -167,7 +167,7 @@ def made_here():
 
 
 def is_wanted(written, whole, part, end=""):
-    """Whether a run wrote the whole, or, where a part or an end is named, that part of it."""
+    """Whether a run wrote the whole, or, if a part or an end is named, that part of it."""
     if end:
         return written.rstrip().endswith(end)
     return part.removesuffix("\n") in written if part else written == whole

@@ -1,7 +1,7 @@
 #!/usr/bin/env python3
 """Says which functions and lemma files of a crate took longest to prove.
 
-usage: proof_times.py [--most N] [--size] CRATE..      (N: how many of each crate, 12 where it isn't given)
+usage: proof_times.py [--most N] [--size] CRATE..      (N: how many of each crate, 12 if it isn't given)
 
 It reads the times at which `rt check --jobs 1` wrote what it keeps in crates/CRATE/out/incremental, so it speaks of
 the last check that proved the crate from nothing with one job (remove crates/CRATE/out before it). Another check of

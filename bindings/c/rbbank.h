@@ -12,7 +12,7 @@
  * - A handle that was opened is closed, else its memory is lost. Closing twice, and a zeroed handle, are fine.
  *
  * No call has another condition: any bytes are answered. A line is passed without its line feed, and has at most
- * 1,048,576 bytes where the program's limit is to hold. Nothing is printed, no file is opened, no thread started.
+ * 1,048,576 bytes if the program's limit is to hold. Nothing is printed, no file is opened, no thread started.
  */
 #ifndef RBBANK_H
 #define RBBANK_H
@@ -63,7 +63,7 @@ struct rbbank_site {
 };
 
 /* Opens site `me` (0 to 15) of the bank of a configuration's line, before any event. Its entries are then the
- * journal's first line. Where a journal is there, compare: one that begins with another line is another bank's, and
+ * journal's first line. If a journal is there, compare: one that begins with another line is another bank's, and
  * its entries might be replayed here all the same. A site that the handle had is ended first.
  * 0, 2 (no configuration), 3 (the configuration has no such site) or 4; after 2, 3 and 4 the handle is closed. */
 int32_t rbbank_site_open(struct rbbank_site *site, uint8_t me, const uint8_t *config, size_t length);
@@ -75,16 +75,16 @@ int32_t rbbank_site_open(struct rbbank_site *site, uint8_t me, const uint8_t *co
 int32_t rbbank_site_answer(struct rbbank_site *site, const uint8_t *line, size_t length);
 
 /* Copies the kept answer, as rbbank_reply does. After a replay it is the line {"sends":[..]} of what the entry sent,
- * and nothing where it sent nothing. */
+ * and nothing if it sent nothing. */
 size_t rbbank_site_reply(struct rbbank_site *site, size_t from, uint8_t *out, size_t length);
 
-/* Copies the lines that the kept answer adds to the journal, each with its line feed, as rbbank_reply does; none where
+/* Copies the lines that the kept answer adds to the journal, each with its line feed, as rbbank_reply does; none if
  * the history is full, and none after a replay. After an open it is the configuration's line, with all eight keys. */
 size_t rbbank_site_entries(struct rbbank_site *site, size_t from, uint8_t *out, size_t length);
 
 /* Gives a site that was opened again the next line of its journal, behind the first. 0; 1; 2 (no entry of this site):
  * nothing has changed; 3 (the site gives another reply than the entry has, or its history is full): the handle is
- * closed; 4. The entry may be spelled in any way, where the program takes a journal's line only as it writes it. */
+ * closed; 4. The entry may be spelled in any way, but the program takes a journal's line only as it writes it. */
 int32_t rbbank_site_replay(struct rbbank_site *site, const uint8_t *line, size_t length);
 
 /* Ends the site, and gives its memory back. The handle is zeroed, and may be opened again. */
@@ -92,11 +92,11 @@ void rbbank_site_close(struct rbbank_site *site);
 
 /* ---- Whole runs, from all lines of an input to all lines of the output
  *
- * They return the program's statuses: 0; 1 where an audit found a fault; 2 for a bad line; 3 where `out`, of
- * `capacity` bytes, is too short for what was to be written, however the run ended; 4 where memory ran out. `*written`
+ * They return the program's statuses: 0; 1 if an audit found a fault; 2 for a bad line; 3 if `out`, of
+ * `capacity` bytes, is too short for what was to be written, however the run ended; 4 if memory ran out. `*written`
  * bytes of `out` were written: with 0 and 1 the whole output, with 2 what was written before the bad line, with 3 a
  * prefix, with 4 what was written by then, maybe nothing. `*number` is with 0 and 1 how many lines were written; with 2
- * the number of the bad line, from 1, blank ones counted, or 0 where the input has no configuration; with 3 how many
+ * the number of the bad line, from 1, blank ones counted, or 0 if the input has no configuration; with 3 how many
  * bytes `out` has to have; with 4 it is 0. */
 
 /* Commands in, replies out: `rbbank script`. */

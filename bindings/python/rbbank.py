@@ -53,7 +53,7 @@ class WrongReply(ValueError):
 class LineFault(BadLine):
     """An input with a bad line, at which the run ended.
 
-    `line` is its number, from 1, or 0 where the input has no configuration; `written` is what was written before it.
+    `line` is its number, from 1, or 0 if the input has no configuration; `written` is what was written before it.
     """
 
     def __init__(self, line: int, written: str) -> None:
@@ -186,7 +186,7 @@ class Bank(_Handle):
     _prefix = "rbbank_"
 
     def __init__(self, configuration: Line) -> None:
-        """Raises BadLine where the line is no configuration, and MemoryError."""
+        """Raises BadLine if the line is no configuration, and MemoryError."""
         super().__init__()
         data = _bytes(configuration)
         self._status(_call("rbbank_open")(self._ref, data, len(data)))
@@ -204,7 +204,7 @@ class Site(_Handle):
     _prefix = "rbbank_site_"
 
     def __init__(self, me: int, configuration: Line) -> None:
-        """Raises BadLine where the line is no configuration, NoSuchSite, and MemoryError."""
+        """Raises BadLine if the line is no configuration, NoSuchSite, and MemoryError."""
         if not 0 <= me <= 255:
             raise NoSuchSite(f"{me}")
         super().__init__()
@@ -213,15 +213,15 @@ class Site(_Handle):
 
     def entries(self) -> bytes:
         """The lines for the journal, each with its line feed: of the configuration after the opening, and of the last
-        answer's entries, none where the history is full, and none after a replay."""
+        answer's entries, none if the history is full, and none after a replay."""
         with self._lock:
             return self._kept(_call("rbbank_site_entries"))
 
     def replay(self, entry: Line) -> str:
         """Gives it the next line of its journal, in any spelling, and returns the line `{"sends":[..]}` of what the
-        entry sent, or nothing where it sent nothing.
+        entry sent, or nothing if it sent nothing.
 
-        Raises BadLine where it is no entry of this site, after which all is as it was; WrongReply, after which it is
+        Raises BadLine if it is no entry of this site, after which all is as it was; WrongReply, after which it is
         closed; Closed; MemoryError, after which it is closed.
         """
         data = _bytes(entry)

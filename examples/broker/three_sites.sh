@@ -6,7 +6,7 @@
 # A site takes its lines from the topic bank/N, on which clients publish as well; wire.py publishes what it sends. The
 # broker keeps what comes for a site that is down (a session of its own, QoS 1), so each line is delivered at least
 # once to mosquitto_sub. What that has taken and its site hasn't recorded is lost with the site: for messages the other
-# sites make up for it as they start again, and a client asks again where it got no reply.
+# sites make up for it as they start again, and a client asks again if it got no reply.
 set -eu
 
 here=$(cd "$(dirname "$0")" && pwd)

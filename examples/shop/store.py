@@ -4,7 +4,7 @@
 usage: store.py NAME --ports NORTH,SOUTH,WEST --journal FILE
 
     POST /restock/tea/40       40 pieces of tea come in
-    POST /sell/tea/2           2 are sold, or none where there are fewer
+    POST /sell/tea/2           2 are sold, or none if there are fewer
     POST /give-back/R1         the pieces of that sale come back
     POST /move/tea/2/south     2 go to the store south
     GET  /stock/tea/north      how many north has, as far as this store knows
@@ -40,7 +40,7 @@ EVENTS = {
 
 
 def post(port, path, body=b""):
-    """Asks a store: its reply, or None where it doesn't answer."""
+    """Asks a store: its reply, or None if it doesn't answer."""
     try:
         with urllib.request.urlopen(f"http://127.0.0.1:{port}{path}", body, timeout=10) as response:
             return json.load(response)
@@ -75,7 +75,7 @@ class Store:
             self.send(json.loads(self.site.replay(entry) or '{"sends":[]}')["sends"])
 
     def keep(self, entries):
-        """Has the disk keep entries. Where it doesn't, the store ends: nothing that it answers could be relied on."""
+        """Has the disk keep entries. If it doesn't, the store ends: nothing that it answers could be relied on."""
         try:
             self.journal.write(entries)
             self.journal.flush()
@@ -108,7 +108,7 @@ class Store:
                 time.sleep(0.05)
 
     def ask(self, event):
-        """Answers a client. Where that takes the token, the other stores are asked for it."""
+        """Answers a client. If that takes the token, the other stores are asked for it."""
         until = time.monotonic() + PATIENCE
         while True:
             reply = self.answer(json.dumps(event))

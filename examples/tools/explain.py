@@ -4,7 +4,7 @@
 A script: what each command did, with the meaning of each refusal. Histories: whether one world has them, else which
 line is at fault, which entry that is, and what the site answers there. A bad line: the line, a caret and the reason.
 
-The status is the program's: 0, or 1 where an audit found a fault, or 2 at a bad line.
+The status is the program's: 0, or 1 if an audit found a fault, or 2 at a bad line.
 """
 import argparse
 import os

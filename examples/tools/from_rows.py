@@ -8,7 +8,7 @@ messages that no site sent histories/forged.rows. Made are
   crates/rb_tests/src/row_texts.rt, forged_texts.rt   the same texts, whole files
   crates/rb_world/proofs/WorkedRows.antt, ForgedRows.antt
                                                       the replies as terms, computed, behind the line "-- Made: .."
-Run rt fmt in crates/rb_world after it. With --check nothing is written: it ends in 1 where one isn't what would be
+Run rt fmt in crates/rb_world after it. With --check nothing is written: it ends in 1 if one isn't what would be
 made.
 """
 import glob

@@ -173,14 +173,14 @@ impl Site {
         )))
     }
 
-    /// The lines that the last answer adds to the journal, each with its line feed, none where the history is full;
+    /// The lines that the last answer adds to the journal, each with its line feed, none if the history is full;
     /// after the opening the configuration's line, which is the journal's first.
     pub fn entries(&mut self) -> &str {
         copy(&mut self.handle, c::rbbank_site_entries, &mut self.text)
     }
 
     /// Takes the next line of the site's journal, behind the first and in any spelling, and gives the line
-    /// `{"sends":[..]}` of what the entry sent, or nothing where it sent nothing.
+    /// `{"sends":[..]}` of what the entry sent, or nothing if it sent nothing.
     ///
     /// # Errors
     ///

@@ -1,6 +1,6 @@
 //! One site by lines: its configuration's line in, then the line of each event, and a line out for each; and the lines
 //! of its history, which the caller keeps where it keeps its data.
-//! Tests: tests/sites.py, tests/crash.py; examples/check.py runs the rows of a site.
+//! Tests: tests/sites.py, tests/crash.py; examples/tools/check.py runs the rows of a site.
 #![tactic(auto)]
 
 mod event_line;

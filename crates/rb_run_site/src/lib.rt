@@ -1,6 +1,6 @@
 //! One site as a process: the lines of its events in, a line out for each, and its history in a journal that survives
 //! crashes. Nothing is put out that a crash takes back.
-//! Tests: tests/sites.py, tests/crash.py; examples/check.py runs the rows of a site.
+//! Tests: tests/sites.py, tests/crash.py; examples/tools/check.py runs the rows of a site.
 #![tactic(auto)]
 
 mod entries;
