@@ -23,6 +23,8 @@ import tempfile
 ROOT = os.path.dirname(os.path.dirname(os.path.abspath(__file__)))
 MUTANTS = os.path.join(ROOT, "tests", "wrong_bodies")
 CRATES = os.path.join(ROOT, "crates")
+# how many mutants there are in all, so that none is lost with a change: raise it with each that is added
+MUTANTS_IN_ALL = 653
 
 
 def mutants_of(crate):
@@ -69,7 +71,10 @@ def check():
             if why:
                 faults += 1
                 print(f"wrong_bodies: {crate} {name}: {why}")
-    if faults or not named():
+    if count != MUTANTS_IN_ALL:
+        faults += 1
+        print(f"wrong_bodies: there are {count} mutants, and not {MUTANTS_IN_ALL}")
+    if not named() or faults:
         sys.exit(1)
     return count
 

@@ -29,10 +29,10 @@ pub record IsUsual (sites : ℕ) (v : Shadow) : Type 0 where
   pub home : is_foreign v.name v.home ≡ false
   pub own : entry_of v.deps v.name + 1 ≡ number_of v.name
 
--- the message at a spot, among these operations or among these others
-abbrev pub message_at_spot : List Shadow → List Message → KeptAt → Option Message
-message_at_spot us os (Usual k) = option_map (λ u. ShadowMessage u) (slice_get us k)
-message_at_spot us os (Other k) = slice_get os k
+-- the message that is kept at a place, among these operations or among these others
+abbrev pub message_kept_at : List Shadow → List Message → KeptAt → Option Message
+message_kept_at us os (Usual k) = option_map (λ u. ShadowMessage u) (slice_get us k)
+message_kept_at us os (Other k) = slice_get os k
 
 -- there is something at each of these
 abbrev pub AreThere : {A B : Type 0} → (A → Option B) → List A → Type 0

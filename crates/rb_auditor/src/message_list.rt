@@ -32,19 +32,19 @@ pub struct MessageList {
 impl Model for MessageList {
     ghost use Rattle.std.specs.Prelude.{length, ◌≤◌, ◌<◌, ◌+◌, ◌^◌, vec_capacity};
     ghost use Rattle.std.specs.List.{filter_map};
-    ghost use Rattle.rb_auditor.specs.MessageLists.{AreThere, MessageTable, message_at_spot};
+    ghost use Rattle.rb_auditor.specs.MessageLists.{AreThere, MessageTable, message_kept_at};
 
     ghost Value = { MessageTable };
 
     ghost view = { λ l. record {
-      items = filter_map (message_at_spot l.usual.items l.others.items) l.spots.items;
+      items = filter_map (message_kept_at l.usual.items l.others.items) l.spots.items;
       usual = length l.usual.items;
       sites = l.usual.sites;
       limit = l.limit;
     } };
 
     ghost invariant = { λ l. record {
-      each : AreThere (message_at_spot l.usual.items l.others.items) l.spots.items;
+      each : AreThere (message_kept_at l.usual.items l.others.items) l.spots.items;
       whole : length l.usual.items + length l.others.items ≤ length l.spots.items;
       within : length l.spots.items ≤ l.limit;
       few : l.limit < 2 ^ 32;

@@ -158,8 +158,8 @@ AreRefused n kept receipts = (i : ℕ) (m : Message) → i < n → slice_get kep
 abbrev pub receipts_since : SeenSeat → SeenSeat → List Receipt
 receipts_since old new = drop (length old.receipts) new.receipts
 
--- from whichever receipt on one looks: if those that the seat had refuse the first n messages that were kept, those that
--- it has refuse the first m that are kept now
+-- among all receipts from any one on: if those that the seat had before refused the first n messages that were kept
+-- then, those that it has now refused the first m that are kept now
 abbrev pub RefusesOn : ℕ → List Message → SeenSeat → ℕ → List Message → SeenSeat → Type 0
 RefusesOn n before old m now new =
     (from : ℕ) → from ≤ length old.receipts → AreRefused n before (drop from old.receipts) → AreRefused m now (drop from new.receipts)

@@ -8,7 +8,8 @@ use crate::{Branch, CallFault, Entries, Gate, Inlet, Seat};
 use std::sync::Wait;
 use std::sync::ledger::Ledger;
 
-/// The most steps for which a server keeps its site's lock.
+/// The most steps for which a server keeps its site's lock. Each receives all that the inlet keeps, which is the message
+/// that was taken last and those that found the inbox full, and then applies one operation or takes one message.
 const MOST_STEPS: u32 = 64;
 
 impl<E: Entries, R: Ledger, G: Gate + Drop> Branch<E, R, G> {

@@ -11,7 +11,7 @@ pub trait Responder {
     // What the lines to come come to, the number of the first of them, and how many were answered.
     ghost state: { Self → RunState };
 
-    // What lines make of it, beside their answers, and what kind of value that is.
+    // The kind of value that lines make of a responder, beside their answers, and the value that they make of it.
     ghost Made: { Type 0 } = { Unit {0} };
 
     ghost made: { Self → List (List ℕ) → Made };

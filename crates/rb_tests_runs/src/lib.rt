@@ -33,6 +33,8 @@ mod scripts;
 #[cfg(test)]
 mod seats;
 #[cfg(test)]
+mod served;
+#[cfg(test)]
 mod tellers;
 #[cfg(test)]
 mod threads;

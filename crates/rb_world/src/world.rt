@@ -150,8 +150,8 @@ impl<E: KeepsEntry, R: KeepsEvent> World<E, R> {
         }
     }
 
-    /// A message of this number is delivered to a site. Its copies are in a call of their own, since each function
-    /// clears them before it does anything.
+    /// A message of this number is delivered to a site. This is a call, so that no other event clears the memory of the
+    /// message's copies.
     #[inline(never)]
     fn deliver(
         &mut self,

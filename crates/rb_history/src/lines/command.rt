@@ -12,7 +12,7 @@ use rb_money::Config;
 use rb_site::WorldEvent;
 use std::alloc::Global;
 
-/// The command that a line is if it isn't spelled as programs spell it.
+/// The command that a line is, read from a copy without blanks or by its JSON value.
 fn read_any_command(alloc: Global, config: &Config, line: &str) -> Result<WorldEvent, LineFault>
     ensures value { Gives result (command_at config.now line.now) }
     ensures command { IfOk result IsCommand }

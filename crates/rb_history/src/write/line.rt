@@ -11,7 +11,7 @@ use crate::keys::spell;
 use crate::write::put::{put_name, put_number, put_text, put_word};
 use rb_shadow::{Label, OpName};
 
-/// The most bytes of a short text.
+/// The memory that is taken for a reply with neither names nor rows, in bytes.
 pub const LINE: usize = 64;
 
 /// The most bytes of what is before or behind a number or a name.

@@ -4,7 +4,7 @@ use Rattle.std.specs.Prelude.{option_map, slice_get}
 use Rattle.std.proofs.lemmas.Bool.{false≢true}
 use Rattle.std.proofs.lemmas.Option.{slice_get_past, slice_get_read}
 use Rattle.rb_site.specs.declared.message.Message.TheVariants.{Shadow as ShadowMessage}
-use Rattle.rb_auditor.specs.MessageLists.{message_at_spot}
+use Rattle.rb_auditor.specs.MessageLists.{message_kept_at}
 use Rattle.rb_auditor.proofs.Lists
 use Rattle.rb_auditor.proofs.Spots
 use Rattle.rb_auditor.proofs.message_list.MessageList.has_at.Goals as goal
@@ -22,7 +22,7 @@ returns-in-Some-get c =
     let at = Spots.at_spot c.self.inside.usual.items c.self.inside.others.items c.self.inside.spots.items c.deref.result.now
     c.args.self.now _ _ _ c.args.index c.in-Some.spot.now c.self.view_is c.self.invariant.each c.deref.ensures.value
     c.in-Some.ensures.lookup.3.0 c.in-Some.ensures.lookup.1
-    ∙ ap (message_at_spot c.self.inside.usual.items c.self.inside.others.items) c.in-Usual.is
+    ∙ ap (message_kept_at c.self.inside.usual.items c.self.inside.others.items) c.in-Usual.is
     ∙ ap (option_map (λ u. ShadowMessage u)) (sym c.in-Some-get.ensures) in (
       λ yes. at ∙ ap (λ m. Some m) (c.is_operation.ensures.0 yes),
       λ there. c.is_operation.ensures.1 (Lists.same_item _ _ _ at there),
@@ -33,7 +33,7 @@ returns-in-None c =
     let at = Spots.at_spot c.self.inside.usual.items c.self.inside.others.items c.self.inside.spots.items c.deref.result.now
     c.args.self.now _ _ _ c.args.index c.in-Some.spot.now c.self.view_is c.self.invariant.each c.deref.ensures.value
     c.in-Some.ensures.lookup.3.0 c.in-Some.ensures.lookup.1
-    ∙ ap (message_at_spot c.self.inside.usual.items c.self.inside.others.items) c.in-Usual.is
+    ∙ ap (message_kept_at c.self.inside.usual.items c.self.inside.others.items) c.in-Usual.is
     ∙ ap (option_map (λ u. ShadowMessage u)) (sym c.in-None.ensures) in (
       λ yes. absurd (false≢true yes),
       λ there. cc,
@@ -44,7 +44,7 @@ returns-in-Some-get-2 c =
     let at = Spots.at_spot c.self.inside.usual.items c.self.inside.others.items c.self.inside.spots.items c.deref.result.now
     c.args.self.now _ _ _ c.args.index c.in-Some.spot.now c.self.view_is c.self.invariant.each c.deref.ensures.value
     c.in-Some.ensures.lookup.3.0 c.in-Some.ensures.lookup.1
-    ∙ ap (message_at_spot c.self.inside.usual.items c.self.inside.others.items) c.in-Other.is
+    ∙ ap (message_kept_at c.self.inside.usual.items c.self.inside.others.items) c.in-Other.is
     ∙ ap (λ os. slice_get os c.in-Other.at) (sym c.deref-in-Other.ensures.value)
     ∙ slice_get_read c.deref-in-Other.result.now (length c.deref-in-Other.result.now) c.in-Other.at c.in-Some-get-2.known.now
     refl c.in-Some-get-2.ensures.lookup.3.0 c.in-Some-get-2.ensures.lookup.1 in (
@@ -57,7 +57,7 @@ returns-in-None-get c =
     let at = Spots.at_spot c.self.inside.usual.items c.self.inside.others.items c.self.inside.spots.items c.deref.result.now
     c.args.self.now _ _ _ c.args.index c.in-Some.spot.now c.self.view_is c.self.invariant.each c.deref.ensures.value
     c.in-Some.ensures.lookup.3.0 c.in-Some.ensures.lookup.1
-    ∙ ap (message_at_spot c.self.inside.usual.items c.self.inside.others.items) c.in-Other.is
+    ∙ ap (message_kept_at c.self.inside.usual.items c.self.inside.others.items) c.in-Other.is
     ∙ ap (λ os. slice_get os c.in-Other.at) (sym c.deref-in-Other.ensures.value)
     ∙ slice_get_past c.deref-in-Other.result.now c.in-Other.at c.in-None-get.ensures.lookup.3 in (
       λ yes. absurd (false≢true yes),

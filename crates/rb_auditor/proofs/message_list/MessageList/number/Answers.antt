@@ -6,7 +6,7 @@ use Rattle.rb_shadow.specs.declared.op_name.OpName.{OpName}
 use Rattle.rb_shadow.specs.Operations.{number_of, row_of}
 use Rattle.rb_site.specs.declared.message.Message.{Message}
 use Rattle.rb_site.specs.declared.message.Message.TheVariants.{Shadow as ShadowMessage}
-use Rattle.rb_auditor.specs.MessageLists.{message_at_spot}
+use Rattle.rb_auditor.specs.MessageLists.{message_kept_at}
 use Rattle.rb_auditor.specs.Sent.{row_of_message, slot_of}
 use Rattle.rb_auditor.proofs.Spots
 use Rattle.rb_auditor.proofs.message_list.MessageList.number.Goals as goal
@@ -22,7 +22,7 @@ returns-in_err-at-in-Usual c =
     c.self.inside.spots.items c.deref.result.now
     c.args.self.now _ _ _ c.args.index c.in_ok-at.field-0.now c.self.view_is c.self.invariant.each c.deref.ensures.value
     c.in_ok-at.ensures.lookup.3.0 c.in_ok-at.ensures.lookup.1
-    ∙ ap (message_at_spot c.self.inside.usual.items c.self.inside.others.items) c.in-Usual.is
+    ∙ ap (message_kept_at c.self.inside.usual.items c.self.inside.others.items) c.in-Usual.is
     ∙ ap (option_map (λ u. ShadowMessage u)) (sym c.in_err-at-in-Usual.ensures)))
 
 pub returns-in_ok-at-in-Usual : goal.returns-in_ok-at-in-Usual
@@ -34,7 +34,7 @@ returns-in_ok-at-in-Usual c =
     c.self.inside.spots.items c.deref.result.now
     c.args.self.now _ _ _ c.args.index c.in_ok-at.field-0.now c.self.view_is c.self.invariant.each c.deref.ensures.value
     c.in_ok-at.ensures.lookup.3.0 c.in_ok-at.ensures.lookup.1
-    ∙ ap (message_at_spot c.self.inside.usual.items c.self.inside.others.items) c.in-Usual.is
+    ∙ ap (message_kept_at c.self.inside.usual.items c.self.inside.others.items) c.in-Usual.is
     ∙ ap (option_map (λ u. ShadowMessage u)) (sym c.in_ok-at-in-Usual.ensures)))
 
 pub returns-in_err-message-in-Other : goal.returns-in_err-message-in-Other
@@ -44,7 +44,7 @@ returns-in_err-message-in-Other c =
     c.self.inside.spots.items c.deref.result.now
     c.args.self.now _ _ _ c.args.index c.in_ok-at.field-0.now c.self.view_is c.self.invariant.each c.deref.ensures.value
     c.in_ok-at.ensures.lookup.3.0 c.in_ok-at.ensures.lookup.1
-    ∙ ap (message_at_spot c.self.inside.usual.items c.self.inside.others.items) c.in-Other.is
+    ∙ ap (message_kept_at c.self.inside.usual.items c.self.inside.others.items) c.in-Other.is
     ∙ ap (λ os. slice_get os c.in-Other.at) (sym c.deref-in-Other.ensures.value)
     ∙ slice_get_past c.deref-in-Other.result.now c.in-Other.at c.in_err-message-in-Other.ensures.lookup.3))
 
@@ -56,7 +56,7 @@ returns-in_ok-message-in-Other c =
     c.self.inside.spots.items c.deref.result.now
     c.args.self.now _ _ _ c.args.index c.in_ok-at.field-0.now c.self.view_is c.self.invariant.each c.deref.ensures.value
     c.in_ok-at.ensures.lookup.3.0 c.in_ok-at.ensures.lookup.1
-    ∙ ap (message_at_spot c.self.inside.usual.items c.self.inside.others.items) c.in-Other.is
+    ∙ ap (message_kept_at c.self.inside.usual.items c.self.inside.others.items) c.in-Other.is
     ∙ ap (λ os. slice_get os c.in-Other.at) (sym c.deref-in-Other.ensures.value)
     ∙ slice_get_read c.deref-in-Other.result.now (length c.deref-in-Other.result.now) c.in-Other.at
     c.in_ok-message-in-Other.message.now refl c.in_ok-message-in-Other.ensures.lookup.3.0 c.in_ok-message-in-Other.ensures.lookup.1))
