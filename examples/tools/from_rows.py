@@ -256,7 +256,7 @@ def made():
     says = "The worked rows: each script's name, its lines, and its replies."
     yield os.path.join(TABLES, "row_texts.rt"), table(says, "ROWS", scripts)
     runs = ["\n".join([name, *lines]) for name, lines in forged().items()]
-    says = "Messages that no site sent: a run's name, its configuration, and what site 1 records."
+    says = "Messages that no site sent: a name, a configuration, and what site 1 records."
     yield os.path.join(TABLES, "forged_texts.rt"), table(says, "RUNS", runs)
     yield worked, with_runs(worked, worked_runs)
     yield sent, with_runs(sent, forged_runs)

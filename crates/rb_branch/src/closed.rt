@@ -1,9 +1,11 @@
 //! The closed sites of a branch, and the seats that are given back to them.
 //!
 //! Histories are gathered with a thread for each site: one after another takes 3 of 56 ms more at eight sites.
-ghost use Rattle.std.specs.Prelude.{◌≡◌, ◌≢◌, ◌+◌, ◌^◌, ◌<◌, ◌≤◌, ℕ, All, IfOk, IfErr, OnOk, IsTrue, Err, Result, length, slice_index_or};
+ghost use Rattle.std.specs.Prelude.{◌≡◌, ◌≢◌, ◌+◌, ◌^◌, ◌<◌, ◌≤◌, ℕ, All, IfOk, IfErr};
+ghost use Rattle.std.specs.Prelude.{OnOk, IsTrue, Err, Result, length, slice_index_or};
 ghost use Rattle.std.specs.Prelude.{vec_len};
-ghost use Rattle.rb_branch.specs.Gathered.{AllGathered, Explains, IsClosedReport, IsFirst, IsGathered, LooksSo, entries_in};
+ghost use Rattle.rb_branch.specs.Gathered.{AllGathered, Explains, IsClosedReport, IsFirst};
+ghost use Rattle.rb_branch.specs.Gathered.{IsGathered, LooksSo, entries_in};
 ghost use Rattle.rb_branch.specs.declared.gather_fault.GatherFault.{GatherFault as FaultOf};
 ghost use Rattle.rb_branch.specs.Gathered.{receipts_at, receipts_in};
 ghost use Rattle.rb_branch.specs.declared.gather_fault.GatherFault.TheVariants.{Missing, Mixed};

@@ -7,8 +7,8 @@ use rb_site::Event;
 use std::sync::ledger::Ledger;
 use std::sync::{Mutex, Wait};
 
-/// Receives what is kept from this index on. Then applies what is ready or, where nothing is, takes the next message that
-/// has come: the index to receive from next, which after an application is that of all. `None` where nothing has come.
+/// Receives what is kept from this index on. Then applies what is ready or, if nothing is, takes the next message that
+/// has come: the index to receive from next, which after an application is that of all. `None` if nothing has come.
 pub(crate) fn serve_step<E: Entries, R: Ledger, W: Wait>(
     rt: &W,
     desk: &mut Desk<E>,

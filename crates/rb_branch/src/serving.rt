@@ -8,8 +8,8 @@ use crate::{Branch, CallFault, Entries, Gate, Inlet, Seat};
 use std::sync::Wait;
 use std::sync::ledger::Ledger;
 
-/// The most steps for which a server keeps its site's lock. Each receives all that the inlet keeps, which is the message
-/// that was taken last and those that found the inbox full, and then applies one operation or takes one message.
+/// The most steps for which a server keeps its site's lock. Each receives all that the inlet keeps, which is the
+/// message that was taken last and those that found the inbox full, and then applies an operation or takes a message.
 const MOST_STEPS: u32 = 64;
 
 impl<E: Entries, R: Ledger, G: Gate + Drop> Branch<E, R, G> {
@@ -74,8 +74,8 @@ impl<E: Entries, R: Ledger, G: Gate + Drop> Branch<E, R, G> {
         unreachable!()
     }
 
-    /// Receives what is kept from this index on and applies what is ready. Then waits for the next message: the index to
-    /// receive from next. `None` once the link is closed.
+    /// Receives what is kept from this index on and applies what is ready. Then waits for the next message: the index
+    /// to receive from next. `None` once the link is closed.
     fn serve_once<W: Wait>(
         &self,
         rt: &W,
@@ -84,7 +84,8 @@ impl<E: Entries, R: Ledger, G: Gate + Drop> Branch<E, R, G> {
         first: usize,
     ) -> Result<Option<usize>, CallFault>
         ensures served { (n : ℕ) × HasServed seat.old seat.new inlet.old inlet.new n }
-        ensures some { IfOk result (λ o. IfSome o (λ next. RefusesOn first inlet.old seat.old next inlet.new seat.new)) }
+        ensures some { IfOk result
+            (λ o. IfSome o (λ next. RefusesOn first inlet.old seat.old next inlet.new seat.new)) }
         ensures none { IfOk result
             (λ o. IfNone o (RefusesOn first inlet.old seat.old (length inlet.new) inlet.new seat.new)) }
     {
@@ -115,7 +116,8 @@ impl<E: Entries, R: Ledger, G: Gate + Drop> Branch<E, R, G> {
     ) -> Result<Option<usize>, CallFault>
         requires { site < E.settings.sites }
         ensures served { (n : ℕ) × HasServed seat.old seat.new inlet.old inlet.new n }
-        ensures some { IfOk result (λ o. IfSome o (λ next. RefusesOn first inlet.old seat.old next inlet.new seat.new)) }
+        ensures some { IfOk result
+            (λ o. IfSome o (λ next. RefusesOn first inlet.old seat.old next inlet.new seat.new)) }
         ensures none { IfOk result
             (λ o. IfNone o (RefusesOn first inlet.old seat.old (length inlet.new) inlet.new seat.new)) }
     {

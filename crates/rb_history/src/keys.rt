@@ -1,5 +1,5 @@
-//! The words of the formats, each once, but `sends` and `then`, which rb_node writes: the keys of objects, and the words
-//! that are values. A kind's word is `Label::word`.
+//! The words of the formats, each once, but `sends` and `then`, which rb_node writes: the keys of objects, and the
+//! words that are values. A kind's word is `Label::word`.
 //!
 //! Each call is one literal, which is compared or put by a few steps, as text of a known length.
 

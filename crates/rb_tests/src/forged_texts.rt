@@ -1,4 +1,4 @@
-//! Made by examples/tools/from_rows.py. Messages that no site sent: a run's name, its configuration, and what site 1 records.
+//! Made by examples/tools/from_rows.py. Messages that no site sent: a name, a configuration, and what site 1 records.
 
 pub const RUNS: &str = r#"seen_operation_is_not_applied_again
 {"accounts":[["ann",100]],"sites":2,"version":1}

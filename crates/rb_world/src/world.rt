@@ -176,8 +176,8 @@ impl<E: KeepsEntry, R: KeepsEvent> World<E, R> {
         }
     }
 
-    /// What an event brings to its site arrives there: unless the site's history is full, the site takes a step, and the
-    /// event is listed.
+    /// What an event brings to its site arrives there: unless the site's history is full, the site takes a step, and
+    /// the event is listed.
     #[inline(always)]
     fn arrive(
         &mut self,

@@ -3,7 +3,8 @@ ghost use Rattle.std.specs.Prelude.{◌≡◌, ◌^◌, option_and_then, option_
 ghost use Rattle.serde_json.specs.View.{view};
 ghost use Rattle.rb_site.specs.declared.reply.Reply.TheVariants.{Names, Refused};
 ghost use Rattle.rb_history.specs.Lines.{Gives, GivesAs};
-ghost use Rattle.rb_history.specs.RepliesRead.{answer_of, made_parsed, names_at, refusal_parsed, reply_parsed, short_of};
+ghost use Rattle.rb_history.specs.RepliesRead.{answer_of, made_parsed, names_at, refusal_parsed};
+ghost use Rattle.rb_history.specs.RepliesRead.{reply_parsed, short_of};
 ghost use Rattle.rb_history.specs.RepliesRead.{simple_of};
 ghost use Rattle.rb_history.specs.Values.{number_below};
 

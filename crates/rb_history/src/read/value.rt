@@ -1,5 +1,5 @@
-//! JSON values: numbers, names, kinds, lists of a known length and sizes of objects. `None` means that a value is nothing
-//! of the kind.
+//! JSON values: numbers, names, kinds, lists of a known length and sizes of objects. `None` means that a value is
+//! nothing of the kind.
 ghost use Rattle.std.specs.Prelude.{◌≡◌, ◌^◌, option_map};
 ghost use Rattle.serde_json.specs.Read.{read};
 ghost use Rattle.serde_json.specs.View.{view};
