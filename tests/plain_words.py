@@ -1,7 +1,7 @@
 #!/usr/bin/env python3
 """Counts what costs a reader a second look, and prints two tables: words in docs, in doc comments, in comments at
 definitions, in other comments and in names; and of each page its words and the mean length of its sentences. Below them
-are the lines of docs, scripts in Python and the Makefile that are too long.
+are the lines of docs, crates/*/src, scripts in Python and the Makefile that are too long.
 
 usage: plain_words.py              the tables and the lines
        plain_words.py --check      the same, and ends in status 1 if a number is above the one stored here, a page isn't
@@ -16,8 +16,8 @@ left of these files. What is between backquotes in a page, and its indented line
 A page has words, which have a letter or a digit in them, and sentences: those of its paragraphs, of the items of its
 lists, and of the cells of its tables that have eight words or more. Lower a number here once it is lower there.
 
-A line has at most 120 columns, but for a row of a table and what is indented in a page: commands, and lines that the
-program reads or writes.
+A line has at most 120 columns, but for a row of a table and what is indented in a page (commands, and lines that the
+program reads or writes), and in crates/*/src for such lines and for an attribute, which `rt fmt` puts into one line.
 """
 import fnmatch
 import glob
@@ -30,6 +30,8 @@ WIDTH = 120  # the most columns of a line
 LONGEST_MEAN = 25  # the most words that a page's sentences may have in the mean
 LONG_CELL = 8  # the words from which a cell of a table counts as sentences
 CLOSED = r"[.;:,|)]|$"  # what ends a clause
+# the lines of a page and of a source that may be longer, by their beginnings
+FREE = {".md": r"\||    ", ".rt": r"#\[|\s*(?:r#\")?\{ ?\""}
 
 # each wording as it is printed, its pattern, what to write for it, and the most that docs, doc comments, definitions,
 # other comments and names may have (None: it isn't counted there)
@@ -175,10 +177,10 @@ def lengths():
 def too_long():
     """The lines that are too long, each with its place."""
     places = [f"{folder}/**/*.{kind}" for folder in ("bench", "bindings", "examples", "tests") for kind in ("md", "py")]
-    for path, text in files("Makefile", "*.md", "docs/*.md", "crates/*/*.md", *places):
+    for path, text in files("Makefile", "*.md", "docs/*.md", "crates/*/*.md", "crates/*/src/**/*.rt", *places):
+        free = FREE.get(os.path.splitext(path)[1])
         for number, line in enumerate(text.split("\n"), 1):
-            is_free = path.endswith(".md") and line.startswith(("|", "    "))
-            if len(line) > WIDTH and not is_free:
+            if len(line) > WIDTH and not (free and re.match(free, line)):
                 yield f"{path}:{number}: {len(line)} columns, and a line has at most {WIDTH}"
 
 
