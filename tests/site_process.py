@@ -1,8 +1,10 @@
 """A site as a process on its journal, for crash.py: each answer is kept, and compared with the journal once the process
-has ended, however it did.
+has ended, however it did. The words that start a site are here as well, for all tests that start one.
 """
+import functools
 import json
 import os
+import re
 import resource
 import select
 import signal
@@ -10,7 +12,6 @@ import subprocess
 import time
 
 PATIENCE = 60  # seconds for one answer
-JOURNAL_FAILED = "rbbank: journal failed\n"
 
 
 class Failed(Exception):
@@ -19,6 +20,29 @@ class Failed(Exception):
 
 def compact(value):
     return json.dumps(value, separators=(",", ":"), sort_keys=True)
+
+
+@functools.lru_cache(None)
+def has_word_for_new(program):
+    """Whether a site has to be asked for a new journal."""
+    return b"--new" in subprocess.run([program, "site", "--help"], capture_output=True).stdout
+
+
+def words_of_start(program, me, journal, resend=None):
+    """The words that start a site on a journal, which may not be there yet."""
+    words = [program, "site", "--me", str(me), "--journal", journal]
+    words += [] if resend is None else ["--resend", str(resend)]
+    return words + (["--new"] if not os.path.exists(journal) and has_word_for_new(program) else [])
+
+
+def is_journal_failed(errors):
+    """Whether this is the text of a journal that failed, which may say why."""
+    return re.fullmatch(r"rbbank: journal failed(: .+: .+)?\n", errors) is not None
+
+
+def without_notes(errors):
+    """What a site said without the note that it cut off what a crash left."""
+    return re.sub(r"rbbank: journal line \d+: \d+ bytes behind it cut off, kept in .+\.cut\n", "", errors)
 
 
 def whole_lines(data):
@@ -80,8 +104,7 @@ class Site:
             if limit is not None:
                 signal.signal(signal.SIGXFSZ, signal.SIG_IGN if ignored else signal.SIG_DFL)
                 resource.setrlimit(resource.RLIMIT_FSIZE, (limit, limit))
-        words = [self.bank.program, "site", "--me", str(self.number), "--journal", self.journal]
-        words += [] if resend is None else ["--resend", str(resend)]
+        words = words_of_start(self.bank.program, self.number, self.journal, resend)
         self.process = subprocess.Popen(words, stdin=subprocess.PIPE, stdout=subprocess.PIPE, stderr=subprocess.PIPE,
                                         bufsize=0, preexec_fn=bounds, restore_signals=not ignored)
         self.limit = limit
@@ -172,10 +195,12 @@ class Site:
         self.process.stdout.close()
         self.process.stderr.close()
         self.process = None
+        errors = without_notes(errors)
         known = [(0, ""), (-signal.SIGKILL, "")]
         if self.limit is not None:
             # It may be killed as it says that its journal failed.
-            known += [(-signal.SIGXFSZ, ""), (3, JOURNAL_FAILED), (-signal.SIGKILL, JOURNAL_FAILED)]
+            errors = "failed" if is_journal_failed(errors) else errors
+            known += [(-signal.SIGXFSZ, ""), (3, "failed"), (-signal.SIGKILL, "failed")]
         if (status, errors) not in known:
             raise Failed(f"site {self.number} ended in {status}: {errors}")
         if self.buffered and status in (0, 3):
