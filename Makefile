@@ -1,4 +1,4 @@
-.PHONY: help demo try build install test toolchain check examples bench bindings refuse wrong-bodies crash broker
+.PHONY: help demo try build install test toolchain check examples bench bindings refuse wrong-bodies crash wires broker
 
 help:
 	@echo 'At once:'
@@ -24,6 +24,7 @@ help:
 	@echo '  make refuse        each allocation of the program and of five tests refused in turn; wants a C compiler, cc'
 	@echo '  make bench         the measurements of bench/README.md, some ten minutes'
 	@echo '  make crash         sites ended at random moments, over and over, and started again; some minutes'
+	@echo '  make wires         sites over pipes, 20,000 deposits each at once, one of them stopped for a while'
 	@echo '  make broker        three sites over the message broker mosquitto, if it is installed'
 
 # The stored run, drawn, each command beside its reply.
@@ -94,6 +95,10 @@ bench: build
 # Sites ended at random moments and started again: three, four and five of them.
 crash: build
 	@for sites in 3 4 5; do tests/crash.py crates/rbbank/out/rbbank --kills 300 --sites $$sites || exit 1; done
+
+# Two and three sites over pipes and examples/tools/wire.py.
+wires: build
+	@tests/wires.py crates/rbbank/out/rbbank
 
 # Three sites over mosquitto.
 broker: build

@@ -1,0 +1,342 @@
+#!/usr/bin/env python3
+"""Runs sites over pipes with examples/tools/wire.py, gives all of them deposits at once, stops one for a while, and
+starts each again with all that it sends: nothing freezes, and in the end all have the same balance.
+
+usage: wires.py [--quiet] [--deposits N] [--stop SECONDS] [--wire PATH] PROGRAM
+
+Two sites, and then three, have N deposits each, 20,000 if it isn't given, which come all at once. The last site is
+stopped by SIGSTOP for a time, 2 seconds if it isn't given, and the others have to answer all of their deposits
+meanwhile. A site that held as many operations as it may refuses more (16), so that some messages are lost; when their
+sender starts again it sends them all again. At the end an audit orders the journals.
+
+Before that, wire.py alone: a command that ends over and over, of its own accord or by SIGKILL, and a reader of the
+replies and a command that take nothing for a while. --wire names another wire.py to be tried.
+"""
+import argparse
+import json
+import os
+import signal
+import subprocess
+import sys
+import tempfile
+import threading
+import time
+
+from site_process import compact, words_of_start
+
+ROOT = os.path.dirname(os.path.dirname(os.path.abspath(__file__)))
+WIRE = os.path.join(ROOT, "examples", "tools", "wire.py")
+PATIENCE = 60  # seconds without anything new, after which all of it counts as frozen
+PIPE_BUF = 4096  # bytes that a pipe takes whole, whoever else writes into it
+DEPOSIT = b'{"deposit":["ann",1]}\n'
+BALANCE = b'{"balance":"ann"}\n'
+
+
+class Failed(Exception):
+    """What isn't as it has to be."""
+
+
+class Clock:
+    """Waits for something to happen, for as long as something goes on."""
+
+    def __init__(self):
+        self.seen, self.since = None, time.monotonic()
+
+    def look(self, seen, what):
+        """Fails if what is seen has been the same for too long."""
+        if seen != self.seen:
+            self.seen, self.since = seen, time.monotonic()
+        if time.monotonic() - self.since > PATIENCE:
+            raise Failed(f"frozen: {what}: {seen}")
+        time.sleep(0.02)
+
+
+class Replies:
+    """The file of a site's replies, and how many there are of each kind."""
+
+    def __init__(self, path):
+        self.path, self.at, self.count, self.balance = path, 0, {}, None
+
+    def read(self):
+        """Counts the whole lines that are new."""
+        if not os.path.exists(self.path):
+            return self.count
+        with open(self.path, "rb") as file:
+            file.seek(self.at)
+            data = file.read()
+        data = data[:data.rfind(b"\n") + 1]
+        self.at += len(data)
+        for line in data.splitlines():
+            reply = json.loads(line)
+            kind = f"refused {reply['refused']}" if "refused" in reply else next(iter(reply))
+            self.count[kind] = self.count.get(kind, 0) + 1
+            self.balance = reply.get("balance", self.balance)
+        return self.count
+
+    def of(self, kind):
+        return self.read().get(kind, 0)
+
+
+class Site:
+    """A site, what brings its lines, and what carries its messages."""
+
+    def __init__(self, bank, number):
+        self.bank, self.number = bank, number
+        self.path = os.path.join(bank.folder, f"to{number}")
+        os.mkfifo(self.path)
+        self.pipe = os.open(self.path, os.O_RDWR)
+        self.journal = os.path.join(bank.folder, f"{number}.journal")
+        self.replies = Replies(os.path.join(bank.folder, f"{number}.replies"))
+        self.parts = []
+
+    def start(self):
+        to = f"grep --line-buffered '' > {self.bank.folder}/to{{}}"
+        wire = [sys.executable, self.bank.wire, "--me", str(self.number), "--sites", str(self.bank.sites), "--to", to]
+        bring = ["sh", "-c", 'echo "$0"; exec cat "$1"', self.bank.config, self.path]
+        brings = subprocess.Popen(bring, stdout=subprocess.PIPE)
+        runs = subprocess.Popen(words_of_start(self.bank.program, self.number, self.journal), stdin=brings.stdout,
+                                stdout=subprocess.PIPE)
+        with open(self.replies.path, "ab") as replies:
+            carries = subprocess.Popen(wire, stdin=runs.stdout, stdout=replies)
+        brings.stdout.close()
+        runs.stdout.close()
+        self.parts = [brings, runs, carries]
+
+    def give(self, line, count):
+        """Writes a line many times, whole lines at once."""
+        at_once = PIPE_BUF // len(line)
+        while count:
+            number = min(count, at_once)
+            os.write(self.pipe, line * number)
+            count -= number
+
+    def signal(self, number):
+        self.parts[1].send_signal(number)
+
+    def end(self, by):
+        """Ends the site, by a signal or at the end of its input, and waits for what carries its messages."""
+        brings, runs, carries = self.parts
+        if by == signal.SIGKILL:
+            runs.kill()
+        brings.kill()
+        brings.wait()
+        status, clock = runs.wait(PATIENCE), Clock()
+        while carries.poll() is None:
+            clock.look(None, f"site {self.number} has ended, and its wire hasn't")
+        if status not in (0, -by) or carries.returncode != 0:
+            raise Failed(f"site {self.number} ended in {status}, its wire in {carries.returncode}")
+
+    def stop(self):
+        for part in self.parts:
+            if part.poll() is None:
+                part.kill()
+                part.wait()
+        os.close(self.pipe)
+
+
+class Bank:
+    """Some sites over pipes."""
+
+    def __init__(self, asked, folder, sites):
+        self.program, self.wire, self.folder, self.sites = os.path.abspath(asked.program), asked.wire, folder, sites
+        self.deposits, self.seconds = asked.deposits, asked.stop
+        self.config = compact({"accounts": [["ann", 0]], "sites": sites, "version": 1})
+        self.all = [Site(self, number) for number in range(sites)]
+
+    def replies(self):
+        """What all sites replied, by its kind: what shows whether anything goes on."""
+        return [dict(site.replies.read()) for site in self.all]
+
+    def wait(self, done, what):
+        clock = Clock()
+        while not done():
+            clock.look(self.replies(), what)
+
+    def deposit(self):
+        """Gives all sites their deposits, and stops the last one until the others have answered theirs."""
+        *others, last = self.all
+        for site in self.all:
+            site.start()
+        givers = [threading.Thread(target=site.give, args=(DEPOSIT, self.deposits), daemon=True) for site in self.all]
+        for giver in givers:
+            giver.start()
+        self.wait(lambda: last.replies.of("kind") > 0, "the first reply")
+        last.signal(signal.SIGSTOP)
+        before, until = last.replies.of("kind"), time.monotonic() + self.seconds
+        try:
+            self.wait(lambda: all(site.replies.of("kind") == self.deposits for site in others)
+                      and time.monotonic() > until, f"site {last.number} is stopped, and the others go on")
+        finally:
+            last.signal(signal.SIGCONT)
+        self.wait(lambda: last.replies.of("kind") == self.deposits, "the stopped site goes on")
+        return before
+
+    def settled(self):
+        """Whether every site has applied each operation of the others that it didn't refuse."""
+        for site in self.all:
+            count = site.replies.read()
+            messages = (self.sites - 1) * self.deposits
+            if count.get("held", 0) + count.get("refused 16", 0) < messages:
+                return False
+        return True
+
+    def again(self):
+        """Starts each site again with all that it sends, until all sites have all. How many rounds that took."""
+        for number in range(1, 9):
+            for site in self.all:
+                seen = [other.replies.of("already") + other.replies.of("held") + other.replies.of("refused 16")
+                        for other in self.all]
+                site.end(signal.SIGKILL)
+                site.start()
+                self.wait(lambda: all(
+                    other.replies.of("already") + other.replies.of("held") + other.replies.of("refused 16")
+                    >= before + self.deposits for before, other in zip(seen, self.all) if other is not site),
+                    f"site {site.number} sends all again")
+            if all(site.replies.of("applied") == (self.sites - 1) * self.deposits for site in self.all):
+                return number
+        raise Failed("what was sent again and again isn't applied everywhere")
+
+    def compare(self):
+        """All sites have the same balance, and an audit orders their journals."""
+        for site in self.all:
+            before = site.replies.of("balance")
+            site.give(BALANCE, 1)
+            self.wait(lambda: site.replies.of("balance") > before, "a balance")
+            if site.replies.balance != self.sites * self.deposits:
+                raise Failed(f"site {site.number} has {site.replies.balance} and not {self.sites * self.deposits}")
+        for site in self.all:
+            site.end(0)
+        text = b""
+        for number, site in enumerate(self.all):
+            with open(site.journal, "rb") as file:
+                text += file.read() if number == 0 else file.read().partition(b"\n")[2]
+        run = subprocess.run([self.program, "audit"], input=text, capture_output=True)
+        if run.returncode != 0:
+            raise Failed(f"the audit says {run.stdout[:200]} {run.stderr[:200]}")
+        return text.count(b"\n") - 1
+
+
+def run_bank(asked, sites):
+    """A bank of these sites, from the first deposit to the audit. What it did."""
+    with tempfile.TemporaryDirectory(prefix="wires-") as folder:
+        bank, begun = Bank(asked, folder, sites), time.monotonic()
+        try:
+            before = bank.deposit()
+            bank.wait(bank.settled, "the messages arrive")
+            refused = sum(site.replies.of("refused 16") for site in bank.all)
+            rounds = bank.again()
+            entries = bank.compare()
+        finally:
+            for site in bank.all:
+                site.stop()
+    return (f"{sites} sites: {sites * asked.deposits:,} deposits at once; site {sites - 1} was stopped for "
+            f"{asked.stop:g} s or more after {before:,} of its own, and the others went on.\n"
+            f"  {refused:,} messages were refused by a full inbox. Restarts of each, with all sends: {rounds}.\n"
+            f"  The same balance everywhere; an audit orders {entries:,} entries; {time.monotonic() - begun:.1f} s")
+
+
+class Alone:
+    """wire.py alone, from a site's lines to one command, each with a message and a reply."""
+
+    def __init__(self, asked, folder, count):
+        self.wire, self.out = asked.wire, os.path.join(folder, "out")
+        self.messages = [b'{"shadow":{"name":"B0.%d"}}\n' % number for number in range(count)]
+        self.replies = [b'{"name":"B0.%d"}\n' % number for number in range(count)]
+        lines = zip(self.replies, self.messages)
+        self.text = b"".join(b'{"reply":%s,"sends":[%s],"then":[]}\n' % (one[:-1], two[:-1]) for one, two in lines)
+
+    def start(self, command, *more):
+        words = [sys.executable, self.wire, "--me", "0", "--sites", "2", *more]
+        words += ["--to", command.replace("OUT", self.out)]
+        return subprocess.Popen(words, stdin=subprocess.PIPE, stdout=subprocess.PIPE, stderr=subprocess.DEVNULL)
+
+    def delivered(self):
+        if not os.path.exists(self.out):
+            return []
+        with open(self.out, "rb") as file:
+            return file.read().splitlines(keepends=True)
+
+    def run(self, command, *more):
+        """Gives it all. What was delivered, and whether the replies are there and the status is 0."""
+        run = self.start(command, *more)
+        try:
+            replies, _ = run.communicate(self.text, timeout=PATIENCE)
+        except subprocess.TimeoutExpired:
+            run.kill()
+            raise Failed(f"frozen: {command}") from None
+        return self.delivered(), replies.splitlines(keepends=True) == self.replies and run.returncode == 0
+
+
+def ended_command(asked, folder):
+    """A command that ends after 100 lines, over and over: each line arrives once, in order."""
+    alone = Alone(asked, folder, 1000)
+    return alone.run("sed -u 100q >> OUT") == (alone.messages, True)
+
+
+def killed_command(asked, folder):
+    """A command that is killed after 100 lines and had read more: each line that it didn't confirm comes again."""
+    alone = Alone(asked, folder, 350)
+    again = "[ -e OUT.2 ] && exec tee -a OUT; [ -e OUT.1 ] && : > OUT.2; : > OUT.1"
+    delivered, fine = alone.run(again + '; head -n 100 >> OUT; yes "" | head -n 100; kill -9 $$', "--confirm")
+    return fine and list(dict.fromkeys(delivered)) == alone.messages
+
+
+def slow_readers(asked, folder):
+    """Neither a command nor a reader of the replies that takes nothing keeps the site waiting, or the other."""
+    alone = Alone(asked, folder, 30_000)
+    run = alone.start(f"while [ -d {folder} ] && [ ! -e {folder}/go ]; do sleep 0.1; done; cat > OUT")
+    giver = threading.Thread(target=lambda: (run.stdin.write(alone.text), run.stdin.close()), daemon=True)
+    giver.start()
+    try:
+        giver.join(10)
+        given = not giver.is_alive()
+        with open(os.path.join(folder, "go"), "wb"):
+            pass
+        clock = Clock()
+        while given and len(alone.delivered()) < len(alone.messages):
+            clock.look(len(alone.delivered()), "a command that is slow")
+        return given and alone.delivered() == alone.messages and (
+            run.stdout.read().splitlines(keepends=True) == alone.replies) and run.wait(PATIENCE) == 0
+    finally:
+        run.kill()
+        run.wait()
+
+
+ALONE = [ended_command, killed_command, slow_readers]
+
+
+def options():
+    reader = argparse.ArgumentParser(description=__doc__, formatter_class=argparse.RawDescriptionHelpFormatter)
+    reader.add_argument("program", metavar="PROGRAM", help="a built rbbank")
+    reader.add_argument("--deposits", metavar="N", type=int, default=20_000, help="of each site, 20,000")
+    reader.add_argument("--stop", metavar="SECONDS", type=float, default=2, help="how long a site is stopped, 2")
+    reader.add_argument("--wire", metavar="PATH", default=WIRE, help="another wire.py")
+    reader.add_argument("--quiet", action="store_true", help="print only what failed")
+    asked = reader.parse_args()
+    if not os.access(asked.program, os.X_OK) or os.path.isdir(asked.program):
+        reader.error(f"{asked.program}: no program")
+    return asked
+
+
+def main():
+    asked, fine = options(), True
+    for part in ALONE:
+        with tempfile.TemporaryDirectory(prefix="wires-") as folder:
+            same = part(asked, folder)
+        fine = fine and same
+        if not same or not asked.quiet:
+            print("same     " if same else "DIFFERENT", part.__doc__.rstrip("."), flush=True)
+    for sites in (2, 3):
+        try:
+            happened = run_bank(asked, sites)
+        except Failed as why:
+            print(f"wires: {sites} sites: {why}", flush=True)
+            fine = False
+        else:
+            if not asked.quiet:
+                print(happened, flush=True)
+    return 0 if fine else 1
+
+
+if __name__ == "__main__":
+    sys.exit(main())
