@@ -1,4 +1,5 @@
-.PHONY: help demo try build install test toolchain check examples bench bindings refuse wrong-bodies crash wires broker
+.PHONY: help demo try build install test toolchain check examples bench bindings refuse wrong-bodies crash disk wires \
+	broker
 
 help:
 	@echo 'At once:'
@@ -24,6 +25,7 @@ help:
 	@echo '  make refuse        each allocation of the program and of five tests refused in turn; wants a C compiler, cc'
 	@echo '  make bench         the measurements of bench/README.md, some ten minutes'
 	@echo '  make crash         sites ended at random moments, over and over, and started again; some minutes'
+	@echo '  make disk          each call of a site on its file, its input and its output at fault in turn; wants cc'
 	@echo '  make wires         sites over pipes, 20,000 deposits each at once, one of them stopped for a while'
 	@echo '  make broker        three sites over the message broker mosquitto, if it is installed'
 
@@ -95,6 +97,10 @@ bench: build
 # Sites ended at random moments and started again: three, four and five of them.
 crash: build
 	@for sites in 3 4 5; do tests/crash.py crates/rbbank/out/rbbank --kills 300 --sites $$sites || exit 1; done
+
+# Each call of a site on its file, its input and its output at fault in turn (docs/CHANGING.md, "Beside the gate").
+disk: build
+	@tests/disk.py crates/rbbank/out/rbbank
 
 # Two and three sites over pipes and examples/tools/wire.py.
 wires: build
