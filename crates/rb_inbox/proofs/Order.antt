@@ -311,6 +311,13 @@ left_cases (w ∷ us) zero d u h l (inl e) = inl e
 left_cases (w ∷ us) zero d u h l (inr a) = inr (before_all-among w.name us u h.0 a)
 left_cases (w ∷ us) (suc k) d u h l a = left_cases us k d u h.1 (omega arith) a
 
+-- what is left after a place has a later name
+pub later_there : (us : List Shadow) (k : ℕ) (d u : Shadow) → IsInOrder us → k < length us → Among u (drop (suc k) us) →
+    comes_before (get_or us k d).name u.name ≡ true
+later_there [] k d u h l a = absurd (omega arith)
+later_there (w ∷ us) zero d u h l a = before_all-among w.name us u h.0 a
+later_there (w ∷ us) (suc k) d u h l a = later_there us k d u h.1 (omega arith) a
+
 -- what is among the rest, and isn't the first of it, is among what is left after that
 pub Among-more : (us : List Shadow) (i : ℕ) (d u : Shadow) → i < length us → Among u (drop i us) → (u ≡ get_or us i d → ⊥) →
     Among u (drop (i + 1) us)

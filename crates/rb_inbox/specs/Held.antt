@@ -1,7 +1,7 @@
 -- The list of held operations: one for each name, in the order of the names.
 use Rattle.std.specs.Prelude.{◌≡◌, ◌≢◌, ℕ, suc, ◌+◌, ◌≤◌, Bool, true, false, if◌then◌else◌, not, ◌&&◌, ◌||◌, nat_lt, ◌==◌, List, [], ◌∷◌}
-use Rattle.std.specs.Prelude.{length, filter, Some, None}
-use Rattle.rb_shadow.specs.Operations.{entry_of, find_in, names_of_clock, number_of, past, row_of, same_name, IsWithin}
+use Rattle.std.specs.Prelude.{length, filter, Some, None, ◌⊎◌}
+use Rattle.rb_shadow.specs.Operations.{Among, entry_of, find_in, names_of_clock, number_of, past, row_of, same_name, IsWithin}
 use Rattle.rb_shadow.specs.Sound.{is_foreign}
 use Rattle.rb_shadow.specs.declared.deps.Deps.{Deps}
 use Rattle.rb_shadow.specs.declared.op_name.OpName.{OpName}
@@ -57,6 +57,28 @@ pub record IsNumbered (v : Shadow) : Type 0 where
 -- the operation can be applied at the clock: all of its past is counted there
 abbrev pub IsReady : Deps → Shadow → Type 0
 IsReady c v = IsWithin (past v) (names_of_clock c)
+
+-- of one home, an operation of the first name is applied before one of the second: a blue one before a red one, and of
+-- one colour the one of the lesser number
+abbrev pub is_sooner : OpName → OpName → Bool
+is_sooner (Blue i m) (Blue j n) = nat_lt m n
+is_sooner (Blue i m) (Red n) = true
+is_sooner (Red m) (Blue j n) = false
+is_sooner (Red m) (Red n) = nat_lt m n
+
+-- of two ready operations the first is applied before the second: they go by home, and of one home as their names say
+abbrev pub is_applied_before : Shadow → Shadow → Bool
+is_applied_before u v = nat_lt u.home v.home || ((u.home == v.home) && is_sooner u.name v.name)
+
+-- of the operations that are ready at the clock this is the first: it is applied before each other one
+pub record IsFirstOf (us : List Shadow) (c : Deps) (v : Shadow) : Type 0 where
+  pub among : Among v us
+  pub ready : IsReady c v
+  pub first : (u : Shadow) → Among u us → IsReady c u → (u ≡ v) ⊎ (is_applied_before v u ≡ true)
+
+-- the operation of the name is the first of those that are ready
+abbrev pub IsFirstReady : List Shadow → Deps → OpName → Type 0
+IsFirstReady us c x = (v : Shadow) × (find_in us x ≡ Some v) × IsFirstOf us c v
 
 -- an operation can be put: nothing is held under its name, and the inbox isn't full, or it is ready
 pub record IsWelcome (b : Holding) (c : Deps) (v : Shadow) : Type 0 where

@@ -9,9 +9,10 @@ ghost use Rattle.std.specs.Bool.{OnFalse, OnTrue};
 ghost use Rattle.std.specs.Option.{option_copied};
 ghost use Rattle.rb_shadow.specs.Operations.{Among, find_in, is_blue_of, is_red, row_of};
 ghost use Rattle.rb_shadow.specs.declared.shadow.Shadow.{Shadow};
-ghost use Rattle.rb_inbox.specs.Held.{HoldsReady, HoldsWaiting, IsInConflict, IsInOrder, IsNumbered, IsReady};
+ghost use Rattle.rb_inbox.specs.Held.{HoldsReady, HoldsWaiting, IsFirstOf, IsFirstReady, IsInConflict, IsInOrder};
+ghost use Rattle.rb_inbox.specs.Held.{IsNumbered, IsReady};
 ghost use Rattle.rb_inbox.specs.Held.{IsTooMany, IsWelcome, held_before, index_in_row, with_held, without};
-ghost use Rattle.rb_inbox.specs.Rows.{IsHeldRow};
+ghost use Rattle.rb_inbox.specs.Rows.{IsFirstBlue, IsHeldRow, NoBlue, earlier_home};
 
 use crate::PutAnswer;
 use crate::row::Row;
@@ -140,18 +141,35 @@ impl Inbox {
         self.len() < self.limit as usize || clock.at_least(&shadow.deps)
     }
 
-    /// The name of a held shadow that is ready at the clock, if there is one.
+    /// The name of the held shadow that is applied first of those that are ready at the clock, if there is one: they go
+    /// by home, of one home the blue ones before the red ones, and of one colour by number.
     pub fn ready(&self, clock: &Clock) -> Option<OpName>
         ensures some { IfSome result (HoldsReady self.now clock.now) }
+        ensures first { IfSome result (IsFirstReady self.now.held clock.now) }
         ensures none { IfNone result ((shadow : Shadow) → Among shadow self.now.held → ¬ IsReady clock.now shadow) }
     {
         if self.len() == 0 {
             return None;
         }
-        for row in &self.rows {
-            let name = ready_in(row.as_slice(), clock);
-            if name.is_some() {
-                return name;
+        match first_ready(self.row(0), clock) {
+            None => self.first_blue(self.rows.len(), clock),
+            Some(red) => match self.first_blue(row_after(red.home), clock) {
+                None => Some(red.name),
+                blue => blue,
+            },
+        }
+    }
+
+    /// The name of the first ready one of the blue shadows whose rows are before the index, if there is one.
+    fn first_blue(&self, end: usize, clock: &Clock) -> Option<OpName>
+        ensures some { IfSome result (IsFirstBlue self.now.held clock.now end) }
+        ensures none { IfNone result (NoBlue self.now.held clock.now end) }
+    {
+        // For a fact alone: each row is one of its own names.
+        let _rows = &self.rows;
+        for index in 1..end {
+            if let Some(blue) = first_ready(self.row(index), clock) {
+                return Some(blue.name);
             }
         }
         None
@@ -271,23 +289,41 @@ fn add_rows(rows: &mut Vec<Row>, index: usize, alloc: Global) -> Result<(), Allo
     Ok(())
 }
 
-/// The name of a shadow of the row that is ready, if there is one. It is looked for up to the number
-/// after the clock's entry: none behind that is ready.
-fn ready_in(row: &[Shadow], clock: &Clock) -> Option<OpName>
+/// The index behind that of the row of a site's blue shadows.
+fn row_after(site: u8) -> usize
+    ensures { result ≡ site + 2 }
+{
+    usize::from(site) + 2
+}
+
+/// The shadow of the row that is applied first of those that are ready, if there is one. It is looked for up to the
+/// number after the clock's entry: none behind that is ready. In the red row a later one may be of an earlier home.
+fn first_ready<'a>(row: &'a [Shadow], clock: &Clock) -> Option<&'a Shadow>
     requires { (r : ℕ) × IsHeldRow r row.now }
-    ensures some { IfSome result (λ name. (u : Shadow) × Among u row.now × (u.name ≡ name) × IsReady clock.now u) }
-    ensures none { IfNone result ((u : Shadow) → Among u row.now → ¬ IsReady clock.now u) }
+    ensures some { IfSome (option_copied result) (IsFirstOf row.now clock.now) }
+    ensures none { IfNone (option_copied result) ((u : Shadow) → Among u row.now → ¬ IsReady clock.now u) }
 {
     let entries = clock.entries();
+    let mut first = None;
     for shadow in row {
         if shadow.name.number() > entries.entry(shadow.name).saturating_add(1) {
-            return None;
+            return first;
         }
         if clock.at_least(&shadow.deps) {
-            return Some(shadow.name);
+            first = earlier_home(first, shadow);
         }
     }
-    None
+    first
+}
+
+/// The one of two shadows that is of the lesser home; the first, if they are of one.
+fn earlier_home<'a>(first: Option<&'a Shadow>, shadow: &'a Shadow) -> Option<&'a Shadow>
+    ensures { option_copied result ≡ Some (earlier_home (option_copied first.entry) shadow.now) }
+{
+    match first {
+        Some(found) if found.home <= shadow.home => first,
+        _ => Some(shadow),
+    }
 }
 
 /// The index, in its row, of the shadow of the name, or the one at which it would be put. Both ends are looked at

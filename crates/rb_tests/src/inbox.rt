@@ -33,15 +33,15 @@ fn deposit(site: u8, n: u32) -> Shadow
     }
 }
 
-/// A withdrawal of 5 cents at site 0, the n-th red operation.
-fn withdrawal(n: u32) -> Shadow
+/// A withdrawal of 5 cents at a site, the n-th red operation.
+fn withdrawal(site: u8, n: u32) -> Shadow
     requires { 1 ≤ n }
     ensures numbered { IsNumbered result }
     ensures entry { HasEntry result.name }
 {
     Shadow {
         name: OpName::Red { n },
-        home: 0,
+        home: site,
         deps: Deps {
             blue: [0; MOST_SITES],
             red: n - 1,
@@ -64,7 +64,7 @@ fn holds_forty(rt: &impl Abort, alloc: Global) -> Inbox {
     let mut inbox = Inbox::open(alloc, 120);
     for n in (1..=40).rev() {
         put_new(rt, &mut inbox, deposit(3, n));
-        put_new(rt, &mut inbox, withdrawal(n));
+        put_new(rt, &mut inbox, withdrawal(0, n));
         put_new(rt, &mut inbox, deposit(0, n));
     }
     inbox
@@ -78,7 +78,7 @@ fn rows(alloc: Global) -> Result<(Vec<Shadow>, Vec<Shadow>, Vec<Shadow>), AllocE
     for n in 1..=40 {
         firsts.push(deposit(0, n))?;
         others.push(deposit(3, n))?;
-        reds.push(withdrawal(n))?;
+        reds.push(withdrawal(0, n))?;
     }
     Ok((firsts, others, reds))
 }
@@ -173,8 +173,8 @@ fn holds_rows(rt: &impl Abort, alloc: Global, inbox: &Inbox) -> Result<(), Alloc
 fn all_are_taken(rt: &impl Abort, inbox: &mut Inbox) {
     let mut clock = Clock::zero();
     for n in 1..=40 {
-        equal(rt, inbox.ready(&clock), Some(OpName::Red { n }));
-        take_next(rt, inbox, &mut clock, withdrawal(n));
+        equal(rt, inbox.ready(&clock), Some(OpName::Blue { site: 0, n }));
+        take_next(rt, inbox, &mut clock, withdrawal(0, n));
         take_next(rt, inbox, &mut clock, deposit(0, n));
         take_next(rt, inbox, &mut clock, deposit(3, n));
     }
@@ -188,4 +188,31 @@ fn backwards_and_in_order(rt: HostRuntime) -> Result<(), Fail> {
     equal(&rt, (inbox.blue_row(1).len(), inbox.len()), (0, 120));
     all_are_taken(&rt, &mut inbox);
     Ok(())
+}
+
+/// The shadow is the first of those that are ready, and is taken.
+fn take_first(rt: &impl Abort, inbox: &mut Inbox, clock: &mut Clock, shadow: Shadow)
+    requires { HasEntry shadow.name }
+{
+    equal(rt, inbox.ready(clock), Some(shadow.name));
+    take_next(rt, inbox, clock, shadow);
+}
+
+/// Operations that are ready at once go by home, and of one home the blue one goes first. One that an application makes
+/// ready has its turn by its own home.
+#[test]
+fn ready_by_home_and_colour(rt: HostRuntime) {
+    let mut inbox = Inbox::open(rt.alloc(), 8);
+    put_new(&rt, &mut inbox, withdrawal(0, 2));
+    put_new(&rt, &mut inbox, withdrawal(1, 1));
+    put_new(&rt, &mut inbox, deposit(2, 1));
+    put_new(&rt, &mut inbox, deposit(1, 1));
+    put_new(&rt, &mut inbox, deposit(0, 1));
+    let mut clock = Clock::zero();
+    take_first(&rt, &mut inbox, &mut clock, deposit(0, 1));
+    take_first(&rt, &mut inbox, &mut clock, deposit(1, 1));
+    take_first(&rt, &mut inbox, &mut clock, withdrawal(1, 1));
+    take_first(&rt, &mut inbox, &mut clock, withdrawal(0, 2));
+    take_first(&rt, &mut inbox, &mut clock, deposit(2, 1));
+    equal(&rt, inbox.ready(&clock), None);
 }
