@@ -3,10 +3,12 @@
 
 usage: sites.py [--quiet] PROGRAM      (--quiet prints only what is different)
 
-A journal cut at each byte, and with any bytes behind its space; a restart after each line; lines one at a time and all
-at once; another bank's journal; a folder, a device and a full disk as journal; a second process; output that can't be
-written; wrong words; where strace is there, the order of writes and syncs; the pipes that docs/RUNNING.md shows.
+Which of the operations that are ready at once is applied first; a journal cut at each byte, and with any bytes behind
+its space; a restart after each line; lines one at a time and all at once; another bank's journal; a folder, a device
+and a full disk as journal; a second process; output that can't be written; wrong words; where strace is there, the
+order of writes and syncs; the pipes that docs/RUNNING.md shows.
 """
+import json
 import os
 import random
 import re
@@ -165,6 +167,28 @@ def same_however_read(sites):
     yield "blank lines, and a last line without its end", sites.run(loose) == (out, "", 0, journal)
     config = b' {"version": 1, "sites": 2, "accounts": [["ann", 100], ["bob", 0]]}\n'
     yield "another writing of the configuration", sites.run(config + EVENTS) == (out, "", 0, journal)
+
+
+def operation(name, home, blue, red=0, kind="deposit"):
+    """The event line of an operation of a site, by the clock that it was made at."""
+    deps = [(blue + [0] * 8)[:8], red]
+    made = {"account": "ann", "amount": 1, "deps": deps, "home": home, "kind": kind, "name": name}
+    return json.dumps({"shadow": made}, separators=(",", ":"), sort_keys=True).encode() + b"\n"
+
+
+def ready_at_once(sites):
+    """What one delivery makes ready is applied by home, whatever the order in which it came; what an application makes
+    ready has its turn by its own home too. Site 3 receives the first operation of site 2 behind all others."""
+    bank = b'{"accounts":[["ann",100]],"sites":4,"version":1}\n'
+    held = [operation("B0.1", 0, [0, 0, 1]), operation("R1", 1, [0, 0, 1], kind="withdraw"),
+            operation("R2", 0, [1, 0, 1], 1, "withdraw"), operation("B1.1", 1, [0, 0, 1], 1),
+            operation("B2.2", 2, [0, 0, 1])]
+    wanted = b'"then":[' + b",".join(b'{"applied":"%s"}' % name for name in (
+        b"B2.1", b"B0.1", b"R1", b"R2", b"B1.1", b"B2.2")) + b"]}\n"
+    for turn in range(len(held)):
+        lines = held[turn:] + held[:turn] + [operation("B2.1", 2, [])]
+        out, errors, status, _journal = sites.run(bank + b"".join(lines), me=3)
+        yield f"ready at once, {turn}", (errors, status) == ("", 0) and out.endswith(wanted) and out.count(b"\n") == 6
 
 
 def sent_by(line):
@@ -377,8 +401,8 @@ def of_the_page(sites):
     yield "the pipes of docs/RUNNING.md", run.stdout.decode() == out
 
 
-PARTS = [same_however_read, torn, audited, refused_journals, used_twice, failed, unwritten, lines_at_fault,
-         words_at_fault, many_sites, large_batch, in_order, of_the_page]
+PARTS = [same_however_read, ready_at_once, torn, audited, refused_journals, used_twice, failed, unwritten,
+         lines_at_fault, words_at_fault, many_sites, large_batch, in_order, of_the_page]
 
 
 def results(program):

@@ -23,7 +23,7 @@ use Rattle.rb_history.specs.Adds.{Adds}
 use Rattle.rb_history.proofs.Public.Appended.{both, front_of_front, front_of_sum, front_stays}
 use Rattle.rb_history.proofs.Public.Listed.{rest_text, whole_text}
 use Rattle.rb_history.specs.Entries.{entry_json}
-use Rattle.rb_node.specs.Answers.{AppliesAll, AreReadyInTurn, IsAllApplied, IsReadyName, answer_json, entry_lines, line_of, messages_json}
+use Rattle.rb_node.specs.Answers.{AppliesAll, AreReadyInTurn, IsAllApplied, IsNextName, answer_json, entry_lines, line_of, messages_json}
 use Rattle.rb_node.specs.Steps.{AnswersEvent, Applies, AppliesOne, Steps}
 use Rattle.rb_node.proofs.Recorded.{me-next}
 
@@ -62,7 +62,7 @@ lines_of_both s r me you xs ys a b c e f g h =
 
 -- an operation more
 pub applies_more : (comma : List ℕ) (x : OpName) (old mid new : SeenSite) (a b c k l m : List ℕ)
-    → is_full old.settings (state_of old) ≡ false → IsReadyName (state_of old) x → AppliesOne old mid x comma a b k l
+    → is_full old.settings (state_of old) ≡ false → IsNextName (state_of old) x → AppliesOne old mid x comma a b k l
     → AppliesOn (codes ",") mid new b c l m → AppliesOn comma old new a c k m
 applies_more comma x old mid new a b c k l m free ready one rest =
     let s = old.settings in

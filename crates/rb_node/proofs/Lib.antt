@@ -1,6 +1,7 @@
 mod Applied
 mod Failed
 mod JournalLines
+mod OneAnswer
 mod Ready
 mod Recorded
 mod Replayed

@@ -8,7 +8,7 @@ use Rattle.rb_money.specs.Settings.{Settings}
 use Rattle.rb_shadow.specs.Operations.{clock_of, find_in}
 use Rattle.rb_shadow.specs.declared.op_name.OpName.{OpName}
 use Rattle.rb_shadow.specs.declared.shadow.Shadow.{Shadow}
-use Rattle.rb_inbox.specs.Held.{IsReady}
+use Rattle.rb_inbox.specs.Held.{IsFirstReady, IsReady}
 use Rattle.rb_site.specs.declared.entry.Entry.{Entry}
 use Rattle.rb_site.specs.declared.event.Event.{Event}
 use Rattle.rb_site.specs.declared.event.Event.TheVariants.{Apply, Receive}
@@ -64,10 +64,14 @@ entry_lines s me xs = flat_map (λ x. line_of (entry_json s me x)) xs
 abbrev pub IsReadyName : ModelSite → OpName → Type 0
 IsReadyName t x = (v : Shadow) × (find_in t.held x ≡ Some v) × IsReady (clock_of t.ops) v
 
--- the names are applied one after another: each is ready at its turn, and the history isn't full
+-- it is the first of these: they go by home, of one home the blue ones before the red ones, and of one colour by number
+abbrev pub IsNextName : ModelSite → OpName → Type 0
+IsNextName t x = IsFirstReady t.held (clock_of t.ops) x
+
+-- the names are applied one after another: each is the first that is ready at its turn, and the history isn't full
 abbrev pub AreReadyInTurn : Settings → ModelSite → List OpName → Type 0
 AreReadyInTurn s t [] = Unit {0}
-AreReadyInTurn s t (x ∷ xs) = (is_full s t ≡ false) × IsReadyName t x × AreReadyInTurn s (after_event s t (Apply x)) xs
+AreReadyInTurn s t (x ∷ xs) = (is_full s t ≡ false) × IsNextName t x × AreReadyInTurn s (after_event s t (Apply x)) xs
 
 -- nothing more is applied: the history is full, or nothing that is held is ready
 abbrev pub IsAllApplied : Settings → ModelSite → Type 0

@@ -1,4 +1,4 @@
--- What holds of every answer: its entries' lines are a journal's, and they are replayed.
+-- What holds of every answer: its entries' lines are a journal's, and they are replayed; and there is no other.
 use Rattle.std.specs.Prelude.{◌≡◌, ◌≢◌, ℕ, ◌<◌, List, [], ◌∷◌, All, slice_index}
 use Rattle.serde_json.specs.Written.{compact_text}
 use Rattle.rb_money.specs.Settings.{IsConfigured, Settings}
@@ -36,3 +36,10 @@ AreReplayed old (x ∷ xs) new = (next : SeenNode) × IsReadBack old.settings ol
 abbrev pub AnswersAreReplayed : Type 0
 AnswersAreReplayed = (old new : SeenSite) (line text entries : List ℕ) → IsConfigured old.settings → old.me < old.settings.sites
     → (answer : IsSiteAnswer old new line text entries) → AreReplayed old answer.recorded new
+
+-- ---- one answer
+
+-- a site has one answer to a line: the same text, the same lines of entries, and the same site after it
+abbrev pub AnswersAreOne : Type 0
+AnswersAreOne = (old new other : SeenSite) (line text words entries rows : List ℕ) → IsSiteAnswer old new line text entries
+    → IsSiteAnswer old other line words rows → (text ≡ words) × (entries ≡ rows) × (new ≡ other)

@@ -3,6 +3,7 @@ ghost use Rattle.std.specs.Prelude.{◌≡◌, ◌++◌, codes, List, ℕ, Some,
 ghost use Rattle.std.specs.Prelude.{IfNone, IfSome};
 ghost use Rattle.std.specs.Prelude.{OnErr, OnOk, MatchResult};
 ghost use Rattle.std.specs.Option.{OnSome};
+ghost use Rattle.std.specs.Str.{is_utf8};
 ghost use Rattle.serde_json.specs.View.{items_of};
 ghost use Rattle.serde_json.specs.Written.{compact_text, items_text};
 ghost use Rattle.rb_site.specs.declared.event.Event.TheVariants.{Receive as Receipt};
@@ -11,7 +12,7 @@ ghost use Rattle.rb_site.specs.Seen.{state_of};
 ghost use Rattle.rb_history.specs.Adds.{Adds};
 ghost use Rattle.rb_history.specs.Replies.{reply_json};
 ghost use Rattle.rb_history.specs.Entries.{event_json};
-ghost use Rattle.rb_node.specs.Answers.{IsAllApplied, IsSiteAnswer, IsReadyName, event_on, messages_json};
+ghost use Rattle.rb_node.specs.Answers.{IsAllApplied, IsNextName, IsSiteAnswer, event_on, messages_json};
 ghost use Rattle.rb_node.specs.Faults.{IsLineFault};
 ghost use Rattle.rb_node.specs.Steps.{AnswersEvent, Applies, AppliesOne};
 
@@ -84,10 +85,11 @@ impl Node {
     /// The event on a line.
     #[tactic(auto, unfolding(crate::specs::Answers::event_on))]
     fn event_of(&self, line: &[u8]) -> Result<Event, NodeFault>
-        ensures { MatchResult result
+        ensures read { MatchResult result
             (λ event. event_on self.now.site.settings line.now ≡ Some event)
             (λ why. (why ≡ NodeFault.BadLine → event_on self.now.site.settings line.now ≡ None)
             × IsLineFault why) }
+        ensures not_text { is_utf8 line.now ≡ false → result ≡ Err NodeFault.BadLine }
     {
         let Some(text) = text_on(line) else {
             return Err(NodeFault::BadLine);
@@ -134,10 +136,10 @@ impl Node {
         append_later_reply(text, comma, &reply)
     }
 
-    /// The name of an operation that is to be applied next: it is held and its past is applied. `None` if there is
-    /// none, or the history is full.
+    /// The name of the operation that is to be applied next: the first, by home, colour and number, of those that are
+    /// held and whose past is applied. `None` if there is none, or the history is full.
     fn ready(&self) -> Option<OpName>
-        ensures some { IfSome result (IsReadyName (state_of self.now.site)) }
+        ensures some { IfSome result (IsNextName (state_of self.now.site)) }
         ensures free { OnSome result (is_full self.now.site.settings (state_of self.now.site) ≡ false) }
         ensures none { IfNone result (IsAllApplied self.now.site.settings (state_of self.now.site)) }
     {
@@ -169,10 +171,13 @@ impl Node {
     /// Answers the line of an event: its answer, `{"reply":R,"sends":[M..],"then":[A..]}`, is added to the answers with
     /// a line feed, and the lines of the entries that it recorded to the entries, each with a line feed. R is the
     /// reply, each M a message that was sent, as the event's line of the sites that it goes to, and each A the reply of
-    /// an application that followed: whatever is held and ready is applied, until nothing is or the history is full.
+    /// an application that followed: whatever is held and ready is applied, by home, of one home the blue ones before the
+    /// red ones, and of one colour by number, until nothing is ready or the history is full.
     ///
-    /// Errors: `BadLine` if the line is no event, and nothing has changed then; `OutOfMemory`, after which nothing
-    /// more may be asked of the site. Each leaves answers and entries as they were.
+    /// Errors: `BadLine` if the line is no event, and nothing has changed then; a line that isn't UTF-8 takes no memory,
+    /// and is always that. `OutOfMemory`, after which nothing more may be asked of the site: it may come with any other
+    /// line, as the JSON reader may want memory for it, and what is written may. Each leaves answers and entries as they
+    /// were.
     pub fn answer(
         &mut self,
         line: &[u8],
@@ -184,6 +189,7 @@ impl Node {
             × (answers.new.items ≡ answers.old.items ++ text) × (entries.new.items ≡ entries.old.items ++ lines)) }
         ensures bad { result ≡ Err NodeFault.BadLine
             → (event_on self.old.site.settings line.now ≡ None) × (self.new ≡ self.old) }
+        ensures not_text { is_utf8 line.now ≡ false → result ≡ Err NodeFault.BadLine }
         ensures err { OnErr result ((answers.new.items ≡ answers.old.items) × (entries.new.items ≡ entries.old.items)) }
         ensures refusals { IfErr result IsLineFault }
     {

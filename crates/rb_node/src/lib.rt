@@ -9,7 +9,8 @@ mod node;
 mod replay;
 mod step;
 
-ghost use Rattle.rb_node.specs.Laws.{AnswersAreReplayed, ConfigsAreJournalLines, EntriesAreJournalLines};
+ghost use Rattle.rb_node.specs.Laws.{AnswersAreOne, AnswersAreReplayed, ConfigsAreJournalLines};
+ghost use Rattle.rb_node.specs.Laws.{EntriesAreJournalLines};
 
 pub use fault::NodeFault;
 pub use node::Node;
@@ -33,3 +34,9 @@ pub fn replays_back()
     rb_history::read_events_fit();
     rb_history::replies_fit();
 }
+
+/// A site has one answer to the line of an event: the site before it and the line determine the text, the lines of the
+/// entries and the site after it.
+pub fn answers_are_one()
+    ensures { AnswersAreOne }
+{}

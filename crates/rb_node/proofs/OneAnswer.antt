@@ -1,0 +1,67 @@
+-- A site has one answer to a line.
+use Rattle.std.proofs.Common.{◌≡◌, ℕ, false, List, [], ◌∷◌, inl, inr, refl, sym, ap, subst, ◌∙◌}
+use Rattle.std.specs.Prelude.{map, Some}
+use Rattle.std.proofs.lemmas.List.{append_cancel_left}
+use Rattle.rb_money.specs.Settings.{Settings}
+use Rattle.rb_shadow.specs.Operations.{clock_of}
+use Rattle.rb_shadow.specs.declared.op_name.OpName.{OpName}
+use Rattle.rb_inbox.proofs.Public.Holding.{first_is_one}
+use Rattle.rb_site.specs.declared.event.Event.{Event}
+use Rattle.rb_site.specs.declared.event.Event.TheVariants.{Apply}
+use Rattle.rb_site.specs.Events.{ModelSite, after_event, after_events, is_full, replies_to_events, reply_to, sent_at}
+use Rattle.rb_site.specs.Seen.{SeenSite, next_sites, state_of}
+use Rattle.rb_node.specs.Answers.{AreReadyInTurn, IsAllApplied, IsNextName, answer_json, entry_lines, line_of}
+use Rattle.rb_node.specs.Laws.{AnswersAreOne}
+
+-- where all is applied, nothing is next
+no_more : (s : Settings) (t : ModelSite) (x : OpName) → is_full s t ≡ false → IsNextName t x → IsAllApplied s t → ⊥
+no_more s t x free next (inl full) = absurd (cc)
+no_more s t x free next (inr none) = none x (next.0, next.1, next.2.ready)
+
+-- what is applied in turn, until nothing is ready, are the same names
+same_names : (s : Settings) (t : ModelSite) (xs ys : List OpName) → AreReadyInTurn s t xs → AreReadyInTurn s t ys
+    → IsAllApplied s (after_events s t (map Apply xs)) → IsAllApplied s (after_events s t (map Apply ys)) → xs ≡ ys
+same_names s t [] [] a b c d = refl
+same_names s t [] (y ∷ ys) a b c d = absurd (no_more s t y b.0 b.1 c)
+same_names s t (x ∷ xs) [] a b c d = absurd (no_more s t x a.0 a.1 d)
+same_names s t (x ∷ xs) (y ∷ ys) a b c d =
+    let same : x ≡ y = first_is_one t.held (clock_of t.ops) x y a.1 b.1 in
+    let P : OpName → Type 0 = λ n. AreReadyInTurn s (after_event s t (Apply n)) ys in
+    let Q : OpName → Type 0 = λ n. IsAllApplied s (after_events s (after_event s t (Apply n)) (map Apply ys)) in
+    let rest : xs ≡ ys = same_names s (after_event s t (Apply x)) xs ys a.2 (subst P (sym same) b.2) c (subst Q (sym same) d) in
+    ap (λ n. n ∷ xs) same ∙ ap (λ ns. y ∷ ns) rest
+
+-- two answers to a line are one
+pub one_answer : AnswersAreOne
+one_answer old new other line text words entries rows a b = (
+  a.text_is ∙ ap (λ e. text_of e a.applied) event ∙ ap (text_of b.event) names ∙ sym b.text_is,
+  a.entries_are ∙ ap (entry_lines s old.me) recorded ∙ sym b.entries_are,
+  site,
+)
+  where
+    s : Settings
+    s = old.settings
+
+    t : ModelSite
+    t = state_of old
+
+    event : a.event ≡ b.event
+    event = let same : Some a.event ≡ Some b.event = sym a.is_event ∙ b.is_event in cc
+
+    names : a.applied ≡ b.applied
+    names =
+        let P : Event → Type 0 = λ e. AreReadyInTurn s (after_event s t e) b.applied in
+        let Q : Event → Type 0 = λ e. IsAllApplied s (after_events s t (e ∷ map Apply b.applied)) in
+        same_names s (after_event s t a.event) a.applied b.applied a.in_turn (subst P (sym event) b.in_turn) a.all
+        (subst Q (sym event) b.all)
+
+    text_of : Event → List OpName → List ℕ
+    text_of e xs = line_of (answer_json s (reply_to s t e) (sent_at s t e) (replies_to_events s (after_event s t e) (map Apply xs)))
+
+    site : new ≡ other
+    site = a.after ∙ ap (λ e. next_sites old (e ∷ map Apply a.applied)) event
+        ∙ ap (λ xs. next_sites old (b.event ∷ map Apply xs)) names ∙ sym b.after
+
+    recorded : a.recorded ≡ b.recorded
+    recorded = append_cancel_left old.entries a.recorded b.recorded
+        (sym a.recorded_are ∙ ap (λ (y : SeenSite). y.entries) site ∙ b.recorded_are)
