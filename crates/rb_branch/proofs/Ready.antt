@@ -1,14 +1,23 @@
--- Nothing that is held is ready.
+-- Which held operation is the next, and that none is ready.
 use Rattle.std.proofs.Common.{◌≡◌, List, sym, subst}
-use Rattle.std.specs.Prelude.{IfNone, Option, Some, None}
+use Rattle.std.specs.Prelude.{IfNone, IfSome, Option, Some, None}
+use Rattle.std.proofs.lemmas.Option.{IfSome_then}
 use Rattle.rb_shadow.specs.declared.op_name.OpName.{OpName}
 use Rattle.rb_shadow.specs.declared.shadow.Shadow.{Shadow}
 use Rattle.rb_shadow.specs.declared.deps.Deps.{Deps}
 use Rattle.rb_shadow.specs.Operations.{Among, clock_of}
 use Rattle.rb_shadow.proofs.Public.Lookups.{found}
-use Rattle.rb_inbox.specs.Held.{IsReady}
+use Rattle.rb_inbox.specs.Held.{IsFirstReady, IsReady}
 use Rattle.rb_site.specs.Seen.{SeenSite, state_of}
-use Rattle.rb_branch.specs.Seats.{IsReadyAt}
+use Rattle.rb_branch.specs.Seats.{IsNextAt, IsReadyAt}
+
+-- the first that is ready by the clock is the next of the site
+pub first_next : (o : Option OpName) (x : SeenSite) (held : List Shadow) (clock : Deps) → held ≡ (state_of x).held
+    → clock ≡ clock_of (state_of x).ops → IfSome o (IsFirstReady held clock) → IfSome o (IsNextAt x)
+first_next o x held clock h c some = IfSome_then o some (λ n f.
+    let P : List Shadow → Type 0 = λ l. IsFirstReady l clock n in
+    let Q : Deps → Type 0 = λ d. IsFirstReady (state_of x).held d n in
+    subst Q c (subst P h f))
 
 -- where no held operation is ready by the clock, the site has none that is
 pub none_ready : (o : Option OpName) (x : SeenSite) (held : List Shadow) (clock : Deps) → held ≡ (state_of x).held

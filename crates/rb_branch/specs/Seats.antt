@@ -5,7 +5,7 @@ use Rattle.rb_money.specs.Settings.{Settings}
 use Rattle.rb_money.specs.declared.limits.TheConstants.{MOST_SITES}
 use Rattle.rb_branch.specs.declared.limits.TheConstants.{MOST_RECEIPTS, MOST_SEATS, RECEIPT_PARTS}
 use Rattle.rb_branch.specs.declared.receipt.Receipt.{Receipt}
-use Rattle.rb_inbox.specs.Held.{IsReady}
+use Rattle.rb_inbox.specs.Held.{IsFirstReady, IsReady}
 use Rattle.rb_shadow.specs.Operations.{clock_of, find_in}
 use Rattle.rb_shadow.specs.declared.op_name.OpName.{OpName}
 use Rattle.rb_shadow.specs.declared.shadow.Shadow.{Shadow}
@@ -114,6 +114,10 @@ pub record HasOneMore (old new : SeenSeat) (P : Event → Type 0) (number : ℕ)
 -- the site holds an operation of this name, whose past it applied
 abbrev pub IsReadyAt : SeenSite → OpName → Type 0
 IsReadyAt x name = (u : Shadow) × (find_in (state_of x).held name ≡ Some u) × IsReady (clock_of (state_of x).ops) u
+
+-- it is the first of these: they go by home, of one home the blue ones before the red ones, and of one colour by number
+abbrev pub IsNextAt : SeenSite → OpName → Type 0
+IsNextAt x name = IsFirstReady (state_of x).held (clock_of (state_of x).ops) name
 
 -- a held operation is to be applied
 abbrev pub IsApply : Event → Type 0

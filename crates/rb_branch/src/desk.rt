@@ -5,8 +5,8 @@ ghost use Rattle.std.specs.Option.{option_copied};
 ghost use Rattle.rb_site.specs.Events.{first_site, is_full, reply_to, sent_at};
 ghost use Rattle.rb_site.specs.Seen.{Replays, first_seen, state_of, stepped};
 ghost use Rattle.rb_branch.specs.Gathered.{IsClosedReport};
-ghost use Rattle.rb_branch.specs.Seats.{Records, SetsUnsent, CannotRecord, IsReadyAt, IsSiteReply, is_full_inbox};
-ghost use Rattle.rb_branch.specs.Seats.{receipt, receipt_at};
+ghost use Rattle.rb_branch.specs.Seats.{Records, SetsUnsent, CannotRecord, IsNextAt, IsReadyAt, IsSiteReply};
+ghost use Rattle.rb_branch.specs.Seats.{is_full_inbox, receipt, receipt_at};
 ghost use Rattle.rb_branch.specs.declared.call_fault.CallFault.TheVariants.{HistoryFull};
 ghost use Rattle.rb_branch.specs.declared.limits.TheConstants.{MOST_RECEIPTS};
 ghost use Rattle.rb_branch.specs.declared.receipt.Receipt.{Receipt as ReceiptOf};
@@ -134,9 +134,9 @@ fn note(
     Ok(posted)
 }
 
-/// A held operation whose past the desk's site applied is applied, and its receipt is the last of the seat, as
-/// `record` puts it: its number there, and what is to be sent. `None` comes only where there is no such operation;
-/// there is no event then.
+/// The first, by home, colour and number, of the held operations whose past the desk's site applied is applied, and its
+/// receipt is the last of the seat, as `record` puts it: its number there, and what is to be sent. `None` comes only
+/// where there is no such operation; there is no event then.
 pub fn record_ready<E: Entries, R: Ledger, W: Wait>(
     rt: &W,
     desk: &mut Desk<E>,
@@ -144,7 +144,7 @@ pub fn record_ready<E: Entries, R: Ledger, W: Wait>(
     books: &Mutex<Books<E, R>>,
 ) -> Result<Option<(u32, Posted)>, CallFault>
     ensures some { IfOk result
-        (λ o. IfSome o (λ r. (x : NameOf) × IsReadyAt desk.old x
+        (λ o. IfSome o (λ r. (x : NameOf) × IsNextAt desk.old x
         × Records desk.old desk.new (Apply x) seat.old seat.new r.0 r.1.items)) }
     ensures none { IfOk result (λ o. IfNone o
         (((x : NameOf) → ¬ IsReadyAt desk.old x) × (desk.new ≡ desk.old) × (seat.new ≡ seat.old))) }
@@ -190,10 +190,11 @@ impl<E: Entries> Desk<E> {
         &self.site
     }
 
-    /// The name of a held operation whose past the site applied, by the site's own clock, if there is one.
+    /// The name of the first of the held operations whose past the site applied, by the site's own clock, if there is
+    /// one.
     #[tactic(auto, using(crate::proofs::Ready::none_ready))]
     pub(crate) fn ready(&self) -> Option<OpName>
-        ensures some { IfSome result (IsReadyAt self.now) }
+        ensures some { IfSome result (IsNextAt self.now) }
         ensures none { IfNone result ((x : NameOf) → ¬ IsReadyAt self.now x) }
     {
         self.site.inbox().ready(self.site.ledger().clock())
