@@ -55,6 +55,8 @@ impl Buffers {
     /// premises here, since no clause of `next_line` speaks of the moments between: it says that while a line waits
     /// nothing is read.
     ///
+    /// A read that adds nothing is the end of the input, and only such a read is (`end`, `ended`).
+    ///
     /// `Read`: the read failed, or there were `MOST_READS` before. `OutOfMemory`: there was no memory to read into. No
     /// other reason is given.
     pub fn read_more<S: Source>(&mut self, reader: &mut S) -> Result<(), NoLine>
@@ -72,6 +74,7 @@ impl Buffers {
             (S.calls reader.new)) }
         ensures end { OnOk result (self.new.ended ≡ true
             → (self.new.pending ≡ self.old.pending) × IsAtEnd (S.remaining reader.new)) }
+        ensures ended { OnOk result (self.new.pending ≡ self.old.pending → self.new.ended ≡ true) }
     {
         if self.reads == 0 {
             return Err(NoLine::Read);

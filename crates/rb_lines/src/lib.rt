@@ -23,7 +23,7 @@ pub use buffers::Buffers;
 pub use fault::{ScriptFault, message, status};
 pub use from_bytes::FromBytes;
 pub use from_reader::FromReader;
-pub use limits::{LINE_LIMIT, MOST_BUFFERED, MOST_READS, READ_SIZE};
+pub use limits::{LINE_LIMIT, MOST_BATCHED, MOST_BUFFERED, MOST_READS, READ_SIZE};
 pub use line::{is_blank, text_on};
 pub use no_line::NoLine;
 pub use pending::Pending;

@@ -11,3 +11,6 @@ pub const READ_SIZE: usize = 65_536;
 
 /// Replies go out once they have this number of bytes, also where more lines wait.
 pub const MOST_BUFFERED: usize = 65_536;
+
+/// A batch of lines that are committed together ends once its entries, or its texts, have more bytes than this.
+pub const MOST_BATCHED: usize = 1_048_576;
