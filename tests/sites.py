@@ -4,9 +4,9 @@
 usage: sites.py [--quiet] PROGRAM      (--quiet prints only what is different)
 
 Which of the operations that are ready at once is applied first; a journal cut at each byte, and with any bytes behind
-its space; a restart after each line; lines one at a time and all at once; another bank's journal; a folder, a device
-and a full disk as journal; a second process; output that can't be written; wrong words; where strace is there, the
-order of writes and syncs; the pipes that docs/RUNNING.md shows.
+its space; a restart after each line; lines one at a time and all at once; many large answers in little memory; another
+bank's journal; a folder, a device and a full disk as journal; a second process; output that can't be written; wrong
+words; where strace is there, the order of writes and syncs; the pipes that docs/RUNNING.md shows.
 """
 import json
 import os
@@ -28,6 +28,7 @@ BALANCE = b'{"balance":"ann"}\n'
 AT_REST = b" "
 LINE_LIMIT = 1_048_576  # bytes of a line without its line feed (docs/FORMAT.md)
 MEMORY = 1 << 30  # bytes that a site may take whose journal is a device without an end
+LITTLE_MEMORY = 64 << 20  # bytes that a site may take with many large answers in one read
 # Each kind of event at site 0 of two: made, refused, received, held, applied and passed.
 EVENTS = b"""{"deposit":["ann",500]}
 {"withdraw":["ann",200]}
@@ -344,6 +345,22 @@ def large_batch(sites):
     yield "many lines at once", fine and journal.count(b"\n") == count + 2 and journal.endswith(b"\n ")
 
 
+def large_answers(sites):
+    """Many large answers in one read take no more memory than a few: each batch of them is put out before the next."""
+    deposits, statements = 4_000, 250
+    given = BANK + b'{"deposit":["ann",1]}\n' * deposits
+    with tempfile.TemporaryDirectory() as folder:
+        journal = os.path.join(folder, "journal")
+        _, errors, status = sites.at(journal, given)
+        before = read(journal)
+        out, *ended = sites.at(journal, BANK + b'{"statement":"ann"}\n' * statements, memory=LITTLE_MEMORY, resend=0)
+        after = read(journal)
+        fine = (errors, status, ended) == ("", 0, ["", 0]) and out.count(b"\n") == statements
+        yield "many large answers at once", fine and len(set(out.splitlines())) == 1 and len(out) > LITTLE_MEMORY // 2
+        fine = after.startswith(before[:-1]) and after.count(b"\n") == 1 + deposits + statements
+        yield "... and their entries", fine and after.endswith(b"\n ")
+
+
 def calls_of(sites, given, before):
     """The calls of a site on its journal and its output, in order, each with what is behind its file: writes, cuts,
     syncs and output. None where strace can't see them."""
@@ -402,7 +419,7 @@ def of_the_page(sites):
 
 
 PARTS = [same_however_read, ready_at_once, torn, audited, refused_journals, used_twice, failed, unwritten,
-         lines_at_fault, words_at_fault, many_sites, large_batch, in_order, of_the_page]
+         lines_at_fault, words_at_fault, many_sites, large_batch, large_answers, in_order, of_the_page]
 
 
 def results(program):

@@ -1,15 +1,20 @@
 -- Turns one after another, and lines that are taken off what waits.
-use Rattle.std.proofs.Common.{◌≡◌, ◌<◌, ◌≤◌, ◌+◌, ◌⊎◌, ℕ, Bool, true, false, cond, not}
+use Rattle.std.proofs.Common.{◌≡◌, ◌<◌, ◌≤◌, ◌+◌, ◌-◌, ◌⊎◌, ℕ, Bool, true, false, cond, not}
 use Rattle.std.proofs.Common.{List, [], ◌∷◌, ◌++◌, length, take, drop, inl, inr, refl, sym}
 use Rattle.std.proofs.Common.{ap, ◌∙◌, arith, subst, append_assoc, append-nil, length-append}
-use Rattle.std.proofs.lemmas.List.{map-append}
+use Rattle.std.proofs.Math.Seq.{take-append_seam}
+use Rattle.std.proofs.lemmas.List.{append_cancel_left, map-append}
 use Rattle.std.proofs.lemmas.List.Concat.{flat_map-append}
 use Rattle.std.proofs.lemmas.List.Elements.{filter-append}
+use Rattle.std.specs.List.{concat}
 use Rattle.rb_lines.specs.Lines.{is_blank, line_len, lines_of, whole_lines}
 use Rattle.rb_lines.proofs.Public.LongLines.{len_is, first}
 use Rattle.rb_lines.proofs.Public.Walks.{Walks, after_line}
-use Rattle.rb_journal.specs.Turns.{Answers, AreTurns, IsTurn, Turn, lines_added, lines_answered, not_blank, state_after, texts}
-use Rattle.rb_journal.specs.Steps.{Advances, IsTaken, Point}
+use Rattle.rb_lines.specs.declared.limits.TheConstants.{MOST_BATCHED}
+use Rattle.rb_journal.specs.Lines.{IsBatch, recovered}
+use Rattle.rb_journal.specs.Turns.{Answers, AreFew, AreTurns, IsOneBatch, IsTurn, Turn, lines_added, lines_answered, not_blank}
+use Rattle.rb_journal.specs.Turns.{state_after, texts}
+use Rattle.rb_journal.specs.Steps.{Advances, AdvancesByBatch, IsTaken, Point}
 
 -- turns, and then turns in the state that they left
 pub turns_then : {S : Type 0} (answers : Answers S) (s : S) (xs ys : List (Turn S)) → AreTurns answers s xs
@@ -160,3 +165,42 @@ pub batch_more : {S : Type 0} (answers : Answers S) (old new : S) (lines lines_n
     → lines ≡ before ++ batch → lines_new ≡ before ++ batch_new
 batch_more answers old new lines lines_new batch batch_new before line text text_new turn is =
     turn.lines_are ∙ ap (λ ls. ls ++ turn.added) is ∙ append_assoc before batch turn.added ∙ ap (λ ls. before ++ ls) (sym turn.batch_is)
+
+-- ---- one batch
+
+-- of turns and one behind them, all but the last
+all_but_last : {S : Type 0} (xs : List (Turn S)) (x : Turn S) → take (length (xs ++ x ∷ []) - 1) (xs ++ x ∷ []) ≡ xs
+all_but_last xs x =
+    let few : length (xs ++ x ∷ []) - 1 ≡ length xs = omega (arith, length-append xs (x ∷ [])) in
+    ap (λ (n : ℕ). take n (xs ++ x ∷ [])) few ∙ take-append_seam xs (x ∷ [])
+
+-- a batch whose turns are few has place for one turn more
+one_more : {S : Type 0} (xs ys : List (Turn S)) → IsOneBatch xs → AreFew xs → length ys ≤ 1 → IsOneBatch (xs ++ ys)
+one_more xs [] one few short = subst IsOneBatch (sym (append-nil xs)) one
+one_more xs (y ∷ []) one few short = subst AreFew (sym (all_but_last xs y)) few
+one_more xs (y ∷ z ∷ ys) one few short = absurd (omega (arith, short))
+
+-- before the first line
+pub none_yet : {S : Type 0} (answers : Answers S) (e : Bool) (p : Point S) → AdvancesByBatch answers e p p
+unfolding no_step
+none_yet answers e p = (no_step answers e p, (omega arith, omega arith))
+
+-- where the bytes that wait are few, the turns that they come from are
+pub few_so_far : {S : Type 0} (answers : Answers S) (e : Bool) (p q : Point S) (batch : List ℕ) (a : Advances answers e p q)
+    → q.lines ≡ p.lines ++ recovered batch → IsBatch batch → p.text ≡ [] → length batch ≤ MOST_BATCHED
+    → length q.text ≤ MOST_BATCHED
+    → AreFew a.turns
+few_so_far answers e p q batch a lines whole none few short =
+    let same : lines_added a.turns ≡ recovered batch = append_cancel_left p.lines _ _ (sym a.lines_are ∙ lines) in
+    let text : q.text ≡ texts a.turns = a.text_is ∙ ap (λ (l : List ℕ). l ++ texts a.turns) none in (
+      subst (λ (l : List ℕ). length l ≤ MOST_BATCHED) (sym (ap concat same ∙ whole)) few,
+      subst (λ (l : List ℕ). length l ≤ MOST_BATCHED) text short,
+    )
+
+-- a batch, and then one line
+pub batch_then : {S : Type 0} (answers : Answers S) (e : Bool) (p q r : Point S) (a : AdvancesByBatch answers e p q)
+    → Advances answers e q r → AreFew a.0.turns → r.count ≤ q.count + 1
+    → AdvancesByBatch answers e p r
+unfolding steps_then
+batch_then answers e p q r a b few one =
+    (steps_then answers e p q r a.0 b, one_more a.0.turns b.turns a.1 few (omega (arith, b.count_is, one)))

@@ -127,7 +127,7 @@ ends_read answers input start lines output first p rest left e f going none kept
 pub ends_group : {S : Type 0} (answers : Answers S) (input : Option (List ℕ)) (start : S) (lines : List (List ℕ))
     (output : List ℕ) (first : ℕ) (p : Point S) (rest : Option (List ℕ)) (b : Buffers) (fault : ServeFault)
     → Follows answers input start lines output first p rest b.ended
-    → p.pending ≡ b.pending → StopsAt {T = Unit {0}} answers p.state p.number b (Err fault)
+    → p.pending ≡ b.pending → StopsAt answers p.state p.number b fault
     → EndsAtRest {T = ℕ} (Err fault)
     → (b.ended ≡ true → IsAtEnd rest)
     → (turns : List (Turn S)) × IsPutOut answers start lines output turns p.lines p.text
@@ -151,7 +151,7 @@ ends_group answers input start lines output first p rest b Journal f same stop a
 ends_group answers input start lines output first p rest b OutOfMemory f same stop at_rest end = absurd at_rest
 
 -- whether a fault leaves the journal at rest doesn't rest on what the call returns otherwise
-pub rests : (fault : ServeFault) → EndsAtRest {T = ℕ} (Err fault) → EndsAtRest {T = Unit {0}} (Err fault)
+pub rests : (fault : ServeFault) → EndsAtRest {T = ℕ} (Err fault) → EndsAtRest {T = Bool} (Err fault)
 rests (BadLine k) h = tt
 rests (LongLine k) h = tt
 rests Read h = tt

@@ -14,7 +14,7 @@ use Rattle.rb_lines.specs.Buffers.{Reads}
 use Rattle.rb_lines.specs.Lines.{is_blank, lines_of, whole_lines}
 use Rattle.rb_lines.proofs.Public.Walks.{Walks, after_read}
 use Rattle.rb_journal.specs.Ends.{IsFull}
-use Rattle.rb_journal.specs.Run.{AreFirst, IsRunOfTurns, served_input}
+use Rattle.rb_journal.specs.Run.{AreFirst, IsRunOfBatches, IsRunOfTurns, served_input}
 use Rattle.rb_journal.specs.Steps.{Advances, IsTaken, Point}
 use Rattle.rb_journal.specs.Turns.{Answers, AreTurns, Turn, lines_added, lines_answered, not_blank, state_after, texts}
 use Rattle.rb_journal.proofs.Advance.{added_then, answered_then, start, state_then, texts_then, turns_then}
@@ -175,14 +175,33 @@ first_on {S} (Some all) xs ys first (Some r) p e n w are = (
 pub run_on : {S : Type 0} (answers : Answers S) (input : Option (List ℕ)) (begin : S) (lines : List (List ℕ))
     (output : List ℕ) (first : ℕ) (p : Point S) (rest : Option (List ℕ)) (e : Bool) (c d : List ℕ)
     → Follows answers input begin lines output first p rest e
-    → IsRunOfTurns answers (Some (p.pending ++ rest_of rest)) p.state p.lines p.text c d
-    → IsRunOfTurns answers input begin lines output c d
-run_on answers input begin lines output first p rest e c d f run = record {
-  turns = f.turns ++ run.turns;
-  are = turns_then answers begin f.turns run.turns f.are (subst (λ s. AreTurns answers s run.turns) f.state_is run.are);
-  in_order = first_on input f.turns run.turns first rest p.pending e p.number f.walked run.in_order;
-  lines_are = added_then lines p.lines _ f.turns run.turns f.lines_are run.lines_are;
-  output_is = prefix_on output p.text d f.turns run.turns f.output_is run.output_is;
+    → IsRunOfBatches answers (Some (p.pending ++ rest_of rest)) p.state p.lines p.text c d
+    → IsRunOfBatches answers input begin lines output c d
+run_on answers input begin lines output first p rest e c d f run =
+    let more = run.done ++ run.batch in
+    let same : f.turns ++ more ≡ (f.turns ++ run.done) ++ run.batch = sym (append_assoc f.turns run.done run.batch) in
+    record {
+      done = f.turns ++ run.done;
+      batch = run.batch;
+      are = subst (λ ts. AreTurns answers begin ts) same
+          (turns_then answers begin f.turns more f.are (subst (λ s. AreTurns answers s more) f.state_is run.are));
+      in_order = subst (λ ts. IfSome input (AreFirst ts)) same
+          (first_on input f.turns more first rest p.pending e p.number f.walked run.in_order);
+      lines_are = added_then lines p.lines _ f.turns more f.lines_are run.lines_are ∙ ap (λ ts. lines ++ lines_added ts) same;
+      output_is = subst (λ (l : List ℕ). AddsPrefix l (texts run.batch) d)
+          (texts_then output p.text (p.text ++ texts run.done) f.turns run.done f.output_is refl) run.output_is;
+      one_batch = run.one_batch;
+    }
+
+-- what batches leave is what their turns leave
+pub are_turns : {S : Type 0} (answers : Answers S) (input : Option (List ℕ)) (begin : S) (lines : List (List ℕ)) (output c d : List ℕ)
+    → IsRunOfBatches answers input begin lines output c d → IsRunOfTurns answers input begin lines output c d
+are_turns answers input begin lines output c d run = record {
+  turns = run.done ++ run.batch;
+  are = run.are;
+  in_order = run.in_order;
+  lines_are = run.lines_are;
+  output_is = prefix_on output (output ++ texts run.done) d run.done run.batch refl run.output_is;
 }
 
 first_none : (S : Type 0) (input : Option (List ℕ)) → IfSome input (AreFirst {S = S} [])
@@ -191,13 +210,15 @@ first_none S (Some all) = (not_blank (lines_of all), refl)
 
 -- before the first turn
 pub run_start : {S : Type 0} (answers : Answers S) (input : Option (List ℕ)) (begin : S) (lines : List (List ℕ)) (output c d : List ℕ)
-    → recovered c ≡ lines → d ≡ output → IsRunOfTurns answers input begin lines output c d
+    → recovered c ≡ lines → d ≡ output → IsRunOfBatches answers input begin lines output c d
 run_start {S} answers input begin lines output c d are was = record {
-  turns = [];
+  done = [];
+  batch = [];
   are = tt;
   in_order = first_none S input;
   lines_are = are ∙ sym (append-nil lines);
-  output_is = (0, was ∙ sym (append-nil output));
+  output_is = (0, was ∙ sym (append-nil output) ∙ sym (append-nil (output ++ [])));
+  one_batch = (omega arith, omega arith);
 }
 
 -- a file that is full after some turns

@@ -4,7 +4,7 @@ use Rattle.std.specs.Io.KnownBytes.{IsAtEnd}
 use Rattle.rb_journal.specs.Host.{LeavesOnly}
 use Rattle.rb_journal.proofs.Public.Moments.{runs_on}
 use Rattle.rb_journal.specs.Ends.{IsFull}
-use Rattle.rb_journal.specs.Run.{IsRunOfTurns}
+use Rattle.rb_journal.specs.Run.{IsRunOfBatches}
 use Rattle.rb_journal.specs.Steps.{Advances, Point}
 use Rattle.rb_journal.specs.Turns.{Answers}
 use Rattle.rb_journal.proofs.Follow.{Follows, follows_steps, full_on, no_rest, rest_of, run_on}
@@ -20,13 +20,13 @@ module _ {S : Type 0} {answers : Answers S} {input : Option (List ℕ)} {begin :
 
   -- what a crash leaves during the group is a run from the beginning
   pub group_moments : {H : Type 0} {moment : H → ℕ} {left_since : H → ℕ → List ℕ → List ℕ → Type 0} {was mid new : H}
-      → LeavesOnly moment left_since was mid (IsRunOfTurns answers input begin lines output)
+      → LeavesOnly moment left_since was mid (IsRunOfBatches answers input begin lines output)
       → ((more : List ℕ) → (e ≡ true → more ≡ [])
-      → LeavesOnly moment left_since mid new (IsRunOfTurns answers (Some (p.pending ++ more)) p.state p.lines p.text))
-      → LeavesOnly moment left_since was new (IsRunOfTurns answers input begin lines output)
+      → LeavesOnly moment left_since mid new (IsRunOfBatches answers (Some (p.pending ++ more)) p.state p.lines p.text))
+      → LeavesOnly moment left_since was new (IsRunOfBatches answers input begin lines output)
   group_moments {H} {moment} {left_since} {was} {mid} {new} so_far then_on =
-      runs_on moment left_since was mid new (IsRunOfTurns answers input begin lines output)
-      (IsRunOfTurns answers (Some (p.pending ++ rest_of rest)) p.state p.lines p.text) so_far
+      runs_on moment left_since was mid new (IsRunOfBatches answers input begin lines output)
+      (IsRunOfBatches answers (Some (p.pending ++ rest_of rest)) p.state p.lines p.text) so_far
       (then_on (rest_of rest) (λ ended. no_rest rest (end ended)))
       (λ c d run. run_on answers input begin lines output first p rest e c d f run)
 

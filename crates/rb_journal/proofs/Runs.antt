@@ -10,8 +10,8 @@ use Rattle.rb_journal.specs.declared.host.HostError.TheVariants.{Memory, DiskFai
 use Rattle.rb_lines.specs.Lines.{is_blank, lines_of}
 use Rattle.rb_journal.specs.Ends.{IsFull}
 use Rattle.rb_journal.specs.Faults.{fault_of_host}
-use Rattle.rb_journal.specs.Run.{AreFirst, IsRunOfTurns}
-use Rattle.rb_journal.specs.Steps.{Advances, IsTaken, Point}
+use Rattle.rb_journal.specs.Run.{AreFirst, IsRunOfBatches}
+use Rattle.rb_journal.specs.Steps.{Advances, AdvancesByBatch, IsTaken, Point}
 use Rattle.rb_journal.specs.Turns.{Answers, Turn, lines_added, lines_answered, not_blank, texts}
 use Rattle.rb_journal.specs.declared.fault.ServeFault.TheVariants.{Journal}
 
@@ -28,26 +28,31 @@ first_of_taken turns p q e taken rest is end answered = (
 
 -- at each moment of a commit there are the turns before it, or those of the batch too
 pub durable_is_run : {S : Type 0} (answers : Answers S) (e : Bool) (p q : Point S) (rest batch output reply c d : List ℕ)
-    → Advances answers e p q
+    → AdvancesByBatch answers e p q
     → (e ≡ true → rest ≡ []) → q.lines ≡ p.lines ++ recovered batch → p.text ≡ [] → q.text ≡ reply
     → IsDurable p.lines (recovered batch) output reply c d
-    → IsRunOfTurns answers (Some (p.pending ++ rest)) p.state p.lines output c d
-durable_is_run answers e p q rest batch output reply c d a end lines none text (inl at) = record {
-  turns = [];
+    → IsRunOfBatches answers (Some (p.pending ++ rest)) p.state p.lines output c d
+durable_is_run answers e p q rest batch output reply c d (a, one) end lines none text (inl at) = record {
+  done = [];
+  batch = [];
   are = tt;
   in_order = (not_blank (lines_of (p.pending ++ rest)), refl);
   lines_are = at.0 ∙ sym (append-nil p.lines);
-  output_is = (0, at.1 ∙ sym (append-nil output));
+  output_is = (0, at.1 ∙ sym (append-nil output) ∙ sym (append-nil (output ++ [])));
+  one_batch = (omega arith, omega arith);
 }
-durable_is_run answers e p q rest batch output reply c d a end lines none text (inr at) = record {
-  turns = a.turns;
+durable_is_run answers e p q rest batch output reply c d (a, one) end lines none text (inr at) = record {
+  done = [];
+  batch = a.turns;
   are = a.are;
   in_order = first_of_taken a.turns p.pending q.pending e a.taken rest a.taken_is end a.answered;
   lines_are = at.0 ∙ sym lines ∙ a.lines_are;
   output_is = (
     at.1.0,
-    at.1.1 ∙ ap (λ l. output ++ take at.1.0 l) (sym text ∙ a.text_is ∙ ap (λ l. l ++ texts a.turns) none),
+    at.1.1 ∙ ap (λ l. output ++ take at.1.0 l) (sym text ∙ a.text_is ∙ ap (λ l. l ++ texts a.turns) none)
+        ∙ ap (λ l. l ++ take at.1.0 (texts a.turns)) (sym (append-nil output)),
   );
+  one_batch = one;
 }
 
 concat_then : (xs ys : List (List ℕ)) → concat (xs ++ ys) ≡ concat xs ++ concat ys

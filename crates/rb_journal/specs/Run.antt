@@ -3,7 +3,7 @@ use Rattle.std.specs.Prelude.{◌≡◌, ℕ, List, ◌++◌, Option, Some, None
 use Rattle.rb_lines.specs.Lines.{lines_of}
 use Rattle.rb_journal.specs.Host.{AddsPrefix}
 use Rattle.rb_journal.specs.Lines.{recovered}
-use Rattle.rb_journal.specs.Turns.{Answers, AreTurns, Turn, lines_added, lines_answered, not_blank, texts}
+use Rattle.rb_journal.specs.Turns.{Answers, AreTurns, IsOneBatch, Turn, lines_added, lines_answered, not_blank, texts}
 
 -- what was read and not yet answered, and then what is still to be read, if that is known
 abbrev pub served_input : List ℕ → Option (List ℕ) → Option (List ℕ)
@@ -22,3 +22,15 @@ pub record IsRunOfTurns {S : Type 0} (answers : Answers S) (input : Option (List
   pub in_order : IfSome input (AreFirst turns)
   pub lines_are : recovered c ≡ lines ++ lines_added turns
   pub output_is : AddsPrefix output (texts turns) d
+
+-- the same, where all of the text of the first turns was put out, and the others are one batch: of their text some was,
+-- from the first byte on
+pub record IsRunOfBatches {S : Type 0} (answers : Answers S) (input : Option (List ℕ)) (start : S) (lines : List (List ℕ))
+    (output c d : List ℕ) : Type 0 where
+  pub done : List (Turn S)
+  pub batch : List (Turn S)
+  pub are : AreTurns answers start (done ++ batch)
+  pub in_order : IfSome input (AreFirst (done ++ batch))
+  pub lines_are : recovered c ≡ lines ++ lines_added (done ++ batch)
+  pub output_is : AddsPrefix (output ++ texts done) (texts batch) d
+  pub one_batch : IsOneBatch batch

@@ -1,10 +1,11 @@
 -- Some lines of a run: what waits before and after them, and why no more were answered.
-use Rattle.std.specs.Prelude.{◌≡◌, ℕ, ◌+◌, ◌<◌, Bool, true, false, List, [], ◌++◌, length, take, Result, Ok, Err}
+use Rattle.std.specs.Prelude.{◌≡◌, ℕ, ◌+◌, ◌<◌, Bool, true, false, List, [], ◌++◌, length, take}
 use Rattle.rb_lines.specs.Buffers.{IsWholeLine}
 use Rattle.rb_lines.specs.Lines.{is_blank, line_len, lines_of, whole_lines}
 use Rattle.rb_lines.specs.declared.buffers.Buffers.{Buffers}
 use Rattle.rb_lines.specs.declared.limits.TheConstants.{LINE_LIMIT}
-use Rattle.rb_journal.specs.Turns.{Answers, AreTurns, HasNoAnswer, Turn, lines_added, lines_answered, not_blank, state_after, texts}
+use Rattle.rb_journal.specs.Turns.{Answers, AreTurns, HasNoAnswer, IsOneBatch, Turn, lines_added, lines_answered}
+use Rattle.rb_journal.specs.Turns.{not_blank, state_after, texts}
 use Rattle.rb_journal.specs.declared.fault.ServeFault.{ServeFault}
 use Rattle.rb_journal.specs.declared.fault.ServeFault.TheVariants.{BadLine, LongLine, Read, Write, Journal, OutOfMemory}
 use Rattle.rb_journal.specs.declared.waiting.Waiting.{Waiting}
@@ -50,11 +51,20 @@ pub record Advances {S : Type 0} (answers : Answers S) (ended : Bool) (old new :
   pub answered : lines_answered turns ≡ not_blank taken
   pub taken_is : IsTaken old.pending ended taken new.pending
 
+-- and the turns that answer them are one batch
+abbrev pub AdvancesByBatch : {S : Type 0} → Answers S → Bool → Point S → Point S → Type 0
+AdvancesByBatch answers ended old new = (steps : Advances answers ended old new) × IsOneBatch steps.turns
+
 -- what is at the front of the bytes that wait
 abbrev pub IsWaiting : Buffers → Waiting → Type 0
 IsWaiting b (Line n) = IsWholeLine b n
 IsWaiting b Long = LINE_LIMIT < line_len b.pending
 IsWaiting b Nothing = (line_len b.pending ≡ length b.pending) × (b.ended ≡ true → b.pending ≡ [])
+
+-- whether a whole line waits at the front, which wasn't answered since the batch is full
+abbrev pub LineStillWaits : Buffers → Bool → Type 0
+LineStillWaits b true = (n : ℕ) × IsWaiting b (Line n)
+LineStillWaits b false = IsWaiting b Nothing
 
 -- the line at the front has no answer
 abbrev pub IsBadLine : {S : Type 0} → Answers S → S → Buffers → Type 0
@@ -62,11 +72,10 @@ IsBadLine answers s b = (n : ℕ) × IsWholeLine b n × (is_blank (take n b.pend
     × HasNoAnswer answers s (take n b.pending)
 
 -- why no more of the lines that wait were answered; of running out of memory, and of what failed, nothing is said here
-abbrev pub StopsAt : {S T : Type 0} → Answers S → S → ℕ → Buffers → Result T ServeFault → Type 0
-StopsAt answers s number b (Ok x) = IsWaiting b Nothing
-StopsAt answers s number b (Err (BadLine k)) = (k ≡ number) × IsBadLine answers s b
-StopsAt answers s number b (Err (LongLine k)) = (k ≡ number) × IsWaiting b Long
-StopsAt answers s number b (Err OutOfMemory) = Unit {0}
-StopsAt answers s number b (Err Write) = Unit {0}
-StopsAt answers s number b (Err Journal) = Unit {0}
-StopsAt answers s number b (Err Read) = ⊥
+abbrev pub StopsAt : {S : Type 0} → Answers S → S → ℕ → Buffers → ServeFault → Type 0
+StopsAt answers s number b (BadLine k) = (k ≡ number) × IsBadLine answers s b
+StopsAt answers s number b (LongLine k) = (k ≡ number) × IsWaiting b Long
+StopsAt answers s number b OutOfMemory = Unit {0}
+StopsAt answers s number b Write = Unit {0}
+StopsAt answers s number b Journal = Unit {0}
+StopsAt answers s number b Read = ⊥

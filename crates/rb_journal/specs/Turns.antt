@@ -1,7 +1,8 @@
 -- What is answered over a journal: turns, one after another.
-use Rattle.std.specs.Prelude.{◌≡◌, ℕ, not, List, [], ◌∷◌, ◌++◌, map}
-use Rattle.std.specs.List.{filter, flat_map}
+use Rattle.std.specs.Prelude.{◌≡◌, ◌≤◌, ◌-◌, ℕ, not, List, [], ◌∷◌, ◌++◌, length, map, take}
+use Rattle.std.specs.List.{concat, filter, flat_map}
 use Rattle.rb_lines.specs.Lines.{is_blank}
+use Rattle.rb_lines.specs.declared.limits.TheConstants.{MOST_BATCHED}
 
 -- an input line, the lines that it adds to the journal, the text of its answer, and the state that it leaves
 pub record Turn (S : Type 0) : Type 0 where
@@ -18,6 +19,14 @@ lines_added {S} turns = flat_map (λ (t : Turn S). t.added) turns
 
 abbrev pub texts : {S : Type 0} → List (Turn S) → List ℕ
 texts {S} turns = flat_map (λ (t : Turn S). t.text) turns
+
+-- what these turns add to the journal has at most `MOST_BATCHED` bytes, and so has their text
+abbrev pub AreFew : {S : Type 0} → List (Turn S) → Type 0
+AreFew turns = (length (concat (lines_added turns)) ≤ MOST_BATCHED) × (length (texts turns) ≤ MOST_BATCHED)
+
+-- all of these turns but the last are few
+abbrev pub IsOneBatch : {S : Type 0} → List (Turn S) → Type 0
+IsOneBatch turns = AreFew (take (length turns - 1) turns)
 
 -- what a responder may answer: in the first state, this input line adds these lines, with this text, and leaves the
 -- second state

@@ -1,12 +1,14 @@
 //! The lines that one read brought share one commit, since that costs two syncs, however many lines there are: they
-//! are answered, committed together, and then their answers are put out.
-ghost use Rattle.std.specs.Prelude.{◌≡◌, ◌+◌, ◌^◌, ◌<◌, ◌≤◌, ◌⊎◌, ◌++◌, List, ℕ, [], true, Some, Err, length};
+//! are answered, committed together, and then their answers are put out. Where they come to more than a batch may, the
+//! next batch goes on with the rest of them, so that no number of lines takes more memory than one batch.
+ghost use Rattle.std.specs.Prelude.{◌≡◌, ◌+◌, ◌^◌, ◌<◌, ◌≤◌, ◌⊎◌, ◌++◌, List, ℕ, [], true, Some, Ok, Err, length};
+ghost use Rattle.std.specs.Prelude.{MatchResult};
 ghost use Rattle.rb_journal.specs.Host.{LeavesOnly};
 ghost use Rattle.rb_journal.specs.Lines.{recovered};
 ghost use Rattle.rb_journal.specs.Journal.{IsSettled};
 ghost use Rattle.rb_journal.specs.Ends.{EndsAtRest, IsFull};
-ghost use Rattle.rb_journal.specs.Run.{IsRunOfTurns};
-ghost use Rattle.rb_journal.specs.Steps.{Advances, StopsAt, point_of};
+ghost use Rattle.rb_journal.specs.Run.{IsRunOfBatches};
+ghost use Rattle.rb_journal.specs.Steps.{Advances, LineStillWaits, StopsAt, point_of};
 ghost use Rattle.rb_journal.specs.declared.fault.ServeFault.TheVariants.{Journal as JournalFailed, Write};
 
 use crate::fault::ServeFault;
@@ -17,14 +19,14 @@ use crate::waiting::answer_waiting;
 use crate::work::Work;
 use rb_lines::Buffers;
 
-/// Answers all lines that wait whole, commits what they add, and then puts out their text. At a fault of a line those
-/// before it are committed and put out too.
+/// Answers lines that wait whole, one batch of them, commits what they add, and then puts out their text; says whether
+/// a line still waits. At a fault of a line those before it are committed and put out too.
 pub fn answer_group<R: JournaledResponder, H: Host>(
     responder: &mut R,
     journal: &mut Journal<H>,
     buffers: &mut Buffers,
     work: &mut Work,
-) -> Result<(), ServeFault>
+) -> Result<bool, ServeFault>
     requires settled { IsSettled H.is_usable H.content H.may_leave journal.old }
     requires same { R.lines (R.state responder.old) ≡ recovered (H.content journal.old.host) }
     requires batch { work.old.batch.bytes.items ≡ [] }
@@ -39,12 +41,14 @@ pub fn answer_group<R: JournaledResponder, H: Host>(
         buffers.old)
         (point_of (R.state responder.new) (recovered (H.content journal.new.host)) (H.output journal.new.host) work.new
         buffers.new) }
-    ensures stop { StopsAt R.answers (R.state responder.new) work.new.number buffers.new result }
+    ensures stop { MatchResult result (LineStillWaits buffers.new)
+        (StopsAt R.answers (R.state responder.new) work.new.number buffers.new) }
+    ensures fewer { result ≡ Ok true → length buffers.new.pending < length buffers.old.pending }
 
-    // A crash leaves a run over these lines, whatever is read behind them.
+    // A crash leaves a run over these lines, whatever is read behind them, and only one batch isn't put out yet.
     ensures any_moment { (rest : List ℕ) → (buffers.old.ended ≡ true → rest ≡ [])
         → LeavesOnly H.moment H.left_since journal.old.host journal.new.host
-        (IsRunOfTurns R.answers (Some (buffers.old.pending ++ rest)) (R.state responder.old)
+        (IsRunOfBatches R.answers (Some (buffers.old.pending ++ rest)) (R.state responder.old)
         (recovered (H.content journal.old.host)) (H.output journal.old.host)) }
 
     ensures later { H.faults journal.old.host ≤ H.faults journal.new.host }

@@ -1,7 +1,7 @@
 //! What answers lines, and keeps its state in a journal.
 ghost use Rattle.std.specs.Prelude.{◌≡◌, ◌≤◌, ℕ, List, false, length, OnOk, OnErr, IsErrOf};
 ghost use Rattle.rb_lines.specs.Lines.{is_blank};
-ghost use Rattle.rb_lines.specs.declared.limits.TheConstants.{LINE_LIMIT};
+ghost use Rattle.rb_lines.specs.declared.limits.TheConstants.{LINE_LIMIT, MOST_BATCHED};
 ghost use Rattle.rb_journal.specs.Lines.{recovered};
 ghost use Rattle.rb_journal.specs.Turns.{HasNoAnswer, IsTurn};
 
@@ -33,6 +33,9 @@ pub trait JournaledResponder {
     ) -> Result<(), NoAnswer>
         requires some { is_blank line.now ≡ false }
         requires short { length line.now ≤ LINE_LIMIT }
+        // Of what was answered before it, up to this much waits for the disk: memory is taken for that and one answer.
+        requires few_entries { length batch.old.bytes.items ≤ MOST_BATCHED }
+        requires short_text { length text.old.items ≤ MOST_BATCHED }
         ensures answered { OnOk result (IsTurn answers (state self.old) (state self.new)
             (lines (state self.old)) (lines (state self.new))
             (recovered batch.old.bytes.items) (recovered batch.new.bytes.items) line.now

@@ -1,5 +1,5 @@
 //! All lines of a reader. Those that one read brings are answered and committed before the next read, so that nothing
-//! that was read waits for more input.
+//! that was read waits for more input: in one batch, or in several if they come to more than a batch may.
 ghost use Rattle.std.specs.Prelude.{◌≡◌, ◌+◌, ◌^◌, ◌<◌, ◌≤◌, ◌⊎◌, List, [], true, Err, length};
 ghost use Rattle.std.specs.Io.KnownBytes.{IsAtEnd};
 ghost use Rattle.rb_journal.specs.Host.{LeavesOnly};
@@ -8,7 +8,7 @@ ghost use Rattle.rb_journal.specs.Journal.{IsSettled};
 ghost use Rattle.rb_lines.specs.Buffers.{Counts};
 ghost use Rattle.rb_lines.specs.declared.limits.TheConstants.{MOST_READS};
 ghost use Rattle.rb_journal.specs.Ends.{EndsAs, EndsAtRest, IsFull, IsPutOut};
-ghost use Rattle.rb_journal.specs.Run.{IsRunOfTurns, served_input};
+ghost use Rattle.rb_journal.specs.Run.{IsRunOfBatches, IsRunOfTurns, served_input};
 ghost use Rattle.rb_journal.specs.Turns.{Turn};
 ghost use Rattle.rb_journal.specs.declared.fault.ServeFault.TheVariants.{Journal as JournalFailed, Read, Write};
 
@@ -26,7 +26,9 @@ use std::alloc::Global;
 /// feed is a line.
 ///
 /// The whole lines of one read are answered, their entries are committed together, and their text is put out; then
-/// comes the next read. At a fault of a line this is done for those before it, and then the fault is returned.
+/// comes the next read. Once the entries or the texts have more than `MOST_BATCHED` bytes, they are committed and put
+/// out before the next line is answered. At a fault of a line this is done for those before it, and then the fault is
+/// returned.
 pub fn serve<R: JournaledResponder, H: Host, S: Source>(
     alloc: Global,
     responder: &mut R,
@@ -59,6 +61,12 @@ pub fn serve<R: JournaledResponder, H: Host, S: Source>(
         (IsRunOfTurns R.answers (served_input buffers.old.pending (S.remaining reader.old)) (R.state responder.old)
         (recovered (H.content journal.old.host)) (H.output journal.old.host)) }
 
+    // At each moment what is in the file and isn't put out yet is one batch, and a batch is bounded. While a line is
+    // answered no more waits for the disk, which is a condition of `answer_line`.
+    ensures batches { LeavesOnly H.moment H.left_since journal.old.host journal.new.host
+        (IsRunOfBatches R.answers (served_input buffers.old.pending (S.remaining reader.old)) (R.state responder.old)
+        (recovered (H.content journal.old.host)) (H.output journal.old.host)) }
+
     // Each other fault comes only for its cause.
     ensures read { result ≡ Err Read → (S.failed reader.new ≡ true) ⊎ (S.calls reader.new ≡ MOST_READS) }
     ensures write { result ≡ Err Write → H.faults journal.old.host < H.faults journal.new.host }
@@ -69,8 +77,11 @@ pub fn serve<R: JournaledResponder, H: Host, S: Source>(
     ensures calls { S.calls reader.new ≤ MOST_READS }
 {
     let mut work = Work::new(alloc, number);
-    'reads: loop {
-        answer_group(responder, journal, buffers, &mut work)?;
+    'batches: loop {
+        let more = answer_group(responder, journal, buffers, &mut work)?;
+        if more {
+            continue 'batches;
+        }
         if buffers.ended {
             return Ok(work.count);
         }

@@ -1,15 +1,17 @@
 //! The lines that wait, answered one after another.
-ghost use Rattle.std.specs.Prelude.{◌≡◌, ◌≢◌, ◌+◌, ◌^◌, ◌<◌, ◌≤◌, ◌++◌, List, ℕ, [], Err, length, OnOk, OnErr};
+ghost use Rattle.std.specs.Prelude.{◌≡◌, ◌≢◌, ◌+◌, ◌^◌, ◌<◌, ◌≤◌, ◌++◌, List, ℕ, [], true, Ok, Err, length, OnOk};
+ghost use Rattle.std.specs.Prelude.{OnErr, IfErr, MatchResult};
 ghost use Rattle.rb_journal.specs.Lines.{recovered};
 ghost use Rattle.rb_lines.specs.Buffers.{IsWholeLine};
-ghost use Rattle.rb_journal.specs.Steps.{Advances, IsWaiting, StopsAt, point_of};
+ghost use Rattle.rb_lines.specs.declared.limits.TheConstants.{MOST_BATCHED};
+ghost use Rattle.rb_journal.specs.Steps.{Advances, AdvancesByBatch, IsWaiting, LineStillWaits, StopsAt, point_of};
 ghost use Rattle.rb_journal.specs.declared.fault.ServeFault.TheVariants.{Journal, OutOfMemory, Write};
 
 use crate::fault::ServeFault;
 use crate::no_answer::NoAnswer;
 use crate::responder::JournaledResponder;
 use crate::work::Work;
-use rb_lines::{Buffers, LINE_LIMIT, is_blank};
+use rb_lines::{Buffers, LINE_LIMIT, MOST_BATCHED, is_blank};
 
 /// What is at the front of the bytes that wait.
 pub enum Waiting {
@@ -44,6 +46,8 @@ fn answer_next<R: JournaledResponder>(
     n: usize,
 ) -> Result<(), ServeFault>
     requires line { IsWholeLine buffers.old n }
+    requires few_entries { length work.old.batch.bytes.items ≤ MOST_BATCHED }
+    requires short_text { length buffers.old.buffered.items ≤ MOST_BATCHED }
     requires number { work.old.number + 1 < 2 ^ 64 }
     requires count { work.old.count ≤ work.old.number }
     ensures answered { OnOk result (Advances R.answers buffers.old.ended
@@ -60,13 +64,14 @@ fn answer_next<R: JournaledResponder>(
         point_of state (lines ++ recovered work.new.batch.bytes.items) buffers.new.buffered.items work.new buffers.new
         ≡ point_of state (lines ++ recovered work.old.batch.bytes.items) buffers.old.buffered.items work.old
         buffers.old) }
-    ensures stop { OnErr result (StopsAt R.answers (R.state responder.new) work.new.number buffers.new result) }
+    ensures stop { IfErr result (StopsAt R.answers (R.state responder.new) work.new.number buffers.new) }
     ensures not_write { result ≡ Err Write → ⊥ }
     ensures not_journal { result ≡ Err Journal → ⊥ }
     ensures reads { buffers.new.reads ≡ buffers.old.reads }
     ensures ended { buffers.new.ended ≡ buffers.old.ended }
     ensures number { OnOk result ((work.new.number ≡ work.old.number + 1)
         × (length buffers.new.pending < length buffers.old.pending)) }
+    ensures one { OnOk result (work.new.count ≤ work.old.count + 1) }
     ensures count { work.new.count ≤ work.new.number }
 {
     let line = &buffers.pending.as_slice()[..n];
@@ -83,24 +88,28 @@ fn answer_next<R: JournaledResponder>(
     Ok(())
 }
 
-/// Answers all lines that wait whole.
+/// Answers lines that wait whole, one batch of them, and says whether a line still waits: the batch ends before it once
+/// its entries or its texts have more than `MOST_BATCHED` bytes.
 pub fn answer_waiting<R: JournaledResponder>(
     responder: &mut R,
     buffers: &mut Buffers,
     work: &mut Work,
-) -> Result<(), ServeFault>
+) -> Result<bool, ServeFault>
     requires batch { work.old.batch.bytes.items ≡ [] }
+    requires buffered { buffers.old.buffered.items ≡ [] }
     requires number { work.old.number + length buffers.old.pending < 2 ^ 64 }
     requires count { work.old.count ≤ work.old.number }
     // Of a responder without memory nothing is said: then there is the state before the line that it didn't answer.
-    ensures answered { (state : R.State) × Advances R.answers buffers.old.ended
+    ensures answered { (state : R.State) × AdvancesByBatch R.answers buffers.old.ended
         (point_of (R.state responder.old) (R.lines (R.state responder.old)) buffers.old.buffered.items work.old
         buffers.old)
         (point_of state (R.lines (R.state responder.old) ++ recovered work.new.batch.bytes.items)
         buffers.new.buffered.items work.new buffers.new) × (result ≢ Err OutOfMemory → R.state responder.new ≡ state) }
     ensures responder { result ≢ Err OutOfMemory → R.lines (R.state responder.new)
         ≡ R.lines (R.state responder.old) ++ recovered work.new.batch.bytes.items }
-    ensures stop { StopsAt R.answers (R.state responder.new) work.new.number buffers.new result }
+    ensures stop { MatchResult result (LineStillWaits buffers.new)
+        (StopsAt R.answers (R.state responder.new) work.new.number buffers.new) }
+    ensures fewer { result ≡ Ok true → length buffers.new.pending < length buffers.old.pending }
     ensures not_write { result ≡ Err Write → ⊥ }
     ensures not_journal { result ≡ Err Journal → ⊥ }
     ensures reads { buffers.new.reads ≡ buffers.old.reads }
@@ -112,8 +121,11 @@ pub fn answer_waiting<R: JournaledResponder>(
         let n = match next_waiting(buffers) {
             Waiting::Line(n) => n,
             Waiting::Long => return Err(ServeFault::LongLine { line: work.number }),
-            Waiting::Nothing => return Ok(()),
+            Waiting::Nothing => return Ok(false),
         };
+        if work.batch.bytes.len() > MOST_BATCHED || buffers.buffered.len() > MOST_BATCHED {
+            return Ok(true);
+        }
         answer_next(responder, buffers, work, n)?;
     }
 }

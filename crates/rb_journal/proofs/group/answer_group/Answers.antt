@@ -4,8 +4,8 @@ use Rattle.rb_journal.specs.Host.{LeavesOnly}
 use Rattle.rb_journal.specs.Lines.{IsBatch, recovered}
 use Rattle.rb_journal.specs.declared.host.HostError.TheVariants.{DiskFailed, Full}
 use Rattle.rb_journal.specs.Faults.{fault_of_host}
-use Rattle.rb_journal.specs.Run.{IsRunOfTurns}
-use Rattle.rb_journal.specs.Steps.{Advances, point_of}
+use Rattle.rb_journal.specs.Run.{IsRunOfBatches}
+use Rattle.rb_journal.specs.Steps.{AdvancesByBatch, point_of}
 use Rattle.rb_journal.specs.declared.fault.ServeFault.TheVariants.{Journal}
 use Rattle.rb_journal.proofs.Public.Moments.{weaker}
 use Rattle.rb_journal.proofs.Runs.{durable_is_run, is_full, journal_cause}
@@ -14,7 +14,7 @@ use Rattle.rb_journal.proofs.group.answer_group.Goals.{After-answer_waiting-answ
 use Rattle.rb_journal.proofs.group.answer_group.Goals as goal
 
 -- the lines are answered, and what they add waits in the batch
-steps : (g : Over) (c : After-answer_waiting-answered g) → Advances g.R.JournaledResponder.answers c.args.buffers.now.ended
+steps : (g : Over) (c : After-answer_waiting-answered g) → AdvancesByBatch g.R.JournaledResponder.answers c.args.buffers.now.ended
     (point_of (g.R.JournaledResponder.state c.args.responder.now) (recovered (g.H.Host.content c.args.journal.now.host))
     c.args.buffers.now.buffered.items c.args.work.now c.args.buffers.now)
     (point_of c.answer_waiting-answered.ensures.answered.0
@@ -27,14 +27,14 @@ steps g c =
     let old = c.args.buffers.now in
     let begin = g.R.JournaledResponder.state c.args.responder.now in
     let last = c.answer_waiting-answered.ensures.answered.0 in
-    subst (λ ls. Advances g.R.JournaledResponder.answers old.ended (point_of begin ls old.buffered.items c.args.work.now old)
+    subst (λ ls. AdvancesByBatch g.R.JournaledResponder.answers old.ended (point_of begin ls old.buffered.items c.args.work.now old)
     (point_of last (ls ++ recovered now.work.batch.bytes.items) now.buffers.buffered.items now.work now.buffers))
     c.requires.same c.answer_waiting-answered.ensures.answered.1
 
 -- a crash leaves a run over the lines
 run : (g : Over) (c : After-commit_and_put_out g) (rest : List ℕ) → (c.args.buffers.now.ended ≡ true → rest ≡ [])
     → LeavesOnly g.H.Host.moment g.H.Host.left_since c.args.journal.now.host c.commit_and_put_out.new.self.host
-    (IsRunOfTurns g.R.JournaledResponder.answers (Some (c.args.buffers.now.pending ++ rest))
+    (IsRunOfBatches g.R.JournaledResponder.answers (Some (c.args.buffers.now.pending ++ rest))
     (g.R.JournaledResponder.state c.args.responder.now)
     (recovered (g.H.Host.content c.args.journal.now.host)) (g.H.Host.output c.args.journal.now.host))
 run g c rest end =
@@ -64,7 +64,7 @@ returns-in_err-commit_and_put_out-clause-journal g c = λ is.
     let batch : c.deref.result.now ≡ c.answer_waiting-answered.new.work.batch.bytes.items = c.deref.ensures.value in
     ⊎_elim (λ (disk : error ≡ DiskFailed). inl (why.failed (ap Err disk)))
     (λ (full : error ≡ Full). inr (λ rest end. is_full g.R.JournaledResponder.answers _ _ _ rest c.deref.result.now
-    c.args.journal.now.end advances end (ap (λ l. lines ++ recovered l) (sym batch))
+    c.args.journal.now.end advances.0 end (ap (λ l. lines ++ recovered l) (sym batch))
     (subst IsBatch (sym batch) c.answer_waiting-answered.new.work.batch.whole)
     c.requires.settled.end (why.full (ap Err full))))
     (journal_cause error journal)

@@ -1,17 +1,17 @@
--- Between two reads: all that was answered is committed and put out.
+-- Between two batches: all that was answered is committed and put out.
 use Rattle.std.proofs.Common.{◌≡◌, ◌≤◌, ◌+◌, [], true}
 use Rattle.std.specs.Io.KnownBytes.{IsAtEnd}
 use Rattle.rb_journal.specs.Host.{LeavesOnly}
 use Rattle.rb_journal.specs.Lines.{recovered}
 use Rattle.rb_journal.specs.Journal.{IsSettled}
 use Rattle.rb_lines.specs.Buffers.{Counts, left}
-use Rattle.rb_journal.specs.Run.{IsRunOfTurns, served_input}
+use Rattle.rb_journal.specs.Run.{IsRunOfBatches, served_input}
 use Rattle.rb_journal.specs.Steps.{point_of}
 use Rattle.rb_journal.proofs.Follow.{Follows}
 use Rattle.rb_journal.proofs.run.serve.Given as goal
 
-abbrev pub invariant-reads : goal.invariant-reads
-invariant-reads g l =
+abbrev pub invariant-batches : goal.invariant-batches
+invariant-batches g l =
     let host = g.H.Host in
     let answers = g.R.JournaledResponder.answers in
     let input = served_input l.fn.buffers.pending (g.S.Source.remaining l.fn.reader) in
@@ -32,8 +32,8 @@ invariant-reads g l =
           (point_of (g.R.JournaledResponder.state l.responder) (recovered (host.content l.journal.host))
           (host.output l.journal.host) l.work l.buffers)
           (g.S.Source.remaining l.reader) l.buffers.ended;
-      any_moment : LeavesOnly host.moment host.left_since l.fn.journal.host l.journal.host (IsRunOfTurns answers input begin lines output);
+      any_moment : LeavesOnly host.moment host.left_since l.fn.journal.host l.journal.host (IsRunOfBatches answers input begin lines output);
     }
 
-abbrev pub decreases-reads : goal.decreases-reads
-decreases-reads g l = l.buffers.reads
+abbrev pub decreases-batches : goal.decreases-batches
+decreases-batches g l = left l.buffers + l.buffers.reads

@@ -1,7 +1,7 @@
 -- Between two lines.
-use Rattle.std.proofs.Common.{◌≡◌, ◌+◌, ◌≤◌, ◌++◌, length}
+use Rattle.std.proofs.Common.{◌≡◌, ◌+◌, ◌<◌, ◌≤◌, ◌⊎◌, ◌++◌, [], length}
 use Rattle.rb_journal.specs.Lines.{recovered}
-use Rattle.rb_journal.specs.Steps.{Advances, point_of}
+use Rattle.rb_journal.specs.Steps.{AdvancesByBatch, point_of}
 use Rattle.rb_journal.proofs.waiting.answer_waiting.Given as goal
 
 abbrev pub invariant-lines : goal.invariant-lines
@@ -9,7 +9,7 @@ invariant-lines g l =
     let state = g.R.JournaledResponder.state in
     let lines = g.R.JournaledResponder.lines in
     record {
-      answered : Advances g.R.JournaledResponder.answers l.fn.buffers.ended
+      answered : AdvancesByBatch g.R.JournaledResponder.answers l.fn.buffers.ended
           (point_of (state l.fn.responder) (lines (state l.fn.responder)) l.fn.buffers.buffered.items l.fn.work l.fn.buffers)
           (point_of (state l.responder) (lines (state l.responder)) l.buffers.buffered.items l.work l.buffers);
       batch : lines (state l.responder) ≡ lines (state l.fn.responder) ++ recovered l.work.batch.bytes.items;
@@ -17,6 +17,9 @@ invariant-lines g l =
       ended : l.buffers.ended ≡ l.fn.buffers.ended;
       number : l.work.number + length l.buffers.pending ≤ l.fn.work.number + length l.fn.buffers.pending;
       count : l.work.count ≤ l.work.number;
+      shorter : length l.buffers.pending ≤ length l.fn.buffers.pending;
+      begun : ((l.work.batch.bytes.items ≡ []) × (l.buffers.buffered.items ≡ []))
+          ⊎ (length l.buffers.pending < length l.fn.buffers.pending);
     }
 
 abbrev pub decreases-lines : goal.decreases-lines
