@@ -21,65 +21,65 @@ use Rattle.rb_shadow.specs.declared.shadow.Shadow.{Shadow}
 use Rattle.rb_shadow.specs.Operations.{entry_of, number_of, row_of, shown_colour}
 use Rattle.rb_shadow.specs.Sound.{IsSound, are_entries, is_foreign}
 use Rattle.rb_shadow.proofs.Public.SoundFacts
-use Rattle.rb_ledger.specs.declared.body.Body.{Body}
+use Rattle.rb_ledger.specs.declared.kept_operation.KeptOperation.{KeptOperation}
 use Rattle.rb_ledger.specs.OperationLists.{AreInOrder, IsOfSites, clock_count, clock_of_counts, kept_name, operations_of, padded}
 use Rattle.rb_ledger.specs.OperationLists.{with_counts}
 
--- there are as many operations as bodies
-pub as_many : (w : ℕ) (bs : List Body) (cs : List (List ℕ)) → length (operations_of w bs cs) ≡ length bs
-as_many w bs cs = length-map bs (λ (b : Body). with_counts w b (get_or cs b.clock []))
+-- there are as many operations as are kept
+pub as_many : (w : ℕ) (bs : List KeptOperation) (cs : List (List ℕ)) → length (operations_of w bs cs) ≡ length bs
+as_many w bs cs = length-map bs (λ (b : KeptOperation). with_counts w b (get_or cs b.clock []))
 
--- past the bodies there is no operation
-pub none_at : (w : ℕ) (bs : List Body) (ns : List (List ℕ)) (i : ℕ) → length bs ≤ i → slice_get (operations_of w bs ns) i ≡ None
+-- past what is kept there is no operation
+pub none_at : (w : ℕ) (bs : List KeptOperation) (ns : List (List ℕ)) (i : ℕ) → length bs ≤ i → slice_get (operations_of w bs ns) i ≡ None
 none_at w bs ns i past = slice_get_past (operations_of w bs ns) i (omega (arith, past, as_many w bs ns))
 
--- an operation is there where its body is
-pub one_at : (w : ℕ) (bs : List Body) (cs : List (List ℕ)) (i : ℕ) (b : Body) → slice_get bs i ≡ Some b →
+-- an operation is there if what is kept of it is
+pub one_at : (w : ℕ) (bs : List KeptOperation) (cs : List (List ℕ)) (i : ℕ) (b : KeptOperation) → slice_get bs i ≡ Some b →
     slice_get (operations_of w bs cs) i ≡ Some (with_counts w b (get_or cs b.clock []))
 one_at w bs cs i b there =
-    slice_get-map (λ (b : Body). with_counts w b (get_or cs b.clock [])) bs i
-    ∙ ap (option_map (λ (b : Body). with_counts w b (get_or cs b.clock []))) there
+    slice_get-map (λ (b : KeptOperation). with_counts w b (get_or cs b.clock [])) bs i
+    ∙ ap (option_map (λ (b : KeptOperation). with_counts w b (get_or cs b.clock []))) there
 
 -- ---- the numbers of the clocks
 
 -- for no operations no clocks are kept
-pub none_in_order : (bs : List Body) → bs ≡ [] → AreInOrder 0 bs
+pub none_in_order : (bs : List KeptOperation) → bs ≡ [] → AreInOrder 0 bs
 unfolding AreInOrder
 none_in_order [] none = tt
 none_in_order (b ∷ bs) none = cc
 
 -- no fewer clocks are kept for more operations
-none_above : (k : ℕ) (bs : List Body) → AreInOrder k bs → k ≤ clock_count k bs
+none_above : (k : ℕ) (bs : List KeptOperation) → AreInOrder k bs → k ≤ clock_count k bs
 unfolding AreInOrder
 none_above k [] are = omega arith
 none_above k (b ∷ bs) (inl next, are) = omega (arith, next, none_above (b.clock + 1) bs are)
 none_above k (b ∷ bs) (inr same, are) = omega (arith, same, none_above (b.clock + 1) bs are)
 
 -- there are at most as many clocks as operations
-pub few_clocks : (k : ℕ) (bs : List Body) → AreInOrder k bs → clock_count k bs ≤ k + length bs
+pub few_clocks : (k : ℕ) (bs : List KeptOperation) → AreInOrder k bs → clock_count k bs ≤ k + length bs
 unfolding AreInOrder
 few_clocks k [] are = omega arith
 few_clocks k (b ∷ bs) (inl next, are) = omega (arith, next, few_clocks (b.clock + 1) bs are)
 few_clocks k (b ∷ bs) (inr same, are) = omega (arith, same, few_clocks (b.clock + 1) bs are)
 
 -- an operation's clock is one of those
-pub clock_near : (k : ℕ) (bs : List Body) (i : ℕ) (b : Body) → AreInOrder k bs → slice_get bs i ≡ Some b → b.clock + 1 ≤ clock_count k bs
+pub clock_near : (k : ℕ) (bs : List KeptOperation) (i : ℕ) (b : KeptOperation) → AreInOrder k bs → slice_get bs i ≡ Some b → b.clock + 1 ≤ clock_count k bs
 unfolding AreInOrder
 clock_near k [] i b are there = cc
 clock_near k (c ∷ bs) zero b (step, are) there =
-    let here : c.clock ≡ b.clock = ap (λ (o : Option Body). unwrap_or (option_map (λ (b : Body). b.clock) o) 0) there in
+    let here : c.clock ≡ b.clock = ap (λ (o : Option KeptOperation). unwrap_or (option_map (λ (b : KeptOperation). b.clock) o) 0) there in
     omega (arith, here, none_above (c.clock + 1) bs are)
 clock_near k (c ∷ bs) (suc i) b (step, are) there = clock_near (c.clock + 1) bs i b are there
 
 -- with one more operation there is one clock more than its number
-pub count_more : (k : ℕ) (bs : List Body) (b : Body) → clock_count k (bs ++ b ∷ []) ≡ b.clock + 1
+pub count_more : (k : ℕ) (bs : List KeptOperation) (b : KeptOperation) → clock_count k (bs ++ b ∷ []) ≡ b.clock + 1
 count_more k [] b = refl
 count_more k (c ∷ bs) b = count_more (c.clock + 1) bs b
 
 -- there is one clock more than the last operation's number
-pub count_last : (k : ℕ) (bs : List Body) (b : Body) → slice_get bs (length bs - 1) ≡ Some b → clock_count k bs ≡ b.clock + 1
+pub count_last : (k : ℕ) (bs : List KeptOperation) (b : KeptOperation) → slice_get bs (length bs - 1) ≡ Some b → clock_count k bs ≡ b.clock + 1
 count_last k [] b there = cc
-count_last k (c ∷ []) b there = ap (λ (o : Option Body). unwrap_or (option_map (λ (b : Body). b.clock + 1) o) 0) there
+count_last k (c ∷ []) b there = ap (λ (o : Option KeptOperation). unwrap_or (option_map (λ (b : KeptOperation). b.clock + 1) o) 0) there
 count_last k (c ∷ d ∷ bs) b there =
     let one : suc (suc (length bs)) - 1 ≡ suc (suc (length bs) - 1) = omega arith in
     count_last (c.clock + 1) (d ∷ bs) b (ap (slice_get (c ∷ d ∷ bs)) (sym one) ∙ there)
@@ -90,19 +90,19 @@ at_most m n (inl next) = omega (arith, next)
 at_most m n (inr same) = omega (arith, same)
 
 -- one more operation, with the next clock or the last one
-order_more : (k : ℕ) (bs : List Body) (b : Body) → AreInOrder k bs → (b.clock ≡ clock_count k bs) ⊎ (b.clock + 1 ≡ clock_count k bs) →
+order_more : (k : ℕ) (bs : List KeptOperation) (b : KeptOperation) → AreInOrder k bs → (b.clock ≡ clock_count k bs) ⊎ (b.clock + 1 ≡ clock_count k bs) →
     AreInOrder k (bs ++ b ∷ [])
 unfolding AreInOrder
 order_more k [] b are step = (step, tt)
 order_more k (c ∷ bs) b (first, are) step = (first, order_more (c.clock + 1) bs b are step)
 
 -- the same of a list that is one longer
-pub order_pushed : (bs cs : List Body) (b : Body) → cs ≡ bs ++ b ∷ [] → AreInOrder 0 bs →
+pub order_pushed : (bs cs : List KeptOperation) (b : KeptOperation) → cs ≡ bs ++ b ∷ [] → AreInOrder 0 bs →
     (b.clock ≡ clock_count 0 bs) ⊎ (b.clock + 1 ≡ clock_count 0 bs) → AreInOrder 0 cs
 order_pushed bs cs b is are step = subst (AreInOrder 0) (sym is) (order_more 0 bs b are step)
 
 -- without the last operation
-order_front : (k : ℕ) (bs : List Body) (b : Body) → AreInOrder k (bs ++ b ∷ []) →
+order_front : (k : ℕ) (bs : List KeptOperation) (b : KeptOperation) → AreInOrder k (bs ++ b ∷ []) →
     AreInOrder k bs × ((b.clock ≡ clock_count k bs) ⊎ (b.clock + 1 ≡ clock_count k bs))
 unfolding AreInOrder
 order_front k [] b (step, are) = (tt, step)
@@ -138,14 +138,14 @@ own_red [] d e is near = absurd (omega (arith, near))
 own_red (n ∷ ms) d e is near = ap (λ (c : Deps). record { blue = c.blue; red = e }) is
 
 -- the kind of the operation at an index
-pub kind_at : (w : ℕ) (bs : List Body) (ns : List (List ℕ)) (i : ℕ) (b : Body) (d : Shadow) → i < length bs → b ≡ get_or bs i b →
+pub kind_at : (w : ℕ) (bs : List KeptOperation) (ns : List (List ℕ)) (i : ℕ) (b : KeptOperation) (d : Shadow) → i < length bs → b ≡ get_or bs i b →
     b.kind ≡ (get_or (operations_of w bs ns) i d).kind
 kind_at w [] ns i b d near is = absurd (omega (arith, near))
-kind_at w (c ∷ bs) ns zero b d near is = ap (λ (x : Body). x.kind) is
+kind_at w (c ∷ bs) ns zero b d near is = ap (λ (x : KeptOperation). x.kind) is
 kind_at w (c ∷ bs) ns (suc i) b d near is = kind_at w bs ns i b d (omega (arith, near)) is
 
 -- more clocks behind the others change no operation
-same_operations : (w k : ℕ) (bs : List Body) (cs ds : List (List ℕ)) → AreInOrder k bs → clock_count k bs ≤ length cs →
+same_operations : (w k : ℕ) (bs : List KeptOperation) (cs ds : List (List ℕ)) → AreInOrder k bs → clock_count k bs ≤ length cs →
     operations_of w bs (cs ++ ds) ≡ operations_of w bs cs
 unfolding AreInOrder
 same_operations w k [] cs ds are many = refl
@@ -155,18 +155,18 @@ same_operations w k (b ∷ bs) cs ds (step, are) many =
     ∙ ap (λ us. with_counts w b (get_or cs b.clock []) ∷ us) (same_operations w (b.clock + 1) bs cs ds are many)
 
 -- one more operation
-pub pushed : (w : ℕ) (bs : List Body) (cs ds : List (List ℕ)) (b : Body) → AreInOrder 0 bs → length cs ≡ clock_count 0 bs →
+pub pushed : (w : ℕ) (bs : List KeptOperation) (cs ds : List (List ℕ)) (b : KeptOperation) → AreInOrder 0 bs → length cs ≡ clock_count 0 bs →
     operations_of w (bs ++ b ∷ []) (cs ++ ds) ≡ operations_of w bs cs ++ with_counts w b (get_or (cs ++ ds) b.clock []) ∷ []
 pushed w bs cs ds b are count =
-    map_push (λ (b : Body). with_counts w b (get_or (cs ++ ds) b.clock [])) bs b
+    map_push (λ (b : KeptOperation). with_counts w b (get_or (cs ++ ds) b.clock [])) bs b
     ∙ ap (λ us. us ++ with_counts w b (get_or (cs ++ ds) b.clock []) ∷ []) (same_operations w 0 bs cs ds are (omega (arith, count)))
 
 -- the clocks' numbers without the last operation's
-pub popped_order : (bs cs : List Body) (b : Body) → bs ≡ cs ++ b ∷ [] → AreInOrder 0 bs → AreInOrder 0 cs
+pub popped_order : (bs cs : List KeptOperation) (b : KeptOperation) → bs ≡ cs ++ b ∷ [] → AreInOrder 0 bs → AreInOrder 0 cs
 popped_order bs cs b is are = (order_front 0 cs b (subst (AreInOrder 0) is are)).0
 
 -- as many clocks are there as are kept without the last operation
-pub popped_count : (bs cs : List Body) (b : Body) → bs ≡ cs ++ b ∷ [] → AreInOrder 0 bs → clock_count 0 cs ≤ clock_count 0 bs
+pub popped_count : (bs cs : List KeptOperation) (b : KeptOperation) → bs ≡ cs ++ b ∷ [] → AreInOrder 0 bs → clock_count 0 cs ≤ clock_count 0 bs
 popped_count bs cs b is are = less (order_front 0 cs b (subst (AreInOrder 0) is are)).1
   where
     less : (b.clock ≡ clock_count 0 cs) ⊎ (b.clock + 1 ≡ clock_count 0 cs) → clock_count 0 cs ≤ clock_count 0 bs
@@ -174,7 +174,7 @@ popped_count bs cs b is are = less (order_front 0 cs b (subst (AreInOrder 0) is 
     less (inr same) = omega (arith, same, ap (clock_count 0) is, count_more 0 cs b)
 
 -- without the last operation
-pub popped : (w : ℕ) (bs cs : List Body) (ns ms : List (List ℕ)) (b : Body) → bs ≡ cs ++ b ∷ [] → AreInOrder 0 bs →
+pub popped : (w : ℕ) (bs cs : List KeptOperation) (ns ms : List (List ℕ)) (b : KeptOperation) → bs ≡ cs ++ b ∷ [] → AreInOrder 0 bs →
     length ns ≡ clock_count 0 bs → ms ≡ take (clock_count 0 cs) ns →
     operations_of w cs ms ≡ take (length (operations_of w bs ns) - 1) (operations_of w bs ns)
 popped w bs cs ns ms b is are count cut =
@@ -187,7 +187,7 @@ popped w bs cs ns ms b is are count cut =
     sym (same_operations w 0 cs ms (drop k ns) front (omega (arith, counted)))
     ∙ ap (operations_of w cs) (ap (λ xs. xs ++ drop k ns) cut ∙ take-append-drop k ns) in
     let whole : operations_of w bs ns ≡ us ++ last ∷ [] =
-    ap (λ xs. operations_of w xs ns) is ∙ map_push (λ (b : Body). with_counts w b (get_or ns b.clock [])) cs b in
+    ap (λ xs. operations_of w xs ns) is ∙ map_push (λ (b : KeptOperation). with_counts w b (get_or ns b.clock [])) cs b in
     kept ∙ sym (ap (λ xs. take (length xs - 1) xs) whole
     ∙ ap (λ n. take n (us ++ last ∷ [])) (omega (arith, length_push us last))
     ∙ take-append_seam us (last ∷ []))
@@ -308,6 +308,6 @@ of_sites s v w sound more =
     passed false h = sym h
 
 -- what a pop takes that finds one
-pub popped_body : (r : Option Body) (bs cs : List Body) → bs ≡ cs ++ option_to_list r → true ≡ is_some r → (b : Body) × (bs ≡ cs ++ b ∷ [])
-popped_body (Some b) bs cs is some = (b, is)
-popped_body None bs cs is some = cc
+pub popped_kept : (r : Option KeptOperation) (bs cs : List KeptOperation) → bs ≡ cs ++ option_to_list r → true ≡ is_some r → (b : KeptOperation) × (bs ≡ cs ++ b ∷ [])
+popped_kept (Some b) bs cs is some = (b, is)
+popped_kept None bs cs is some = cc

@@ -10,7 +10,7 @@ use Rattle.rb_shadow.specs.declared.colour.Colour.TheVariants.{Blue as BlueColou
 use Rattle.rb_shadow.specs.declared.op_name.OpName.{OpName}
 use Rattle.rb_shadow.specs.declared.op_name.OpName.TheVariants.{Blue, Red}
 use Rattle.rb_shadow.specs.Operations.{row_of}
-use Rattle.rb_ledger.specs.declared.body.Body.{Body}
+use Rattle.rb_ledger.specs.declared.kept_operation.KeptOperation.{KeptOperation}
 
 -- the operations, of how many sites their clocks' entries are kept, at least three, and for how many operations there
 -- is memory
@@ -37,7 +37,7 @@ kept_name BlueColour home n = Blue home n
 kept_name RedColour home n = Red n
 
 -- an operation of what it is without its clock, and its clock
-abbrev pub with_clock : Body → Deps → Shadow
+abbrev pub with_clock : KeptOperation → Deps → Shadow
 with_clock b d = record {
   name = kept_name b.colour b.home b.number;
   home = b.home;
@@ -48,19 +48,19 @@ with_clock b d = record {
 }
 
 -- an operation, by what is kept of it: its own entry is its number less 1, whatever is kept there
-abbrev pub with_counts : ℕ → Body → List ℕ → Shadow
+abbrev pub with_counts : ℕ → KeptOperation → List ℕ → Shadow
 with_counts sites b ns = with_clock b (clock_of_counts sites (slice_set ns (row_of (kept_name b.colour b.home b.number)) (b.number - 1)))
 
 -- the operations, by what is kept of them: each has the number of its clock among those that are kept
-abbrev pub operations_of : ℕ → List Body → List (List ℕ) → List Shadow
-operations_of sites bs cs = map (λ (b : Body). with_counts sites b (slice_index_or cs b.clock [])) bs
+abbrev pub operations_of : ℕ → List KeptOperation → List (List ℕ) → List Shadow
+operations_of sites bs cs = map (λ (b : KeptOperation). with_counts sites b (slice_index_or cs b.clock [])) bs
 
 -- how many clocks are kept for these operations, of which as many as the number are kept for those before
-abbrev pub clock_count : ℕ → List Body → ℕ
+abbrev pub clock_count : ℕ → List KeptOperation → ℕ
 clock_count before [] = before
 clock_count before (b ∷ bs) = clock_count (b.clock + 1) bs
 
 -- each operation has the next clock, or that of the operation before it
-unfoldable pub AreInOrder : ℕ → List Body → Type 0
+unfoldable pub AreInOrder : ℕ → List KeptOperation → Type 0
 AreInOrder before [] = Unit {0}
 AreInOrder before (b ∷ bs) = ((b.clock ≡ before) ⊎ (b.clock + 1 ≡ before)) × AreInOrder (b.clock + 1) bs

@@ -12,8 +12,8 @@ ghost use Rattle.rb_shadow.specs.Sound.{is_foreign};
 ghost use Rattle.rb_ledger.specs.OperationLists.{IsOfSites, clock_count};
 
 use crate::OperationRef;
-use crate::body::Body;
 use crate::clock_list::ClockList;
+use crate::kept_operation::KeptOperation;
 use crate::prefix::Prefix;
 use rb_money::Place;
 use rb_shadow::Shadow;
@@ -25,7 +25,7 @@ use std::marker::Model;
 /// as an operation's own entry is its number less 1.
 #[derive(Drop)]
 pub struct OperationList {
-    bodies: Vec<Body>,
+    kept: Vec<KeptOperation>,
     /// Operations that a site made one after another, without hearing of others, have one clock but for their own
     /// entries.
     clocks: ClockList,
@@ -39,15 +39,15 @@ impl Model for OperationList {
     ghost Value = { OperationTable };
 
     ghost view = { λ l. record {
-      items = operations_of l.clocks.sites l.bodies.items l.clocks.items;
+      items = operations_of l.clocks.sites l.kept.items l.clocks.items;
       sites = l.clocks.sites;
       limit = l.limit;
     } };
 
     ghost invariant = { λ l. record {
-      clocks : length l.clocks.items ≡ clock_count 0 l.bodies.items;
-      order : AreInOrder 0 l.bodies.items;
-      bodies_fit : l.limit ≤ vec_capacity l.bodies;
+      clocks : length l.clocks.items ≡ clock_count 0 l.kept.items;
+      order : AreInOrder 0 l.kept.items;
+      operations_fit : l.limit ≤ vec_capacity l.kept;
       clocks_fit : l.limit ≤ l.clocks.limit;
     } };
 }
@@ -61,7 +61,7 @@ impl OperationList {
         ensures limit { result.limit ≡ 0 }
     {
         OperationList {
-            bodies: Vec::new(alloc),
+            kept: Vec::new(alloc),
             clocks: ClockList::new(alloc, sites),
             limit: 0,
         }
@@ -71,7 +71,7 @@ impl OperationList {
     pub fn len(&self) -> usize
         ensures { result ≡ length self.now.items }
     {
-        self.bodies.len()
+        self.kept.len()
     }
 
     /// Of how many sites the entries of each clock are kept.
@@ -103,9 +103,9 @@ impl OperationList {
     pub fn at(&self, index: usize) -> Option<OperationRef<'_>>
         ensures { result ≡ slice_get self.now.items index }
     {
-        let body = self.bodies.get(index)?;
+        let kept = self.kept.get(index)?;
         Some(OperationRef {
-            body,
+            kept,
             clocks: &self.clocks,
         })
     }
@@ -120,11 +120,11 @@ impl OperationList {
         requires own { entry_of shadow.now.deps shadow.now.name + 1 ≡ number_of shadow.now.name }
         ensures { IsTrue result → slice_get self.now.items index ≡ Some shadow.now }
     {
-        let body = &self.bodies[index];
-        body.is_of(shadow)
+        let kept = &self.kept[index];
+        kept.is_of(shadow)
             && self
                 .clocks
-                .is_at(body.clock as usize, &shadow.deps, shadow.name)
+                .is_at(kept.clock as usize, &shadow.deps, shadow.name)
     }
 
     /// The second account of a transfer at an index, from 0.
@@ -133,7 +133,7 @@ impl OperationList {
         requires { index < length self.now.items }
         ensures { (d : TheShadow) → result ≡ receiver_of (slice_index_or self.now.items index d).kind }
     {
-        self.bodies[index].kind.receiver()
+        self.kept[index].kind.receiver()
     }
 
     /// The last operations, from an index on. `Err` means out of memory.
@@ -155,7 +155,7 @@ impl OperationList {
     {
         Prefix {
             all: self,
-            count: self.bodies.len(),
+            count: self.kept.len(),
         }
     }
 
@@ -181,7 +181,7 @@ impl OperationList {
         ensures limit { self.new.limit ≡ self.old.limit }
     {
         let clock = self.clocks.keep(shadow);
-        self.bodies.push_reserved(Body {
+        self.kept.push_reserved(KeptOperation {
             colour: shadow.name.colour(),
             home: shadow.home,
             account: shadow.account,
@@ -198,8 +198,8 @@ impl OperationList {
         ensures sites { self.new.sites ≡ self.old.sites }
         ensures limit { self.new.limit ≡ self.old.limit }
     {
-        if self.bodies.pop().is_some() {
-            self.clocks.truncate(kept_clocks(&self.bodies));
+        if self.kept.pop().is_some() {
+            self.clocks.truncate(kept_clocks(&self.kept));
         }
     }
 
@@ -215,8 +215,8 @@ impl OperationList {
         if limit <= self.limit {
             return Ok(());
         }
-        self.bodies
-            .reserve_exact(limit.saturating_sub(self.bodies.len()))?;
+        self.kept
+            .reserve_exact(limit.saturating_sub(self.kept.len()))?;
         self.clocks.reserve(limit)?;
         self.limit = limit;
         Ok(())
@@ -225,11 +225,11 @@ impl OperationList {
 
 /// How many clocks are kept for operations.
 #[inline(always)]
-fn kept_clocks(bodies: &[Body]) -> usize
-    ensures { result ≡ clock_count 0 bodies.now }
+fn kept_clocks(kept: &[KeptOperation]) -> usize
+    ensures { result ≡ clock_count 0 kept.now }
 {
-    match bodies.last() {
-        Some(body) => body.clock as usize + 1,
+    match kept.last() {
+        Some(last) => last.clock as usize + 1,
         None => 0,
     }
 }

@@ -1,9 +1,9 @@
 //! An operation, where a list keeps it.
 ghost use Rattle.std.specs.Prelude.{◌≡◌};
 
-use crate::body::Body;
 use crate::clock_list::ClockList;
 use crate::counts::{FEW_SITES, clock};
+use crate::kept_operation::KeptOperation;
 use rb_money::Place;
 use rb_shadow::{Kind, OpName, Shadow};
 use std::marker::Model;
@@ -11,7 +11,7 @@ use std::marker::Model;
 /// An operation as a list keeps it. Clients see the operation.
 #[derive(Drop)]
 pub struct OperationRef<'a> {
-    pub(crate) body: &'a Body,
+    pub(crate) kept: &'a KeptOperation,
     /// The clocks, of which one is its own, but for its own entry.
     pub(crate) clocks: &'a ClockList,
 }
@@ -23,10 +23,10 @@ impl<'a> Model for OperationRef<'a> {
 
     ghost Value = { Shadow };
 
-    ghost view = { λ k. with_counts k.clocks.now.sites k.body.now
-        (slice_index_or k.clocks.now.items k.body.now.clock []) };
+    ghost view = { λ k. with_counts k.clocks.now.sites k.kept.now
+        (slice_index_or k.clocks.now.items k.kept.now.clock []) };
 
-    ghost invariant = { λ k. k.body.now.clock < length k.clocks.now.items };
+    ghost invariant = { λ k. k.kept.now.clock < length k.clocks.now.items };
 }
 
 impl<'a> OperationRef<'a> {
@@ -35,7 +35,7 @@ impl<'a> OperationRef<'a> {
     pub fn name(&self) -> OpName
         ensures { result ≡ self.now.name }
     {
-        self.body.name()
+        self.kept.name()
     }
 
     /// Its account.
@@ -43,7 +43,7 @@ impl<'a> OperationRef<'a> {
     pub fn account(&self) -> Place
         ensures { result ≡ self.now.account }
     {
-        self.body.account
+        self.kept.account
     }
 
     /// Its amount, in cents.
@@ -51,7 +51,7 @@ impl<'a> OperationRef<'a> {
     pub fn amount(&self) -> u64
         ensures { result ≡ self.now.amount }
     {
-        self.body.amount
+        self.kept.amount
     }
 
     /// Its kind.
@@ -59,7 +59,7 @@ impl<'a> OperationRef<'a> {
     pub fn kind(&self) -> Kind
         ensures { result ≡ self.now.kind }
     {
-        self.body.kind
+        self.kept.kind
     }
 
     /// The operation.
@@ -67,9 +67,9 @@ impl<'a> OperationRef<'a> {
     pub fn shadow(&self) -> Shadow
         ensures { result ≡ self.now }
     {
-        let body = self.body;
-        let name = body.name();
-        let index = body.clock as usize;
+        let kept = self.kept;
+        let name = kept.name();
+        let index = kept.clock as usize;
         let deps = if self.clocks.sites() > FEW_SITES {
             clock(&self.clocks.at(index), name)
         } else {
@@ -77,11 +77,11 @@ impl<'a> OperationRef<'a> {
         };
         Shadow {
             name,
-            home: body.home,
-            account: body.account,
+            home: kept.home,
+            account: kept.account,
             deps,
-            amount: body.amount,
-            kind: body.kind,
+            amount: kept.amount,
+            kind: kept.kind,
         }
     }
 }

@@ -3,4 +3,4 @@ use Rattle.rb_ledger.proofs.OperationTables
 use Rattle.rb_ledger.proofs.operation_list.kept_clocks.Goals as goal
 
 pub returns-in-Some : goal.returns-in-Some
-returns-in-Some c = sym (OperationTables.count_last 0 c.args.bodies.now c.in-Some.body.now (sym c.in-Some.ensures.value))
+returns-in-Some c = sym (OperationTables.count_last 0 c.args.kept.now c.in-Some.last.now (sym c.in-Some.ensures.value))

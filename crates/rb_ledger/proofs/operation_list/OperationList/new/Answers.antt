@@ -7,6 +7,6 @@ pub invariant_of-result : goal.invariant_of-result
 invariant_of-result c = record {
   clocks = ap length c.new-2.ensures.items ∙ omega (arith, ap (λ bs. clock_count 0 bs) c.new.ensures.items);
   order = OperationTables.none_in_order c.new.result.items c.new.ensures.items;
-  bodies_fit = omega arith;
+  operations_fit = omega arith;
   clocks_fit = omega arith;
 }

@@ -8,17 +8,17 @@ pub index-requires : goal.index-requires
 index-requires c = omega (
   arith,
   c.requires,
-  c.self.inside.bodies.ok.0,
-  OperationTables.as_many c.self.inside.clocks.sites c.self.inside.bodies.items c.self.inside.clocks.items,
+  c.self.inside.kept.ok.0,
+  OperationTables.as_many c.self.inside.clocks.sites c.self.inside.kept.items c.self.inside.clocks.items,
   ap (λ (t : OperationTable). length t.items) c.self.view_is,
 )
 
 pub returns : goal.returns
 returns c = λ d.
-    let near : c.args.index < length c.self.inside.bodies.items = omega (
+    let near : c.args.index < length c.self.inside.kept.items = omega (
       arith,
       c.requires,
-      OperationTables.as_many c.self.inside.clocks.sites c.self.inside.bodies.items c.self.inside.clocks.items,
+      OperationTables.as_many c.self.inside.clocks.sites c.self.inside.kept.items c.self.inside.clocks.items,
       ap (λ (t : OperationTable). length t.items) c.self.view_is,
     ) in
     c.receiver.ensures

@@ -9,7 +9,7 @@ use rb_shadow::{Colour, Kind, OpName, Shadow};
 /// An operation without the entries of its clock. The fields lie in this order, in 32 bytes: of the name there is no
 /// site, as a blue one's is the home.
 #[derive(Clone, Copy)]
-pub struct Body {
+pub struct KeptOperation {
     pub colour: Colour,
     pub home: u8,
     pub account: Place,
@@ -21,7 +21,7 @@ pub struct Body {
     pub amount: u64,
 }
 
-impl Body {
+impl KeptOperation {
     /// The operation's name.
     #[inline(always)]
     pub fn name(&self) -> OpName
