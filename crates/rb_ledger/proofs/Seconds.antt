@@ -38,3 +38,7 @@ pub second_kept : (s : Settings) (us : List Shadow) (h : Shadow) (b : Place) (n 
     n ≡ unwrap_or (option_map (λ a. cents (bal s us a)) (other_of us h.kind)) 0 → other_of us h.kind ≡ Some b → pos n ≡ bal s us b
 second_kept s us h b n valid is there = Legal.kept_balance s us b n valid (is
     ∙ ap (λ o. unwrap_or (option_map (λ a. cents (bal s us a)) o) 0) there)
+
+-- there is one second account at most
+pub same_second : (a b : Place) → Some a ≡ Some b → a ≡ b
+same_second a b e = cc

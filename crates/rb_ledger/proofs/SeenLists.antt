@@ -1,13 +1,13 @@
 -- What a ledger's parts are for the list that its clients see.
 use Rattle.std.proofs.Common.{◌≡◌, ℕ, List}
-use Rattle.std.proofs.Common.{subst, ap, ◌∙◌}
+use Rattle.std.proofs.Common.{subst, ap, sym, ◌∙◌}
 use Rattle.rb_money.specs.Settings.{Settings}
 use Rattle.rb_shadow.specs.declared.shadow.Shadow.{Shadow}
 use Rattle.rb_ledger.specs.declared.marks.Links.{Links}
 use Rattle.rb_ledger.specs.declared.index.Index.{Index}
 use Rattle.rb_ledger.specs.declared.checkpoints.Checkpoints.{Checkpoints}
-use Rattle.rb_ledger.specs.Book.{Book}
-use Rattle.rb_ledger.specs.Index.{AreLinks, IsIndex}
+use Rattle.rb_ledger.specs.Book.{Book, IsClocked}
+use Rattle.rb_ledger.specs.Index.{AreHeads, AreIndexRows, AreLinks, IsIndex}
 use Rattle.rb_ledger.specs.Checkpoints.{AreCheckpoints}
 
 -- the index of the list that is seen
@@ -33,3 +33,14 @@ book s us n = record { settings = s; entries = us; room = n }
 pub same_book : (s t : Settings) (us vs : List Shadow) (m n : ℕ) (b : Book) → book s us m ≡ b → t ≡ s → vs ≡ us → n ≡ m → book t vs n ≡ b
 same_book s t us vs m n b seen settings entries room = ap (λ r. book r vs n) settings ∙ ap (λ ws. book s ws n) entries
     ∙ ap (book s us) room ∙ seen
+
+-- an index of equal parts
+pub same_index : (s : Settings) (us vs : List Shadow) (x y : Index) → IsIndex s us x → vs ≡ us → y.config ≡ x.config → y.clock ≡ x.clock
+    → y.cancels.items ≡ x.cancels.items → y.heads.items ≡ x.heads.items → y.rows.rows ≡ x.rows.rows → IsIndex s vs y
+same_index s us vs x y index items config clock cancels heads rows = subst (λ ws. IsIndex s ws y) (sym items) (record {
+  config = config ∙ index.config;
+  clocked = subst (IsClocked s us) (sym clock) index.clocked;
+  cancels = cancels ∙ index.cancels;
+  heads = subst (AreHeads s us) (sym heads) index.heads;
+  rows = subst (AreIndexRows s us) (sym rows) index.rows;
+})

@@ -1,6 +1,5 @@
-use Rattle.std.proofs.Common.{◌≡◌, ◌∷◌, ◌++◌, [], Some, refl, ap, sym, ◌∙◌, subst, arith}
+use Rattle.std.proofs.Common.{◌∷◌, ◌++◌, [], refl, ap, sym, ◌∙◌, subst, arith}
 use Rattle.std.specs.Prelude.{pos}
-use Rattle.rb_money.specs.declared.place.Place.{Place}
 use Rattle.rb_shadow.specs.Operations.{bal}
 use Rattle.rb_undo.specs.declared.parts.UndoParts.{UndoParts}
 use Rattle.rb_ledger.specs.Index.{IsLink}
@@ -11,10 +10,6 @@ use Rattle.rb_ledger.proofs.Public.Legal
 use Rattle.rb_ledger.proofs.Others
 use Rattle.rb_ledger.proofs.Overdraws
 use Rattle.rb_ledger.proofs.ledger.Ledger.links_of.Goals as goal
-
--- what an option holds is one
-one : (a b : Place) → Some a ≡ Some b → a ≡ b
-one a b e = cc
 
 pub moved_by-added-requires-clause-valid : goal.moved_by-added-requires-clause-valid
 moved_by-added-requires-clause-valid c = Legal.IsValid-front c.args.self.now.settings c.args.self.now.entries (c.args.shadow.now
@@ -141,7 +136,7 @@ returns c =
         earlier = c.link-own.ensures.earlier;
       });
       other = λ b second. subst (λ a. IsLink s us after a c.link-other.result)
-          (one _ _ (sym there ∙ second)) (record {
+          (Seconds.same_second _ _ (sym there ∙ second)) (record {
             balance = ap pos c.link-other.ensures.balance ∙ other_now;
             earlier = c.link-other.ensures.earlier;
           });
