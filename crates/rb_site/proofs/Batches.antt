@@ -87,16 +87,16 @@ as_many s me base vs view rs runs = batch_length s me base (seen view) 0 rs vs (
 -- ---- the records of a batch
 
 -- the log has the list's records, whether a batch was made or refused
-pub journaled : {A : Type 0} (X : A → Type 0) (Y : Refusal → Type 0) (r : Result A Refusal) (s now : Settings) (us later : List Shadow)
+pub recorded_after : {A : Type 0} (X : A → Type 0) (Y : Refusal → Type 0) (r : Result A Refusal) (s now : Settings) (us later : List Shadow)
     (ps qs : List UndoParts) → now ≡ s → ps ≡ records_of s us
     → ((a : A) → X a → (made : List Shadow) × (later ≡ us ++ made) × (qs ≡ ps ++ logged s us made)) →
     ((why : Refusal) → Y why → (later ≡ us) × (qs ≡ ps)) → IfOk r X → IfErr r Y → qs ≡ records_of now later
-journaled X Y (Ok a) s now us later ps qs same kept more less ok err =
+recorded_after X Y (Ok a) s now us later ps qs same kept more less ok err =
     let (made, grown, noted) = more a ok in
     noted ∙ ap (λ rs. rs ++ logged s us made) kept ∙ sym (Records.records_of-append s us made)
     ∙ ap (records_of s) (sym grown)
     ∙ ap (λ z. records_of z later) (sym same)
-journaled X Y (Err why) s now us later ps qs same kept more less ok err =
+recorded_after X Y (Err why) s now us later ps qs same kept more less ok err =
     let (back, noted) = less why err in
     noted ∙ kept ∙ ap (records_of s) (sym back)
     ∙ ap (λ z. records_of z later) (sym same)

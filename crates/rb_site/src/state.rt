@@ -13,8 +13,8 @@ ghost use Rattle.rb_scratch.specs.declared.request.TheConstants.{MOST_REQUESTS};
 ghost use Rattle.rb_site.specs.Events.{first_site, outcome_of, outcome_of_new};
 ghost use Rattle.rb_site.specs.States.{Follows, Says, noting, plain};
 
-use crate::journal::Journal;
 use crate::noted_reply::give;
+use crate::recorded_ledger::RecordedLedger;
 use crate::{Event, Message, Reply};
 use rb_inbox::{Inbox, PutAnswer};
 use rb_kit::List;
@@ -22,7 +22,7 @@ use rb_ledger::{Ledger, OperationList};
 use rb_money::{Config, Place, Refusal};
 use rb_scratch::{MOST_REQUESTS, Request, generate};
 use rb_shadow::{OpName, Shadow};
-use rb_statements::{empty_statement, statement};
+use rb_statements::{balance_at, empty_statement, statement};
 use rb_token::{Accepted, TokenMessage, TokenState};
 use rb_undo::UndoLog;
 use rb_vclock::Clock;
@@ -32,7 +32,7 @@ use std::marker::Model;
 /// What a site applied, what it holds, and what it knows of the token.
 pub struct State {
     alloc: Global,
-    journal: Journal,
+    recorded: RecordedLedger,
     inbox: Inbox,
     token: TokenState,
 }
@@ -44,11 +44,11 @@ impl Model for State {
     ghost Value = { SiteState };
 
     ghost view = { λ s. record {
-      settings = s.journal.settings;
-      site = record { me = s.token.me; ops = s.journal.ops; held = s.inbox.held; token = s.token.token; history = [] };
+      settings = s.recorded.settings;
+      site = record { me = s.token.me; ops = s.recorded.ops; held = s.inbox.held; token = s.token.token; history = [] };
     } };
 
-    ghost invariant = { λ s. IsTied s.journal.settings s.inbox s.token };
+    ghost invariant = { λ s. IsTied s.recorded.settings s.inbox s.token };
 }
 
 impl State {
@@ -57,10 +57,10 @@ impl State {
         requires { me < config.now.sites }
         ensures { IfOk result (λ state. (state.settings ≡ config.now) × (state.site ≡ first_site me)) }
     {
-        let journal = Journal::open(alloc, config)?;
+        let recorded = RecordedLedger::open(alloc, config)?;
         Ok(State {
             alloc,
-            journal,
+            recorded,
             inbox: Inbox::open(alloc, config.limits().inbox),
             token: TokenState::open(me, config),
         })
@@ -70,7 +70,7 @@ impl State {
     pub fn config(&self) -> &Config
         ensures { result.now ≡ self.now.settings }
     {
-        self.journal.config()
+        self.recorded.ledger().config()
     }
 
     /// The site's number.
@@ -86,14 +86,14 @@ impl State {
         ensures settings { result.now.settings ≡ self.now.settings }
         ensures entries { result.now.entries ≡ self.now.site.ops }
     {
-        self.journal.ledger()
+        self.recorded.ledger()
     }
 
     /// The undo records: the k-th is that of the first k operations.
     pub fn log(&self) -> &UndoLog
         ensures { result.now.parts ≡ records_of self.now.settings self.now.site.ops }
     {
-        self.journal.log()
+        self.recorded.log()
     }
 
     /// What the site holds.
@@ -125,11 +125,11 @@ impl State {
     {
         let State {
             alloc: _,
-            journal,
+            recorded,
             inbox: _,
             token,
         } = self;
-        let (entries, clock) = journal.close();
+        let (entries, clock) = recorded.close();
         (entries, clock, token)
     }
 
@@ -154,11 +154,20 @@ impl State {
             Event::Submit(request) => self.submit(request, sent, reply),
             Event::Batch(requests) => self.batch(requests, keeps, sent, reply, noted),
             Event::Receive(Message::Shadow(shadow)) => self.receive(shadow, reply),
-            Event::Receive(Message::Token(message)) => Ok(self.accept(message, reply)),
+            Event::Receive(Message::Token(message)) => {
+                self.accept(message, reply);
+                Ok(())
+            }
             Event::Apply(name) => self.apply(name, reply),
             Event::Pass(to) => self.pass(*to, sent, reply),
-            Event::Balance(place) => Ok(self.balance(*place, reply)),
-            Event::AsOf(place, position) => Ok(self.as_of(*place, *position, reply)),
+            Event::Balance(place) => {
+                self.balance(*place, reply);
+                Ok(())
+            }
+            Event::AsOf(place, position) => {
+                self.as_of(*place, *position, reply);
+                Ok(())
+            }
             Event::Statement(place) => self.statement(*place, keeps, reply, noted),
         }
     }
@@ -175,16 +184,20 @@ impl State {
             (outcome_of self.old.settings self.old.site (Event.Submit request.now)) (plain reply.new)) }
         ensures err { OnErr result ((self.new ≡ self.old) × (sent.new.items ≡ sent.old.items)) }
     {
-        let shadow = match generate(self.journal.ledger(), &self.token.view(), request) {
+        let shadow = match generate(self.recorded.ledger(), &self.token.view(), request) {
             Ok(shadow) => shadow,
-            Err(why) => return Ok(give(reply, Reply::Refused(why))),
+            Err(why) => {
+                give(reply, Reply::Refused(why));
+                return Ok(());
+            }
         };
         sent.reserve(1)?;
-        self.journal.apply_made(&shadow)?;
+        self.recorded.apply_made(&shadow)?;
         sent.push_reserved(Message::Shadow(shadow));
         let name = shadow.name;
         let kind = shadow.kind.label();
-        Ok(give(reply, Reply::Made { name, kind }))
+        give(reply, Reply::Made { name, kind });
+        Ok(())
     }
 
     /// The requests of a batch are decided here one after another, and their shadows are applied
@@ -205,20 +218,25 @@ impl State {
     {
         let asked = requests.as_slice();
         if !is_batch(asked.len()) {
-            return Ok(give(reply, Reply::Refused(Refusal::BadBatch)));
+            give(reply, Reply::Refused(Refusal::BadBatch));
+            return Ok(());
         }
         let token = self.token.view();
         let made = self
-            .journal
+            .recorded
             .batch(self.alloc, token, asked, reply, keeps, sent);
         let why = match made {
-            Ok(made) => return Ok(made.put(reply, noted)),
+            Ok(made) => {
+                made.put(reply, noted);
+                return Ok(());
+            }
             Err(why) => why,
         };
         if let Refusal::OutOfMemory = why {
             return Err(AllocError);
         }
-        Ok(give(reply, Reply::Refused(why)))
+        give(reply, Reply::Refused(why));
+        Ok(())
     }
 
     /// A shadow from another site is held until it is applied.
@@ -230,11 +248,14 @@ impl State {
             (plain reply.new)) }
         ensures err { OnErr result (self.new ≡ self.old) }
     {
-        if let Err(why) = shadow.sound(self.journal.config()) {
-            return Ok(give(reply, Reply::Refused(why)));
+        let ledger = self.recorded.ledger();
+        if let Err(why) = shadow.sound(ledger.config()) {
+            give(reply, Reply::Refused(why));
+            return Ok(());
         }
-        if let Some(same) = self.journal.knows(shadow) {
-            return Ok(again(shadow, same, reply));
+        if let Some(same) = ledger.knows(shadow) {
+            again(shadow, same, reply);
+            return Ok(());
         }
         self.receive_new(shadow, reply)
     }
@@ -250,7 +271,8 @@ impl State {
         ensures err { OnErr result (self.new ≡ self.old) }
     {
         if shadow.home == self.token.view().me {
-            return Ok(give(reply, Reply::Refused(Refusal::Conflict)));
+            give(reply, Reply::Refused(Refusal::Conflict));
+            return Ok(());
         }
         self.hold(shadow, reply)
     }
@@ -264,16 +286,24 @@ impl State {
         ensures err { OnErr result (self.new ≡ self.old) }
     {
         // For a fact alone: the operations are a valid list, of at most `MOST_SITES` sites.
-        let _sites = self.journal.config().sites();
-        let why = match self.inbox.put_copy(shadow, self.journal.clock()) {
-            Ok(PutAnswer::Held) => return Ok(give(reply, Reply::Held(shadow.name))),
-            Ok(PutAnswer::Already) => return Ok(give(reply, Reply::Already(shadow.name))),
+        let ledger = self.recorded.ledger();
+        let _sites = ledger.config().sites();
+        let why = match self.inbox.put_copy(shadow, ledger.clock()) {
+            Ok(PutAnswer::Held) => {
+                give(reply, Reply::Held(shadow.name));
+                return Ok(());
+            }
+            Ok(PutAnswer::Already) => {
+                give(reply, Reply::Already(shadow.name));
+                return Ok(());
+            }
             Err(why) => why,
         };
         if let Refusal::OutOfMemory = why {
             return Err(AllocError);
         }
-        Ok(give(reply, Reply::Refused(why)))
+        give(reply, Reply::Refused(why));
+        Ok(())
     }
 
     /// A token message makes this site the holder, unless its epoch was seen.
@@ -299,25 +329,32 @@ impl State {
     {
         let (index, held) = self.inbox.find(name);
         let Some(held) = held else {
-            return Ok(give(reply, Reply::Refused(Refusal::NotHeld)));
+            give(reply, Reply::Refused(Refusal::NotHeld));
+            return Ok(());
         };
-        if !self.journal.is_eligible(held) {
-            return Ok(give(reply, Reply::Refused(Refusal::NotReady)));
+        if !self.recorded.ledger().is_eligible(held) {
+            give(reply, Reply::Refused(Refusal::NotReady));
+            return Ok(());
         }
         let name = held.name;
-        let why = match self.journal.apply(held) {
+        let why = match self.recorded.apply(held) {
             Ok(()) => {
                 self.inbox.remove_at(&name, index);
-                return Ok(give(reply, Reply::Applied(name)));
+                give(reply, Reply::Applied(name));
+                return Ok(());
             }
             Err(why) => why,
         };
         match why {
             Refusal::OutOfMemory => Err(AllocError),
-            Refusal::NotReady => Ok(give(reply, Reply::Refused(Refusal::NotReady))),
+            Refusal::NotReady => {
+                give(reply, Reply::Refused(Refusal::NotReady));
+                Ok(())
+            }
             why => {
                 self.inbox.remove_at(&name, index);
-                Ok(give(reply, Reply::Refused(why)))
+                give(reply, Reply::Refused(why));
+                Ok(())
             }
         }
     }
@@ -331,14 +368,18 @@ impl State {
         ensures err { OnErr result ((self.new ≡ self.old) × (sent.new.items ≡ sent.old.items)) }
     {
         let mut passed = self.token.copy();
-        let message = match passed.pass(to, self.journal.clock()) {
+        let message = match passed.pass(to, self.recorded.ledger().clock()) {
             Ok(message) => message,
-            Err(why) => return Ok(give(reply, Reply::Refused(why))),
+            Err(why) => {
+                give(reply, Reply::Refused(why));
+                return Ok(());
+            }
         };
         sent.reserve(1)?;
         sent.push_reserved(Message::Token(message));
         self.token = passed;
-        Ok(give(reply, Reply::Passed(message.epoch)))
+        give(reply, Reply::Passed(message.epoch));
+        Ok(())
     }
 
     /// An account's balance.
@@ -348,7 +389,7 @@ impl State {
         ensures { Follows true self.now self.now [] [] (outcome_of self.now.settings self.now.site
             (Event.Balance place)) (plain reply.new) }
     {
-        match self.journal.ledger().balance(place) {
+        match self.recorded.ledger().balance(place) {
             Some(cents) => give(reply, Reply::Balance(cents)),
             None => give(reply, Reply::Refused(Refusal::UnknownAccount)),
         }
@@ -361,7 +402,7 @@ impl State {
         ensures { Follows true self.now self.now [] [] (outcome_of self.now.settings self.now.site
             (Event.AsOf place position)) (plain reply.new) }
     {
-        match self.journal.as_of(place, position) {
+        match balance_at(self.recorded.ledger(), place, position) {
             Ok(cents) => give(reply, Reply::Balance(cents)),
             Err(why) => give(reply, Reply::Refused(why)),
         }
@@ -385,8 +426,11 @@ impl State {
         if keeps {
             return self.any_statement(place, keeps, reply, noted);
         }
-        match empty_statement(self.alloc, self.journal.ledger(), place) {
-            Some(shown) => Ok(*reply = Reply::Statement(shown)),
+        match empty_statement(self.alloc, self.recorded.ledger(), place) {
+            Some(shown) => {
+                *reply = Reply::Statement(shown);
+                Ok(())
+            }
             None => self.any_statement(place, keeps, reply, noted),
         }
     }
@@ -405,10 +449,13 @@ impl State {
         ensures { OnOk result (Follows keeps self.now self.now [] []
             (outcome_of self.now.settings self.now.site (Event.Statement place)) (noting reply.new noted.new)) }
     {
-        let shown = match statement(self.alloc, self.journal.ledger(), place) {
+        let shown = match statement(self.alloc, self.recorded.ledger(), place) {
             Ok(shown) => shown,
             Err(Refusal::OutOfMemory) => return Err(AllocError),
-            Err(why) => return Ok(give(reply, Reply::Refused(why))),
+            Err(why) => {
+                give(reply, Reply::Refused(why));
+                return Ok(());
+            }
         };
         if keeps {
             let copy = shown.try_copy(self.alloc)?;

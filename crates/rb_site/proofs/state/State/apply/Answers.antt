@@ -13,7 +13,7 @@ use Rattle.rb_site.proofs.Handlers.{tied_as, tied_without, waits}
 use Rattle.rb_site.proofs.state.State.apply.Goals as goal
 
 pub invariant_of-self : goal.invariant_of-self
-invariant_of-self c = tied_without c.self.inside.journal.settings c.apply.new.self.settings c.self.inside.inbox c.remove_at.new.self
+invariant_of-self c = tied_without c.self.inside.recorded.settings c.apply.new.self.settings c.self.inside.inbox c.remove_at.new.self
     c.self.inside.token c.in-Some.held.now.name (ap (λ (b : SeenLedger). b.settings) c.in-Ok.ensures.applied) c.remove_at.ensures
     c.self.invariant
 
@@ -24,21 +24,22 @@ returns-in-Ok-clause-ok c =
     let P : SiteState → Type 0 = λ z. AnswersAlone z now (outcome_of z.settings z.site (Apply c.args.name.now))
     (plain c.give-in-Ok.new.place) in
     subst P c.self.view_is
-    (let old : SiteState = state_as c.self.inside.journal.settings c.self.inside.token.me c.self.inside.journal.ops c.self.inside.inbox.held
+    (let old : SiteState = state_as c.self.inside.recorded.settings c.self.inside.token.me c.self.inside.recorded.ops c.self.inside.inbox.held
     c.self.inside.token.token in
     let Q : Settings → Type 0 = λ s. AnswersAlone old (state_as s c.self.inside.token.me c.apply.new.self.ops c.remove_at.new.self.held
     c.self.inside.token.token) (outcome_of old.settings old.site (Apply c.args.name.now)) (plain c.give-in-Ok.new.place) in
     subst Q (sym (ap (λ (b : SeenLedger). b.settings) c.in-Ok.ensures.applied))
-    (applies c.self.inside.journal.settings c.self.inside.token.me c.self.inside.journal.ops c.self.inside.inbox.held c.apply.new.self.ops
+    (applies c.self.inside.recorded.settings c.self.inside.token.me c.self.inside.recorded.ops c.self.inside.inbox.held c.apply.new.self.ops
     c.remove_at.new.self.held c.self.inside.token.token c.args.name.now c.in-Some.held.now (plain c.give-in-Ok.new.place)
-    (sym c.find-index.ensures.held ∙ ap option_copied c.in-Some.is) (sym c.is_eligible.ensures ∙ c.if-not-is_eligible.false)
-    (held_sound c.self.inside.journal.settings c.self.inside.inbox.held c.args.name.now c.in-Some.held.now c.self.invariant.sound
+    (sym c.find-index.ensures.held ∙ ap option_copied c.in-Some.is) (ap (λ us. is_eligible us c.in-Some.held.now) (sym c.ledger.ensures.entries) ∙ sym c.is_eligible.ensures
+    ∙ c.if-not-is_eligible.false)
+    (held_sound c.self.inside.recorded.settings c.self.inside.inbox.held c.args.name.now c.in-Some.held.now c.self.invariant.sound
     (sym c.find-index.ensures.held ∙ ap option_copied c.in-Some.is))
     c.in-Ok.ensures.taken (ap (λ (b : SeenLedger). b.ops) c.in-Ok.ensures.applied) (ap (λ (b : Holding). b.held) c.remove_at.ensures)
     c.give-in-Ok.ensures))
 
 pub invariant_of-self-in_default-why : goal.invariant_of-self-in_default-why
-invariant_of-self-in_default-why c = tied_without c.self.inside.journal.settings c.apply.new.self.settings c.self.inside.inbox
+invariant_of-self-in_default-why c = tied_without c.self.inside.recorded.settings c.apply.new.self.settings c.self.inside.inbox
     c.remove_at-in_default-why.new.self c.self.inside.token c.in-Some.held.now.name
     (ap (λ (b : SeenLedger). b.settings) c.in-Err.ensures.refused.0) c.remove_at-in_default-why.ensures c.self.invariant
 
@@ -49,15 +50,16 @@ returns-in-NotReady-clause-ok c =
     let P : SiteState → Type 0 = λ z. AnswersAlone z now (outcome_of z.settings z.site (Apply c.args.name.now))
     (plain c.give-in-NotReady.new.place) in
     subst P c.self.view_is
-    (let old : SiteState = state_as c.self.inside.journal.settings c.self.inside.token.me c.self.inside.journal.ops c.self.inside.inbox.held
+    (let old : SiteState = state_as c.self.inside.recorded.settings c.self.inside.token.me c.self.inside.recorded.ops c.self.inside.inbox.held
     c.self.inside.token.token in
     let Q : SeenLedger → Type 0 = λ b. AnswersAlone old (state_as b.settings c.self.inside.token.me b.ops c.self.inside.inbox.held
     c.self.inside.token.token) (outcome_of old.settings old.site (Apply c.args.name.now)) (plain c.give-in-NotReady.new.place) in
     subst Q (sym c.in-Err.ensures.refused.0)
-    (waits c.self.inside.journal.settings c.self.inside.token.me c.self.inside.journal.ops c.self.inside.inbox.held
+    (waits c.self.inside.recorded.settings c.self.inside.token.me c.self.inside.recorded.ops c.self.inside.inbox.held
     c.self.inside.token.token c.args.name.now c.in-Some.held.now (plain c.give-in-NotReady.new.place)
-    (sym c.find-index.ensures.held ∙ ap option_copied c.in-Some.is) (sym c.is_eligible.ensures ∙ c.if-not-is_eligible.false)
-    (held_sound c.self.inside.journal.settings c.self.inside.inbox.held c.args.name.now c.in-Some.held.now c.self.invariant.sound
+    (sym c.find-index.ensures.held ∙ ap option_copied c.in-Some.is) (ap (λ us. is_eligible us c.in-Some.held.now) (sym c.ledger.ensures.entries) ∙ sym c.is_eligible.ensures
+    ∙ c.if-not-is_eligible.false)
+    (held_sound c.self.inside.recorded.settings c.self.inside.inbox.held c.args.name.now c.in-Some.held.now c.self.invariant.sound
     (sym c.find-index.ensures.held ∙ ap option_copied c.in-Some.is))
     (refusal_is c.in-Err.why _ c.in-Err.ensures.refused.1 (not_memory c.in-Err.why c.in-NotReady.is)
     ∙ ap Some c.in-NotReady.is) c.give-in-NotReady.ensures))
@@ -69,17 +71,18 @@ returns-in_default-why-clause-ok c =
     let P : SiteState → Type 0 = λ z. AnswersAlone z now (outcome_of z.settings z.site (Apply c.args.name.now))
     (plain c.give-in_default-why.new.place) in
     subst P c.self.view_is
-    (let old : SiteState = state_as c.self.inside.journal.settings c.self.inside.token.me c.self.inside.journal.ops c.self.inside.inbox.held
+    (let old : SiteState = state_as c.self.inside.recorded.settings c.self.inside.token.me c.self.inside.recorded.ops c.self.inside.inbox.held
     c.self.inside.token.token in
     let Q : SeenLedger → Type 0 = λ b. AnswersAlone old (state_as b.settings c.self.inside.token.me b.ops
     c.remove_at-in_default-why.new.self.held c.self.inside.token.token) (outcome_of old.settings old.site (Apply c.args.name.now))
     (plain c.give-in_default-why.new.place) in
     subst Q (sym c.in-Err.ensures.refused.0)
-    (drops c.self.inside.journal.settings c.self.inside.token.me c.self.inside.journal.ops c.self.inside.inbox.held
+    (drops c.self.inside.recorded.settings c.self.inside.token.me c.self.inside.recorded.ops c.self.inside.inbox.held
     c.remove_at-in_default-why.new.self.held c.self.inside.token.token c.args.name.now c.in-Some.held.now c.in-Err.why
     (plain c.give-in_default-why.new.place)
-    (sym c.find-index.ensures.held ∙ ap option_copied c.in-Some.is) (sym c.is_eligible.ensures ∙ c.if-not-is_eligible.false)
-    (held_sound c.self.inside.journal.settings c.self.inside.inbox.held c.args.name.now c.in-Some.held.now c.self.invariant.sound
+    (sym c.find-index.ensures.held ∙ ap option_copied c.in-Some.is) (ap (λ us. is_eligible us c.in-Some.held.now) (sym c.ledger.ensures.entries) ∙ sym c.is_eligible.ensures
+    ∙ c.if-not-is_eligible.false)
+    (held_sound c.self.inside.recorded.settings c.self.inside.inbox.held c.args.name.now c.in-Some.held.now c.self.invariant.sound
     (sym c.find-index.ensures.held ∙ ap option_copied c.in-Some.is))
     (refusal_is c.in-Err.why _ c.in-Err.ensures.refused.1 c.in_default-why.not-OutOfMemory) c.in_default-why.not-NotReady
     (ap (λ (b : Holding). b.held) c.remove_at-in_default-why.ensures) c.give-in_default-why.ensures))
@@ -95,16 +98,17 @@ returns-then-not-is_eligible-clause-ok c =
     not_ready c.args.self.now c.args.name.now c.in-Some.held.now (plain c.give-then-not-is_eligible.new.place)
     (ap (λ (z : SiteState). find_in z.site.held c.args.name.now) (sym c.self.view_is) ∙ sym c.find-index.ensures.held
     ∙ ap option_copied c.in-Some.is)
-    (ap (λ (z : SiteState). is_eligible z.site.ops c.in-Some.held.now) (sym c.self.view_is) ∙ sym c.is_eligible.ensures
+    (ap (λ (z : SiteState). is_eligible z.site.ops c.in-Some.held.now) (sym c.self.view_is)
+    ∙ ap (λ us. is_eligible us c.in-Some.held.now) (sym c.ledger.ensures.entries) ∙ sym c.is_eligible.ensures
     ∙ c.if-not-is_eligible.true)
     c.give-then-not-is_eligible.ensures
 
 pub invariant_of-self-in-OutOfMemory : goal.invariant_of-self-in-OutOfMemory
-invariant_of-self-in-OutOfMemory c = tied_as c.self.inside.journal.settings c.apply.new.self.settings c.self.inside.inbox
+invariant_of-self-in-OutOfMemory c = tied_as c.self.inside.recorded.settings c.apply.new.self.settings c.self.inside.inbox
     c.self.inside.token (ap (λ (b : SeenLedger). b.settings) c.in-Err.ensures.refused.0) c.self.invariant
 
 pub invariant_of-self-in-NotReady : goal.invariant_of-self-in-NotReady
-invariant_of-self-in-NotReady c = tied_as c.self.inside.journal.settings c.apply.new.self.settings c.self.inside.inbox
+invariant_of-self-in-NotReady c = tied_as c.self.inside.recorded.settings c.apply.new.self.settings c.self.inside.inbox
     c.self.inside.token (ap (λ (b : SeenLedger). b.settings) c.in-Err.ensures.refused.0) c.self.invariant
 
 pub returns-in-OutOfMemory-clause-err : goal.returns-in-OutOfMemory-clause-err

@@ -25,11 +25,11 @@ returns-in-Ok-clause-ok c =
     let (vs, grown, says, posted, runs) = c.in-Ok.ensures.made in
     let size : is_of_size c.args.requests.now ≡ true = ap is_of_size (sym c.as_slice-asked.ensures) ∙ sym c.is_batch.ensures
     ∙ c.if-not-is_batch.false in
-    let made : batch_of c.self.inside.journal.settings c.self.inside.token.me c.self.inside.journal.ops c.self.inside.token.token 0
+    let made : batch_of c.self.inside.recorded.settings c.self.inside.token.me c.self.inside.recorded.ops c.self.inside.token.token 0
     c.args.requests.now ≡ Ok vs =
-    ap (λ i. batch_of c.self.inside.journal.settings i c.self.inside.journal.ops c.self.inside.token.token 0 c.args.requests.now)
+    ap (λ i. batch_of c.self.inside.recorded.settings i c.self.inside.recorded.ops c.self.inside.token.token 0 c.args.requests.now)
     (sym c.view-token.ensures.me)
-    ∙ ap (batch_of c.self.inside.journal.settings c.view-token.result.me c.self.inside.journal.ops c.self.inside.token.token 0)
+    ∙ ap (batch_of c.self.inside.recorded.settings c.view-token.result.me c.self.inside.recorded.ops c.self.inside.token.token 0)
     (sym c.as_slice-asked.ensures)
     ∙ runs c.self.inside.token.token c.view-token.ensures.shows in
     let P : SiteState → Type 0 = λ z. Follows c.args.keeps z
@@ -38,24 +38,24 @@ returns-in-Ok-clause-ok c =
     (outcome_of z.settings z.site (Batch c.args.requests.now)) c.in-Ok.made in
     follows_with c.args.keeps c.args.self.now _ c.args.sent.now.items c.batch-made.new.sent.items _ _ c.in-Ok.made c.put.ensures
     (subst P c.self.view_is
-    (let old : SiteState = state_as c.self.inside.journal.settings c.self.inside.token.me c.self.inside.journal.ops c.self.inside.inbox.held
+    (let old : SiteState = state_as c.self.inside.recorded.settings c.self.inside.token.me c.self.inside.recorded.ops c.self.inside.inbox.held
     c.self.inside.token.token in
     let Q : SeenLedger → Type 0 = λ b. Follows c.args.keeps old (state_as b.settings c.self.inside.token.me b.ops c.self.inside.inbox.held
     c.self.inside.token.token) c.args.sent.now.items c.batch-made.new.sent.items
     (outcome_of old.settings old.site (Batch c.args.requests.now)) c.in-Ok.made in
     subst Q (sym grown)
-    (makes_batch c.args.keeps c.self.inside.journal.settings c.self.inside.token.me c.self.inside.journal.ops c.self.inside.inbox.held
+    (makes_batch c.args.keeps c.self.inside.recorded.settings c.self.inside.token.me c.self.inside.recorded.ops c.self.inside.inbox.held
     c.self.inside.token.token c.args.requests.now vs c.args.sent.now.items c.batch-made.new.sent.items c.in-Ok.made size made says posted)))
 
 pub returns-clause-ok : goal.returns-clause-ok
 returns-clause-ok c =
     let size : is_of_size c.args.requests.now ≡ true = ap is_of_size (sym c.as_slice-asked.ensures) ∙ sym c.is_batch.ensures
     ∙ c.if-not-is_batch.false in
-    let refused : batch_of c.self.inside.journal.settings c.self.inside.token.me c.self.inside.journal.ops c.self.inside.token.token 0
+    let refused : batch_of c.self.inside.recorded.settings c.self.inside.token.me c.self.inside.recorded.ops c.self.inside.token.token 0
     c.args.requests.now ≡ Err c.in-Err.why =
-    ap (λ i. batch_of c.self.inside.journal.settings i c.self.inside.journal.ops c.self.inside.token.token 0 c.args.requests.now)
+    ap (λ i. batch_of c.self.inside.recorded.settings i c.self.inside.recorded.ops c.self.inside.token.token 0 c.args.requests.now)
     (sym c.view-token.ensures.me)
-    ∙ ap (batch_of c.self.inside.journal.settings c.view-token.result.me c.self.inside.journal.ops c.self.inside.token.token 0)
+    ∙ ap (batch_of c.self.inside.recorded.settings c.view-token.result.me c.self.inside.recorded.ops c.self.inside.token.token 0)
     (sym c.as_slice-asked.ensures)
     ∙ refused_batch c.in-Err.why _ c.in-Err.ensures.refused.2 c.in_default.not-OutOfMemory c.self.inside.token.token
     c.view-token.ensures.shows in
@@ -63,7 +63,7 @@ returns-clause-ok c =
     c.self.inside.token.token in
     let P : SiteState → Type 0 = λ z. Follows c.args.keeps z (now c.batch-made.new.self) c.args.sent.now.items c.batch-made.new.sent.items
     (outcome_of z.settings z.site (Batch c.args.requests.now)) (plain c.give-2.new.place) in
-    let old : SiteState = now c.self.inside.journal in
+    let old : SiteState = now c.self.inside.recorded in
     let Q : SeenLedger → Type 0 = λ b. Follows c.args.keeps old (now b) c.args.sent.now.items c.batch-made.new.sent.items
     (outcome_of old.settings old.site (Batch c.args.requests.now)) (plain c.give-2.new.place) in
     let R : List Message → Type 0 = λ ms. Follows c.args.keeps old old c.args.sent.now.items ms
@@ -75,21 +75,21 @@ returns-clause-ok c =
     (subst R (sym c.in-Err.ensures.refused.1)
     (follows_plain c.args.keeps old old c.args.sent.now.items (outcome_of old.settings old.site (Batch c.args.requests.now))
     (plain c.give-2.new.place)
-    (refuses_batch c.self.inside.journal.settings c.self.inside.token.me c.self.inside.journal.ops c.self.inside.inbox.held
+    (refuses_batch c.self.inside.recorded.settings c.self.inside.token.me c.self.inside.recorded.ops c.self.inside.inbox.held
     c.self.inside.token.token c.args.requests.now c.in-Err.why (plain c.give-2.new.place) size refused c.give-2.ensures)))))
 
 pub batch-made-requires-clause-site : goal.batch-made-requires-clause-site
 batch-made-requires-clause-site c =
-    subst (λ me. me < c.self.inside.journal.settings.sites) (sym c.view-token.ensures.me) c.self.invariant.me
+    subst (λ me. me < c.self.inside.recorded.settings.sites) (sym c.view-token.ensures.me) c.self.invariant.me
 
 pub invariant_of-self : goal.invariant_of-self
 invariant_of-self c =
     let (vs, grown, says, posted, runs) = c.in-Ok.ensures.made in
-    tied_as c.self.inside.journal.settings c.batch-made.new.self.settings c.self.inside.inbox c.self.inside.token
+    tied_as c.self.inside.recorded.settings c.batch-made.new.self.settings c.self.inside.inbox c.self.inside.token
     (ap (λ (b : SeenLedger). b.settings) grown) c.self.invariant
 
 pub invariant_of-self-in-OutOfMemory : goal.invariant_of-self-in-OutOfMemory
-invariant_of-self-in-OutOfMemory c = tied_as c.self.inside.journal.settings c.batch-made.new.self.settings c.self.inside.inbox
+invariant_of-self-in-OutOfMemory c = tied_as c.self.inside.recorded.settings c.batch-made.new.self.settings c.self.inside.inbox
     c.self.inside.token (ap (λ (b : SeenLedger). b.settings) c.in-Err.ensures.refused.0) c.self.invariant
 
 pub returns-in-OutOfMemory-clause-err : goal.returns-in-OutOfMemory-clause-err
@@ -100,5 +100,5 @@ returns-in-OutOfMemory-clause-err c = (
 )
 
 pub invariant_of-self-2 : goal.invariant_of-self-2
-invariant_of-self-2 c = tied_as c.self.inside.journal.settings c.batch-made.new.self.settings c.self.inside.inbox c.self.inside.token
+invariant_of-self-2 c = tied_as c.self.inside.recorded.settings c.batch-made.new.self.settings c.self.inside.inbox c.self.inside.token
     (ap (λ (b : SeenLedger). b.settings) c.in-Err.ensures.refused.0) c.self.invariant

@@ -17,12 +17,12 @@ me_within : (me here sites now : ℕ) → here ≡ me → now ≡ sites → me <
 me_within me here sites now at same within = omega arith
 
 pub generate-requires : goal.generate-requires
-generate-requires c = me_within c.self.inside.token.me c.view.result.me c.self.inside.journal.settings.sites
+generate-requires c = me_within c.self.inside.token.me c.view.result.me c.self.inside.recorded.settings.sites
     c.ledger.result.now.settings.sites c.view.ensures.me (ap (λ (s : Settings). s.sites) c.ledger.ensures.settings) c.self.invariant.me
 
 pub returns-in-Err-clause-ok : goal.returns-in-Err-clause-ok
 returns-in-Err-clause-ok c =
-    let old : SiteState = state_as c.self.inside.journal.settings c.self.inside.token.me c.self.inside.journal.ops c.self.inside.inbox.held
+    let old : SiteState = state_as c.self.inside.recorded.settings c.self.inside.token.me c.self.inside.recorded.ops c.self.inside.inbox.held
     c.self.inside.token.token in
     let P : SiteState → Type 0 = λ z. made_of z.settings z.site.me z.site.ops z.site.token c.args.request.now ≡ Err c.in-Err.why in
     refuses_request c.args.self.now c.args.request.now c.in-Err.why c.args.sent.now.items (plain c.give.new.place)
@@ -36,11 +36,11 @@ returns-in_err-reserve-clause-err c = on_err c.from_residual.result _ (refl, c.i
 
 pub apply_made-requires : goal.apply_made-requires
 apply_made-requires c =
-    subst (λ us. IsValid c.self.inside.journal.settings (us ++ c.in-Ok.shadow ∷ [])) c.ledger.ensures.entries
+    subst (λ us. IsValid c.self.inside.recorded.settings (us ++ c.in-Ok.shadow ∷ [])) c.ledger.ensures.entries
     (subst (λ s. IsValid s (c.ledger.result.now.entries ++ c.in-Ok.shadow ∷ [])) c.ledger.ensures.settings c.in-Ok.ensures.valid)
 
 pub invariant_of-self : goal.invariant_of-self
-invariant_of-self c = tied_as c.self.inside.journal.settings c.apply_made.new.self.settings c.self.inside.inbox c.self.inside.token
+invariant_of-self c = tied_as c.self.inside.recorded.settings c.apply_made.new.self.settings c.self.inside.inbox c.self.inside.token
     (ap (λ (b : SeenLedger). b.settings) c.in_err-apply_made.ensures.err) c.self.invariant
 
 pub returns-in_err-apply_made-clause-err : goal.returns-in_err-apply_made-clause-err
@@ -54,7 +54,7 @@ pub push_reserved-requires : goal.push_reserved-requires
 push_reserved-requires c = omega (arith, c.in_ok-reserve.ensures.ok, c.in_ok-reserve.ensures.len)
 
 pub invariant_of-self-2 : goal.invariant_of-self-2
-invariant_of-self-2 c = tied_as c.self.inside.journal.settings c.apply_made.new.self.settings c.self.inside.inbox c.self.inside.token
+invariant_of-self-2 c = tied_as c.self.inside.recorded.settings c.apply_made.new.self.settings c.self.inside.inbox c.self.inside.token
     (ap (λ (b : SeenLedger). b.settings) c.in_ok-apply_made.ensures.ok) c.self.invariant
 
 pub returns-clause-ok : goal.returns-clause-ok
@@ -63,14 +63,14 @@ returns-clause-ok c =
     (state_as c.apply_made.new.self.settings c.self.inside.token.me c.apply_made.new.self.ops
     c.self.inside.inbox.held c.self.inside.token.token) c.args.sent.now.items c.push_reserved.new.self.items
     (outcome_of z.settings z.site (Submit c.args.request.now)) (plain c.give-2.new.place) in
-    let old : SiteState = state_as c.self.inside.journal.settings c.self.inside.token.me c.self.inside.journal.ops c.self.inside.inbox.held
+    let old : SiteState = state_as c.self.inside.recorded.settings c.self.inside.token.me c.self.inside.recorded.ops c.self.inside.inbox.held
     c.self.inside.token.token in
     let Q : SeenLedger → Type 0 = λ b. Follows true old (state_as b.settings c.self.inside.token.me b.ops c.self.inside.inbox.held
     c.self.inside.token.token) c.args.sent.now.items c.push_reserved.new.self.items
     (outcome_of old.settings old.site (Submit c.args.request.now)) (plain c.give-2.new.place) in
     subst P c.self.view_is
     (subst Q (sym c.in_ok-apply_made.ensures.ok)
-    (makes_request c.self.inside.journal.settings c.self.inside.token.me c.self.inside.journal.ops c.self.inside.inbox.held
+    (makes_request c.self.inside.recorded.settings c.self.inside.token.me c.self.inside.recorded.ops c.self.inside.inbox.held
     c.self.inside.token.token c.args.request.now c.in-Ok.shadow c.args.sent.now.items c.push_reserved.new.self.items
     (plain c.give-2.new.place)
     (made_here old c.ledger.result.now.settings c.view.result.me c.ledger.result.now.entries c.args.request.now

@@ -1,14 +1,12 @@
-//! A site's ledger with its undo records.
+//! A site's ledger with the record to undo each operation.
 ghost use Rattle.std.specs.Prelude.{◌≡◌, ◌<◌, ◌≤◌, ◌++◌, ◌∷◌, ◌⊎◌, [], List, length, map, Some, None, Ok, Err, IfOk};
-ghost use Rattle.std.specs.Prelude.{IfErr, OnOk, OnErr, option_map, true};
+ghost use Rattle.std.specs.Prelude.{IfErr, OnOk, OnErr};
 ghost use Rattle.rb_ledger.specs.Checks.{refusal_of};
 ghost use Rattle.rb_ledger.specs.Records.{records_of};
 ghost use Rattle.rb_ledger.specs.Valid.{IsValid};
-ghost use Rattle.rb_shadow.specs.Operations.{clock_of, find_in, is_eligible, same_shadow};
-ghost use Rattle.rb_shadow.specs.Sound.{IsSound};
+ghost use Rattle.rb_shadow.specs.Operations.{clock_of};
 ghost use Rattle.rb_shadow.specs.declared.shadow.Shadow.{Shadow as TheShadow};
 ghost use Rattle.rb_scratch.specs.Batches.{batch_of, names_of_all};
-ghost use Rattle.rb_statements.specs.Statements.{balance_as_of};
 ghost use Rattle.rb_token.specs.Token.{Token};
 ghost use Rattle.rb_token.specs.Seen.{Shows};
 ghost use Rattle.rb_scratch.specs.declared.request.TheConstants.{MOST_REQUESTS};
@@ -18,41 +16,40 @@ use crate::batch::run_batch;
 use crate::noted_reply::NotedReply;
 use crate::{Message, Reply};
 use rb_ledger::{Ledger, OperationList};
-use rb_money::{Config, Place, Refusal};
+use rb_money::{Config, Refusal};
 use rb_scratch::Request;
 use rb_shadow::Shadow;
-use rb_statements::balance_at;
 use rb_token::TokenView;
 use rb_undo::UndoLog;
 use rb_vclock::Clock;
 use std::alloc::{AllocError, Global};
 use std::marker::Model;
 
-/// A ledger and its undo records, one for each operation. Clients see the settings and the operations.
-pub struct Journal {
+/// A ledger, and the record to undo each of its operations, in a log. Clients see the settings and the operations.
+pub struct RecordedLedger {
     ledger: Ledger,
     log: UndoLog,
 }
 
-impl Model for Journal {
+impl Model for RecordedLedger {
     ghost use Rattle.std.specs.Prelude.{◌≡◌};
     ghost use Rattle.rb_ledger.specs.Records.{records_of};
     ghost use Rattle.rb_site.specs.States.{SeenLedger};
 
     ghost Value = { SeenLedger };
 
-    ghost view = { λ j. record { settings = j.ledger.settings; ops = j.ledger.entries } };
+    ghost view = { λ r. record { settings = r.ledger.settings; ops = r.ledger.entries } };
 
-    ghost invariant = { λ j. j.log.parts ≡ records_of j.ledger.settings j.ledger.entries };
+    ghost invariant = { λ r. r.log.parts ≡ records_of r.ledger.settings r.ledger.entries };
 }
 
-impl Journal {
+impl RecordedLedger {
     /// A ledger of the configuration without operations, and without records. `Err` means out of memory.
-    pub fn open(alloc: Global, config: &Config) -> Result<Journal, AllocError>
-        ensures { IfOk result (λ journal. journal ≡ record { settings = config.now; ops = [] }) }
+    pub fn open(alloc: Global, config: &Config) -> Result<RecordedLedger, AllocError>
+        ensures { IfOk result (λ recorded. recorded ≡ record { settings = config.now; ops = [] }) }
     {
         let ledger = Ledger::open(alloc, config)?;
-        Ok(Journal {
+        Ok(RecordedLedger {
             ledger,
             log: UndoLog::new(alloc),
         })
@@ -64,37 +61,6 @@ impl Journal {
         ensures entries { result.now.entries ≡ self.now.ops }
     {
         &self.ledger
-    }
-
-    /// The configuration, under which the operations are a valid list.
-    pub fn config(&self) -> &Config
-        ensures same { result.now ≡ self.now.settings }
-        ensures valid { IsValid self.now.settings self.now.ops }
-    {
-        self.ledger.config()
-    }
-
-    /// How many of each site's blue operations, by the site's number, and how many red ones were applied.
-    pub fn clock(&self) -> &Clock
-        ensures { result.now ≡ clock_of self.now.ops }
-    {
-        self.ledger.clock()
-    }
-
-    /// Whether all that the shadow's home had applied was applied here.
-    pub fn is_eligible(&self, shadow: &Shadow) -> bool
-        ensures { result ≡ is_eligible self.now.ops shadow.now }
-    {
-        self.ledger.is_eligible(shadow)
-    }
-
-    /// Whether the applied operation of a sound shadow's name is the shadow. `None` if none of that name was applied.
-    #[inline(always)]
-    pub fn knows(&self, shadow: &Shadow) -> Option<bool>
-        requires { IsSound self.now.settings shadow.now }
-        ensures { result ≡ option_map (λ u. same_shadow u shadow.now) (find_in self.now.ops shadow.now.name) }
-    {
-        self.ledger.knows(shadow)
     }
 
     /// The undo records: the k-th is that of the first k operations.
@@ -115,9 +81,7 @@ impl Journal {
     {
         if self.log.reserve(1).is_err() {
             // Out of memory is the refusal where nothing else refuses the shadow.
-            if let Err(why) = self.ledger.check(shadow) {
-                return Err(why);
-            }
+            self.ledger.check(shadow)?;
             return Err(Refusal::OutOfMemory);
         }
         let applied = self.ledger.apply(*shadow);
@@ -188,20 +152,12 @@ impl Journal {
         )
     }
 
-    /// The balance of an account after the first `position` operations, in cents, or why there is none.
-    /// This takes no memory.
-    pub fn as_of(&self, place: Place, position: u32) -> Result<u64, Refusal>
-        ensures { result ≡ balance_as_of self.now.settings self.now.ops place position }
-    {
-        balance_at(&self.ledger, place, position)
-    }
-
     /// Gives up the undo of every operation, and gives the operations and their clock.
     pub fn close(self) -> (OperationList, Clock)
         ensures entries { result.0.items ≡ self.ops }
         ensures clock { result.1 ≡ clock_of self.ops }
     {
-        let Journal { ledger, log } = self;
+        let RecordedLedger { ledger, log } = self;
         log.close();
         ledger.close()
     }
