@@ -35,8 +35,8 @@ enough room s me now accounts same at = record {
   entries = let none : length now.site.ops ≡ 0 = ap (λ t. length t.ops) at in omega arith;
 }
 
-pub returns-in_err-room : goal.returns-in_err-room
-returns-in_err-room g c = IfOk-from_err c.from_residual.result _ c.from_residual.ensures.0
+pub returns-in_err-report_lists : goal.returns-in_err-report_lists
+returns-in_err-report_lists g c = IfOk-from_err c.from_residual.result _ c.from_residual.ensures.0
 
 pub invariant_of-result : goal.invariant_of-result
 invariant_of-result g c = (
@@ -44,9 +44,9 @@ invariant_of-result g c = (
       subst P (sym (opened g.E.KeepsEntry.entry c.new.result.items c.args.config.now c.args.me c.in_ok-state.state c.new.ensures.items
       c.in_ok-state.ensures.0 c.in_ok-state.ensures.1))
       (as_opened c.args.config.now c.args.me c.in_ok-state.state c.requires c.in_ok-state.ensures.0 c.in_ok-state.ensures.1),
-  λ keeps. enough c.in_ok-room.room c.args.config.now c.args.me c.in_ok-state.state
-      (subst (λ n. n ≤ c.in_ok-room.room.accounts) (c.len.ensures.starts ∙ ap length c.accounts.ensures.starts)
-      (c.in_ok-room.ensures (c.KEEPS.ensures ∙ keeps)))
+  λ keeps. enough c.in_ok-report_lists.report_lists c.args.config.now c.args.me c.in_ok-state.state
+      (subst (λ n. n ≤ c.in_ok-report_lists.report_lists.accounts) (c.len.ensures.starts ∙ ap length c.accounts.ensures.starts)
+      (c.in_ok-report_lists.ensures (c.KEEPS.ensures ∙ keeps)))
       c.in_ok-state.ensures.0 c.in_ok-state.ensures.1,
 )
 

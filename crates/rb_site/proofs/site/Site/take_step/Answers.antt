@@ -111,7 +111,7 @@ invariant_of-self-in_err-grow g c = (
   stands_as g.E.KeepsEntry.entry c.self.inside.history.items c.reserve_one.new.list.items c.self.inside.state
       c.in_ok-reserve_one.ensures.items
       c.self.invariant.0,
-  λ keeps. enough_more c.self.inside.room c.grow.new.self c.self.inside.state c.grow.ensures.kept c.grow.ensures.accounts
+  λ keeps. enough_more c.self.inside.report_lists c.grow.new.self c.self.inside.state c.grow.ensures.kept c.grow.ensures.accounts
       (c.self.invariant.1 keeps),
 )
 
@@ -127,7 +127,7 @@ invariant_of-self-in_err-kept g c = (
   stands_as g.E.KeepsEntry.entry c.self.inside.history.items c.reserve_one.new.list.items c.self.inside.state
       c.in_ok-reserve_one.ensures.items
       c.self.invariant.0,
-  λ keeps. enough_more c.self.inside.room c.grow.new.self c.self.inside.state c.grow.ensures.kept c.grow.ensures.accounts
+  λ keeps. enough_more c.self.inside.report_lists c.grow.new.self c.self.inside.state c.grow.ensures.kept c.grow.ensures.accounts
       (c.self.invariant.1 keeps),
 )
 
@@ -145,7 +145,7 @@ invariant_of-self-in_err-act g c =
     subst P (sym c.in_err-act.ensures.err.0) (
       stands_as g.E.KeepsEntry.entry c.self.inside.history.items c.reserve_one.new.list.items c.self.inside.state
           c.in_ok-reserve_one.ensures.items c.self.invariant.0,
-      λ keeps. enough_more c.self.inside.room c.grow.new.self c.self.inside.state c.grow.ensures.kept c.grow.ensures.accounts
+      λ keeps. enough_more c.self.inside.report_lists c.grow.new.self c.self.inside.state c.grow.ensures.kept c.grow.ensures.accounts
           (c.self.invariant.1 keeps),
     )
 
