@@ -133,3 +133,11 @@ at_end k n total within end same = omega arith
 -- at its end it is whole
 pub whole : {A : Type 0} (xs : List A) (k n : ℕ) → n ≡ length xs → n ≤ k → take k xs ≡ xs
 whole xs k n same end = take_all k xs (omega arith)
+
+-- enough memory still is after more was taken
+pub enough_more : (old new : RoomFor) (now : SiteState) → old.entries ≤ new.entries → new.accounts ≡ old.accounts → IsEnough old now
+    → IsEnough new now
+enough_more old new now more same enough = record {
+  accounts = subst (λ n. length now.settings.starts ≤ n) (sym same) enough.accounts;
+  entries = let few : length now.site.ops ≤ old.entries = enough.entries in omega arith;
+}

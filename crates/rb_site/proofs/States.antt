@@ -1,5 +1,6 @@
 -- A site steps as the model does.
 use Rattle.std.proofs.Common.{◌≡◌, ℕ, Bool, false, cond, List, [], ◌∷◌, ◌++◌, ap, sym, subst, ◌∙◌}
+use Rattle.std.specs.Prelude.{map}
 use Rattle.rb_money.specs.Settings.{Settings}
 use Rattle.rb_money.specs.declared.refusal.Refusal.TheVariants.{HistoryFull}
 use Rattle.rb_site.specs.declared.noted_reply.NotedReply.{NotedReply}
@@ -10,7 +11,8 @@ use Rattle.rb_site.specs.declared.reply.Reply.{Reply}
 use Rattle.rb_site.specs.declared.reply.Reply.TheVariants.{Refused}
 use Rattle.rb_site.specs.Events.{ModelSite, Outcome, changed, is_full, outcome_of, reply_of, reply_to, sent_at, sent_by}
 use Rattle.rb_site.specs.Seen.{SeenSite, entry, next_site, state_of, stepped}
-use Rattle.rb_site.specs.States.{Follows, IsStanding, SiteState, without_history}
+use Rattle.rb_site.specs.Notes.{IsNoted}
+use Rattle.rb_site.specs.States.{Follows, IsStanding, Says, SiteState, without_history}
 use Rattle.rb_site.proofs.Public.Runs
 use Rattle.rb_site.proofs.Public.Seen
 use Rattle.rb_site.proofs.Public.Outcomes.{same_outcome, changed-with_history, room_left}
@@ -87,3 +89,19 @@ seen_now x now before after e a xs step me pushed =
 pub me_kept : (keeps : Bool) (old now : SiteState) (before after : List Message) (o : Outcome) (a : NotedReply) →
     Follows keeps old now before after o a → now.site.me ≡ old.site.me
 me_kept keeps old now before after o a follows = ap (λ (z : SiteState). z.site.me) follows.0 ∙ Runs.same_me old.site o
+
+-- a site is what its history leads to with the same entries, wherever they are kept
+pub stands_as : {E : Type 0} (f : E → Entry) (old new : List E) (now : SiteState) → new ≡ old
+    → IsStanding (seen_as now.settings now.site.me (map f old)) now → IsStanding (seen_as now.settings now.site.me (map f new)) now
+stands_as {E} f old new now same =
+    let P : List E → Type 0 = λ xs. IsStanding (seen_as now.settings now.site.me (map f xs)) now in subst P (sym same)
+
+-- clients see the same site, wherever its entries are kept
+pub seen_same : {E : Type 0} (f : E → Entry) (old new : List E) (now : SiteState) (x : SeenSite) → new ≡ old
+    → seen_as now.settings now.site.me (map f old) ≡ x → seen_as now.settings now.site.me (map f new) ≡ x
+seen_same f old new now x same is = ap (λ xs. seen_as now.settings now.site.me (map f xs)) same ∙ is
+
+-- what is noted of the answer's reply, where it says another that is equal
+pub noted_as : (keeps now : Bool) (a : NotedReply) (reply : Reply) → Says keeps a reply → keeps ≡ now → IsNoted now a.reply a.noted
+noted_as keeps now a reply says same =
+    subst (λ k. IsNoted k a.reply a.noted) same (subst (λ r. IsNoted keeps r a.noted) (sym says.0) says.1)

@@ -1,46 +1,18 @@
 -- A step of the code is a step of the model.
-use Rattle.std.proofs.Common.{◌≡◌, ◌∙◌, ◌+◌, ◌≤◌, Bool, true, List, [], ◌∷◌, ◌++◌, length, ap, arith, refl, subst, sym}
+use Rattle.std.proofs.Common.{◌≡◌, ◌∙◌, ◌+◌, ◌≤◌, true, [], ◌∷◌, ◌++◌, length, ap, arith, refl, subst, sym}
 use Rattle.std.specs.Prelude.{map}
 use Rattle.std.proofs.lemmas.List.{map-append}
 use Rattle.rb_scratch.specs.declared.request.TheConstants.{MOST_REQUESTS}
 use Rattle.rb_site.specs.Events.{is_full, outcome_of, reply_to, sent_at}
 use Rattle.rb_site.specs.Seen.{SeenSite, entry, next_site, state_of}
-use Rattle.rb_site.specs.declared.noted_reply.NotedReply.{NotedReply}
-use Rattle.rb_site.specs.declared.entry.Entry.{Entry}
-use Rattle.rb_site.specs.declared.reply.Reply.{Reply}
-use Rattle.rb_site.specs.Notes.{IsNoted}
-use Rattle.rb_site.specs.Reports.{IsEnough, RoomFor}
-use Rattle.rb_site.specs.States.{IsStanding, Says, SiteState, noting}
+use Rattle.rb_site.specs.Reports.{IsEnough}
+use Rattle.rb_site.specs.States.{IsStanding, SiteState, noting}
 use Rattle.rb_site.proofs.site.Site.take_step.Given.{Over}
 use Rattle.rb_site.proofs.site.Site.take_step.Goals as goal
-use Rattle.rb_site.proofs.Reports.{still_enough}
-use Rattle.rb_site.proofs.States.{IsStep, is_step, me_kept, noted_in, seen_as, seen_now}
+use Rattle.rb_site.proofs.Reports.{enough_more, still_enough}
+use Rattle.rb_site.proofs.States.{IsStep, is_step, me_kept, noted_as, noted_in, seen_as, seen_now, seen_same, stands_as}
 use Rattle.rb_site.proofs.Public.Outcomes.{sends_few}
 use Rattle.rb_site.proofs.Errors.{on_err}
-
--- a site is what its history leads to with the same entries, wherever they are kept
-stands_as : {E : Type 0} (f : E → Entry) (old new : List E) (now : SiteState) → new ≡ old
-    → IsStanding (seen_as now.settings now.site.me (map f old)) now → IsStanding (seen_as now.settings now.site.me (map f new)) now
-stands_as {E} f old new now same =
-    let P : List E → Type 0 = λ xs. IsStanding (seen_as now.settings now.site.me (map f xs)) now in subst P (sym same)
-
--- clients see the same site, wherever its entries are kept
-seen_same : {E : Type 0} (f : E → Entry) (old new : List E) (now : SiteState) (x : SeenSite) → new ≡ old
-    → seen_as now.settings now.site.me (map f old) ≡ x → seen_as now.settings now.site.me (map f new) ≡ x
-seen_same f old new now x same is = ap (λ xs. seen_as now.settings now.site.me (map f xs)) same ∙ is
-
--- enough memory still is after more was taken
-enough_more : (old new : RoomFor) (now : SiteState) → old.entries ≤ new.entries → new.accounts ≡ old.accounts → IsEnough old now
-    → IsEnough new now
-enough_more old new now more same enough = record {
-  accounts = subst (λ n. length now.settings.starts ≤ n) (sym same) enough.accounts;
-  entries = let few : length now.site.ops ≤ old.entries = enough.entries in omega arith;
-}
-
--- what is noted of the answer's reply, where it says another that is equal
-noted_as : (keeps now : Bool) (a : NotedReply) (reply : Reply) → Says keeps a reply → keeps ≡ now → IsNoted now a.reply a.noted
-noted_as keeps now a reply says same =
-    subst (λ k. IsNoted k a.reply a.noted) same (subst (λ r. IsNoted keeps r a.noted) (sym says.0) says.1)
 
 the_step : (g : Over) (c : goal.After-push_reserved g) → IsStep (seen_as c.self.inside.state.settings c.self.inside.state.site.me
     (map g.E.KeepsEntry.entry c.self.inside.history.items)) c.act.new.self c.args.sent.now.items c.act.new.sent.items c.args.event.now
