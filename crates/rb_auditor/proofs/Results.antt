@@ -1,8 +1,9 @@
 -- What follows from how a call went.
-use Rattle.std.proofs.Common.{◌≡◌, false, Option, Some, None, Result, Ok, Err}
+use Rattle.std.proofs.Common.{◌≡◌, Bool, true, false, IsTrue, MatchBool, refl, Option, Some, None, Result, Ok, Err}
 use Rattle.std.specs.Prelude.{IfOk, IfSome, IsErr, OnErr, OnOk}
 use Rattle.std.specs.Result.{is_err}
 use Rattle.std.specs.declared.alloc.AllocError.{AllocError}
+use Rattle.std.proofs.lemmas.Bool.{false≢true}
 
 -- what holds where it went well
 pub went_well : {A : Type 0} (r : Result Unit AllocError) → is_err r ≡ false → OnOk r A → A
@@ -38,3 +39,12 @@ still (Err y) P h = h
 pub none_found : {A : Type 0} (o : Option A) (P : A → Type 0) → o ≡ None → IfSome o P
 none_found None P e = tt
 none_found (Some x) P e = cc
+
+-- a test is true exactly of what it gives, where what it denies can't be
+pub decided : (b : Bool) (D L C : Type 0) → MatchBool b D L → (D → C) → (L → C → ⊥) → (IsTrue b → C) × (C → IsTrue b)
+decided true D L C h gives denies = (λ t. gives h, λ k. refl)
+decided false D L C h gives denies = (λ t. absurd (false≢true t), λ k. absurd (denies h k))
+
+-- what can't be is denied
+pub denied : (C : Type 0) → (C → ⊥) → (IsTrue false → C) × (C → IsTrue false)
+denied C denies = (λ t. absurd (false≢true t), λ k. absurd (denies k))

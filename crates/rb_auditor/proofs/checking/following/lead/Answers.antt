@@ -1,8 +1,7 @@
 -- One entry more is taken in the order.
-use Rattle.std.proofs.Common.{◌≡◌, ◌∙◌, ℕ, suc, ◌+◌, ◌<◌, ◌++◌, ◌∷◌, [], List, Some, Bool, true, false, MatchBool, IsTrue, ap, sym}
-use Rattle.std.proofs.Common.{subst, refl, length, get_or, take, drop, arith, drop-cons}
+use Rattle.std.proofs.Common.{◌≡◌, ◌∙◌, ◌+◌, ◌<◌, ◌++◌, ◌∷◌, [], Some, sym}
+use Rattle.std.proofs.Common.{subst, length, get_or, take, drop, arith}
 use Rattle.std.specs.Prelude.{slice_get, slice_set}
-use Rattle.std.proofs.lemmas.Bool.{false≢true}
 use Rattle.std.proofs.lemmas.List.{drop_all, take_all, take_more}
 use Rattle.std.proofs.lemmas.Option.{slice_get_read}
 use Rattle.rb_auditor.specs.Certificates.{Certifies}
@@ -13,21 +12,10 @@ use Rattle.rb_auditor.proofs.Following
 use Rattle.rb_auditor.proofs.Following.{IsFollowing}
 use Rattle.rb_auditor.proofs.Lengths.{length_lists}
 use Rattle.rb_auditor.proofs.Listed
+use Rattle.rb_auditor.proofs.Results
 use Rattle.rb_auditor.proofs.Takings
 use Rattle.rb_auditor.proofs.Walking
 use Rattle.rb_auditor.proofs.checking.following.lead.Goals as goal
-
--- the rest of the order, from its next site on
-rest_of : (order : List ℕ) (k : ℕ) → k < length order → drop k order ≡ get_or order k 0 ∷ drop (k + 1) order
-rest_of order k less = drop-cons order k 0 less ∙ ap (λ n. get_or order k 0 ∷ drop n order) (let e : suc k ≡ k + 1 = omega arith in e)
-
--- what is taken where it can be certified
-answers : (b : Bool) (D L C : Type 0) → MatchBool b D L → (D → C) → (L → C → ⊥) → (IsTrue b → C) × (C → IsTrue b)
-answers true D L C h gives denies = (λ t. gives h, λ k. refl)
-answers false D L C h gives denies = (λ t. absurd (false≢true t), λ k. absurd (denies h k))
-
-never : (C : Type 0) → (C → ⊥) → (IsTrue false → C) × (C → IsTrue false)
-never C denies = (λ t. absurd (false≢true t), λ k. absurd (denies k))
 
 pub loop-place-init : goal.loop-place-init
 loop-place-init c =
@@ -49,9 +37,9 @@ returns-then-place-sites c =
     let k = c.loop-place.place-index in
     let p = progress_of s hs (take k order) c.loop-place.sites.items c.loop-place.sent.messages.items in
     let n : length hs ≡ s.sites = length_lists c.args.histories.now ∙ c.requires.one in
-    never _ (λ cert. Following.names_a_site p (get_or order k 0) (drop (k + 1) order) c.loop-place.invariant.1
+    Results.denied _ (λ cert. Following.names_a_site p (get_or order k 0) (drop (k + 1) order) c.loop-place.invariant.1
     (omega (arith, c.sites.ensures.same, c.if-place-sites.true))
-    (subst (IsFollowing p) (rest_of order k c.loop-place-test.true) (c.loop-place.invariant.2 cert)))
+    (subst (IsFollowing p) (Following.rest_of order k c.loop-place-test.true) (c.loop-place.invariant.2 cert)))
 
 pub take_next-requires-clause-along : goal.take_next-requires-clause-along
 take_next-requires-clause-along c =
@@ -103,10 +91,10 @@ returns-then-not-branch c =
     slice_get_read xs s.sites i x (sym n ∙ sym c.loop-place.invariant.0.sites) less c.index_mut.ensures.value in
     let held : IsHeldUp ms (drop (length x.entries) c.as_slice.result.now) =
     rw c.if-not-branch.true at c.in_ok-take_next.ensures in
-    never _ (λ cert. Following.never_rests p i (drop (k + 1) order) c.loop-place.invariant.1
+    Results.denied _ (λ cert. Following.never_rests p i (drop (k + 1) order) c.loop-place.invariant.1
     (Walking.rests s hs (take k order) xs ms i h x there at
     (subst (λ f. IsHeldUp ms (drop (length x.entries) f)) c.as_slice.ensures.value held))
-    (subst (IsFollowing p) (rest_of order k c.loop-place-test.true) (c.loop-place.invariant.2 cert)))
+    (subst (IsFollowing p) (Following.rest_of order k c.loop-place-test.true) (c.loop-place.invariant.2 cert)))
 
 pub loop-place-preserved : goal.loop-place-preserved
 loop-place-preserved c =
@@ -137,7 +125,7 @@ loop-place-preserved c =
       subst (λ o. IsTaking (progress_of s hs o (slice_set xs i y) after)) more (Takings.took_one p q i c.loop-place.invariant.1 took),
       λ cert. subst (λ o. IsFollowing (progress_of s hs o (slice_set xs i y) after) (drop (k + 1) order)) more
           (Following.following_next p q i (drop (k + 1) order) c.loop-place.invariant.1 took
-          (subst (IsFollowing p) (rest_of order k c.loop-place-test.true) (c.loop-place.invariant.2 cert))),
+          (subst (IsFollowing p) (Following.rest_of order k c.loop-place-test.true) (c.loop-place.invariant.2 cert))),
     )
 
 pub returns : goal.returns
@@ -149,7 +137,7 @@ returns c =
     let xs = c.loop-place.sites.items in
     let ms = c.loop-place.sent.messages.items in
     let p = progress_of s hs (take k order) xs ms in
-    answers c.are_at_end.result _ _ _ c.are_at_end.ensures
+    Results.decided c.are_at_end.result _ _ _ c.are_at_end.ensures
     (λ end. subst (Certifies s hs) (take_all k order c.loop-place-test.false)
     (Takings.all_certified p c.loop-place.invariant.1 (Walking.done s hs (take k order) xs ms c.loop-place.invariant.1
     (subst (AreAtEnd hs) c.as_slice-2.ensures.value end))))
