@@ -2,7 +2,7 @@ mod Results
 mod Lengths
 mod Lists
 mod Found
-mod Spots
+mod Positions
 mod Placed
 mod Numbers
 mod Clocks

@@ -6,7 +6,7 @@
 ghost use Rattle.std.specs.Prelude.{◌≡◌, ◌≤◌, IsTrue, drop, length};
 ghost use Rattle.rb_money.specs.declared.limits.TheConstants.{MOST_SITES as THE_MOST_SITES};
 ghost use Rattle.rb_shadow.specs.Sound.{are_entries};
-ghost use Rattle.rb_auditor.specs.MessageLists.{IsUsual};
+ghost use Rattle.rb_auditor.specs.MessageLists.{HasCompactForm};
 
 use rb_shadow::Shadow;
 
@@ -16,9 +16,9 @@ const FEW_SITES: usize = 3;
 /// Whether the operation's clock has entries for the first `sites` sites alone, and counts all operations before it in
 /// the row of its name, and a blue name is of its home, as with those that sites make.
 #[inline(always)]
-pub fn is_usual(sites: usize, shadow: &Shadow) -> bool
+pub fn has_compact_form(sites: usize, shadow: &Shadow) -> bool
     requires { sites ≤ THE_MOST_SITES }
-    ensures { IsTrue result → IsUsual sites shadow.now }
+    ensures { IsTrue result → HasCompactForm sites shadow.now }
 {
     if !are_none_from(&shadow.deps.blue, sites) {
         return false;

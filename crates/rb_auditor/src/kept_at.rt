@@ -3,8 +3,8 @@
 /// Where a list keeps a message, by positions from 0.
 #[derive(Clone, Copy)]
 pub enum KeptAt {
-    /// Among the usual operations.
-    Usual { at: u32 },
-    /// Among all other messages.
+    /// Among the operations that are kept in little memory.
+    Compact { at: u32 },
+    /// Among the messages that are kept whole.
     Other { at: u32 },
 }

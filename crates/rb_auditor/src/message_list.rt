@@ -4,10 +4,10 @@ ghost use Rattle.std.specs.Prelude.{option_map, slice_get};
 ghost use Rattle.rb_money.specs.declared.limits.TheConstants.{MOST_OPERATIONS as THE_MOST_OPERATIONS, MOST_SITES};
 ghost use Rattle.rb_site.specs.declared.message.Message.{Message as TheMessage};
 ghost use Rattle.rb_site.specs.declared.message.Message.TheVariants.{Shadow as ShadowMessage};
-ghost use Rattle.rb_auditor.specs.MessageLists.{IsUsual};
+ghost use Rattle.rb_auditor.specs.MessageLists.{HasCompactForm};
 ghost use Rattle.rb_auditor.specs.Sent.{row_of_message, slot_of};
 
-use crate::compact_operations::is_usual;
+use crate::compact_operations::has_compact_form;
 use crate::kept_at::KeptAt;
 use crate::message::{is_operation, name_row, name_slot, row, slot};
 use rb_ledger::OperationList;
@@ -21,11 +21,11 @@ use std::marker::Model;
 /// the bank's sites alone, where all others are 0. Clients see the messages, and for how many there is memory.
 #[derive(Drop)]
 pub struct MessageList {
-    usual: OperationList,
+    compact: OperationList,
     // Tokens, and operations with other clocks, which no site of the bank makes.
     others: Vec<Message>,
-    // One for each message.
-    spots: Vec<KeptAt>,
+    // Where each message is.
+    positions: Vec<KeptAt>,
     limit: usize,
 }
 
@@ -37,20 +37,20 @@ impl Model for MessageList {
     ghost Value = { MessageTable };
 
     ghost view = { λ l. record {
-      items = filter_map (message_kept_at l.usual.items l.others.items) l.spots.items;
-      usual = length l.usual.items;
-      sites = l.usual.sites;
+      items = filter_map (message_kept_at l.compact.items l.others.items) l.positions.items;
+      compact = length l.compact.items;
+      sites = l.compact.sites;
       limit = l.limit;
     } };
 
     ghost invariant = { λ l. record {
-      each : AreThere (message_kept_at l.usual.items l.others.items) l.spots.items;
-      whole : length l.usual.items + length l.others.items ≤ length l.spots.items;
-      within : length l.spots.items ≤ l.limit;
+      each : AreThere (message_kept_at l.compact.items l.others.items) l.positions.items;
+      whole : length l.compact.items + length l.others.items ≤ length l.positions.items;
+      within : length l.positions.items ≤ l.limit;
       few : l.limit < 2 ^ 32;
-      usual_fit : l.limit ≤ l.usual.limit;
+      compact_fit : l.limit ≤ l.compact.limit;
       others_fit : l.limit ≤ vec_capacity l.others;
-      spots_fit : l.limit ≤ vec_capacity l.spots;
+      positions_fit : l.limit ≤ vec_capacity l.positions;
     } };
 }
 
@@ -61,9 +61,9 @@ impl MessageList {
         ensures { result.items ≡ [] }
     {
         MessageList {
-            usual: OperationList::new(alloc, sites),
+            compact: OperationList::new(alloc, sites),
             others: Vec::new(alloc),
-            spots: Vec::new(alloc),
+            positions: Vec::new(alloc),
             limit: 0,
         }
     }
@@ -73,7 +73,7 @@ impl MessageList {
         ensures same { result ≡ length self.now.items }
         ensures few { result < 2 ^ 32 }
     {
-        self.spots.len()
+        self.positions.len()
     }
 
     /// The message at an index, from 0. `None` past the last.
@@ -81,8 +81,8 @@ impl MessageList {
     pub fn get(&self, index: usize) -> Option<Message>
         ensures { result ≡ slice_get self.now.items index }
     {
-        match *self.spots.get(index)? {
-            KeptAt::Usual { at } => Some(Message::Shadow(self.usual.get(at as usize)?)),
+        match *self.positions.get(index)? {
+            KeptAt::Compact { at } => Some(Message::Shadow(self.compact.get(at as usize)?)),
             KeptAt::Other { at } => Some(*self.others.get(at as usize)?),
         }
     }
@@ -92,9 +92,9 @@ impl MessageList {
     pub fn number(&self, index: usize) -> Option<(usize, usize)>
         ensures { result ≡ option_map (λ m. (row_of_message m, slot_of m)) (slice_get self.now.items index) }
     {
-        match *self.spots.get(index)? {
-            KeptAt::Usual { at } => {
-                let name = self.usual.at(at as usize)?.name();
+        match *self.positions.get(index)? {
+            KeptAt::Compact { at } => {
+                let name = self.compact.at(at as usize)?.name();
                 Some((name_row(name), name_slot(name)))
             }
             KeptAt::Other { at } => {
@@ -109,11 +109,11 @@ impl MessageList {
     pub fn has_at(&self, index: usize, message: &Message) -> bool
         ensures { IsTrue result ↔ (slice_get self.now.items index ≡ Some message.now) }
     {
-        let Some(spot) = self.spots.get(index) else {
+        let Some(position) = self.positions.get(index) else {
             return false;
         };
-        match *spot {
-            KeptAt::Usual { at } => match self.usual.get(at as usize) {
+        match *position {
+            KeptAt::Compact { at } => match self.compact.get(at as usize) {
                 Some(known) => is_operation(message, &known),
                 None => false,
             },
@@ -143,7 +143,7 @@ impl MessageList {
         ensures room { OnOk result (length self.old.items + more ≤ self.new.limit) }
         ensures few { OnOk result (self.new.limit < 2 ^ 32) }
     {
-        let Some(least) = self.spots.len().checked_add(more) else {
+        let Some(least) = self.positions.len().checked_add(more) else {
             return Err(AllocError);
         };
         if least <= self.limit {
@@ -165,9 +165,9 @@ impl MessageList {
             return Err(AllocError);
         }
         let limit = least.max(most.min(self.limit * 2));
-        self.usual.reserve(limit)?;
+        self.compact.reserve(limit)?;
         self.others.reserve(limit - self.others.len())?;
-        self.spots.reserve(limit - self.spots.len())?;
+        self.positions.reserve(limit - self.positions.len())?;
         self.limit = limit;
         Ok(())
     }
@@ -179,31 +179,32 @@ impl MessageList {
         ensures limit { self.new.limit ≡ self.old.limit }
     {
         match message {
-            Message::Shadow(shadow) if self.takes(shadow) => self.push_usual(shadow),
+            Message::Shadow(shadow) if self.takes(shadow) => self.push_compact(shadow),
             _ => self.push_other(message),
         }
     }
 
-    /// Whether the operation may be one of the usual ones.
+    /// Whether the operation may be kept in little memory, and there aren't too many of these yet.
     #[inline(always)]
     fn takes(&self, shadow: &Shadow) -> bool
-        ensures few { IsTrue result → self.now.usual < THE_MOST_OPERATIONS }
-        ensures usual { IsTrue result → IsUsual self.now.sites shadow.now }
+        ensures few { IsTrue result → self.now.compact < THE_MOST_OPERATIONS }
+        ensures compact { IsTrue result → HasCompactForm self.now.sites shadow.now }
     {
-        self.usual.len() < MOST_OPERATIONS as usize && is_usual(self.usual.sites(), shadow)
+        self.compact.len() < MOST_OPERATIONS as usize
+            && has_compact_form(self.compact.sites(), shadow)
     }
 
     /// Adds an operation of which little is kept.
-    fn push_usual(&mut self, shadow: &Shadow)
+    fn push_compact(&mut self, shadow: &Shadow)
         requires room { length self.old.items < self.old.limit }
-        requires few { self.old.usual < THE_MOST_OPERATIONS }
-        requires usual { IsUsual self.old.sites shadow.now }
+        requires few { self.old.compact < THE_MOST_OPERATIONS }
+        requires compact { HasCompactForm self.old.sites shadow.now }
         ensures items { self.new.items ≡ self.old.items ++ ShadowMessage shadow.now ∷ [] }
         ensures limit { self.new.limit ≡ self.old.limit }
     {
-        let at = self.usual.len() as u32;
-        self.usual.push(shadow);
-        self.spots.push_reserved(KeptAt::Usual { at });
+        let at = self.compact.len() as u32;
+        self.compact.push(shadow);
+        self.positions.push_reserved(KeptAt::Compact { at });
     }
 
     /// Adds a message that is kept whole.
@@ -214,6 +215,6 @@ impl MessageList {
     {
         let at = self.others.len() as u32;
         self.others.push_reserved(*message);
-        self.spots.push_reserved(KeptAt::Other { at });
+        self.positions.push_reserved(KeptAt::Other { at });
     }
 }

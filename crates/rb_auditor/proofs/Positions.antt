@@ -8,7 +8,7 @@ use Rattle.rb_site.specs.declared.message.Message.{Message}
 use Rattle.rb_site.specs.declared.message.Message.TheVariants.{Shadow as ShadowMessage}
 use Rattle.rb_site.proofs.Public.Lists.{get_front}
 use Rattle.rb_auditor.specs.declared.kept_at.KeptAt.{KeptAt}
-use Rattle.rb_auditor.specs.declared.kept_at.KeptAt.TheVariants.{Usual, Other}
+use Rattle.rb_auditor.specs.declared.kept_at.KeptAt.TheVariants.{Compact, Other}
 use Rattle.rb_auditor.specs.MessageLists.{AreThere, MessageTable, message_kept_at}
 use Rattle.rb_auditor.proofs.Found
 use Rattle.rb_auditor.proofs.Lists
@@ -19,27 +19,27 @@ kept h None next more y at = cc
 kept h (Some x) next more y at = ap (option_map h) (more x refl) ∙ at
 
 -- a message stays where it is with more operations
-usual_more : (us more : List Shadow) (os : List Message) (p : KeptAt) (m : Message) → message_kept_at us os p ≡ Some m
+compact_more : (us more : List Shadow) (os : List Message) (p : KeptAt) (m : Message) → message_kept_at us os p ≡ Some m
     → message_kept_at (us ++ more) os p ≡ Some m
-usual_more us more os (Usual k) m at =
+compact_more us more os (Compact k) m at =
     kept (λ u. ShadowMessage u) (slice_get us k) (slice_get (us ++ more) k) (get_front us more k) m at
-usual_more us more os (Other k) m at = at
+compact_more us more os (Other k) m at = at
 
 -- and with more others
 others_more : (us : List Shadow) (os more : List Message) (p : KeptAt) (m : Message) → message_kept_at us os p ≡ Some m
     → message_kept_at us (os ++ more) p ≡ Some m
-others_more us os more (Usual k) m at = at
+others_more us os more (Compact k) m at = at
 others_more us os more (Other k) m at = get_front os more k m at
 
 -- one operation more
-pub usual_pushed : (us vs : List Shadow) (os : List Message) (ps qs : List KeptAt) (u : Shadow) (k : ℕ) → vs ≡ us ++ u ∷ []
-    → qs ≡ ps ++ Usual k ∷ [] → k ≡ length us → AreThere (message_kept_at us os) ps
+pub compact_pushed : (us vs : List Shadow) (os : List Message) (ps qs : List KeptAt) (u : Shadow) (k : ℕ) → vs ≡ us ++ u ∷ []
+    → qs ≡ ps ++ Compact k ∷ [] → k ≡ length us → AreThere (message_kept_at us os) ps
     → map (message_kept_at vs os) qs ≡ map (λ m. Some m) (filter_map (message_kept_at us os) ps ++ ShadowMessage u ∷ [])
-usual_pushed us vs os ps qs u k e f last each =
+compact_pushed us vs os ps qs u k e f last each =
     ap (λ xs. map (message_kept_at xs os) qs) e
     ∙ ap (map (message_kept_at (us ++ u ∷ []) os)) f
-    ∙ Found.pushed (message_kept_at (us ++ u ∷ []) os) ps (filter_map (message_kept_at us os) ps) (Usual k) (ShadowMessage u)
-    (Found.still (message_kept_at us os) (message_kept_at (us ++ u ∷ []) os) (usual_more us (u ∷ []) os) ps
+    ∙ Found.pushed (message_kept_at (us ++ u ∷ []) os) ps (filter_map (message_kept_at us os) ps) (Compact k) (ShadowMessage u)
+    (Found.still (message_kept_at us os) (message_kept_at (us ++ u ∷ []) os) (compact_more us (u ∷ []) os) ps
     (filter_map (message_kept_at us os) ps) each)
     (ap (option_map (λ v. ShadowMessage v)) (ap (slice_get (us ++ u ∷ [])) last ∙ Lists.get_after us [] u))
 
@@ -55,30 +55,30 @@ other_pushed us os ns ps qs m k e f last each =
     (filter_map (message_kept_at us os) ps) each)
     (ap (slice_get (os ++ m ∷ [])) last ∙ Lists.get_after os [] m)
 
--- the message at a spot that is read
-pub at_spot : (us : List Shadow) (os : List Message) (ps now : List KeptAt) (t : MessageTable) (usual sites limit k : ℕ) (p : KeptAt)
-    → record { items = filter_map (message_kept_at us os) ps; usual = usual; sites = sites; limit = limit } ≡ t
+-- the message at a position that is read
+pub at_position : (us : List Shadow) (os : List Message) (ps now : List KeptAt) (t : MessageTable) (compact sites limit k : ℕ) (p : KeptAt)
+    → record { items = filter_map (message_kept_at us os) ps; compact = compact; sites = sites; limit = limit } ≡ t
     → AreThere (message_kept_at us os) ps
     → now ≡ ps → k < length now → p ≡ get_or now k p → slice_get t.items k ≡ message_kept_at us os p
-at_spot us os ps now t usual sites limit k p view each same less is =
+at_position us os ps now t compact sites limit k p view each same less is =
     ap (λ (t : MessageTable). slice_get t.items k) (sym view)
     ∙ Found.at_some (message_kept_at us os) ps (filter_map (message_kept_at us os) ps) k p each
     (ap (λ qs. slice_get qs k) (sym same) ∙ slice_get_read now (length now) k p refl less is)
 
 -- past the last there is none
-pub past_spots : (us : List Shadow) (os : List Message) (ps now : List KeptAt) (t : MessageTable) (usual sites limit k : ℕ)
-    → record { items = filter_map (message_kept_at us os) ps; usual = usual; sites = sites; limit = limit } ≡ t
+pub past_positions : (us : List Shadow) (os : List Message) (ps now : List KeptAt) (t : MessageTable) (compact sites limit k : ℕ)
+    → record { items = filter_map (message_kept_at us os) ps; compact = compact; sites = sites; limit = limit } ≡ t
     → AreThere (message_kept_at us os) ps
     → now ≡ ps → length now ≤ k → slice_get t.items k ≡ None
-past_spots us os ps now t usual sites limit k view each same past =
+past_positions us os ps now t compact sites limit k view each same past =
     ap (λ (t : MessageTable). slice_get t.items k) (sym view)
     ∙ Found.at_none (message_kept_at us os) ps (filter_map (message_kept_at us os) ps) k each
     (ap (λ qs. slice_get qs k) (sym same) ∙ slice_get_past now k past)
 
--- as many messages as spots
-pub many_spots : (us : List Shadow) (os : List Message) (ps : List KeptAt) (t : MessageTable) (usual sites limit : ℕ)
-    → record { items = filter_map (message_kept_at us os) ps; usual = usual; sites = sites; limit = limit } ≡ t
+-- as many messages as positions
+pub many_positions : (us : List Shadow) (os : List Message) (ps : List KeptAt) (t : MessageTable) (compact sites limit : ℕ)
+    → record { items = filter_map (message_kept_at us os) ps; compact = compact; sites = sites; limit = limit } ≡ t
     → AreThere (message_kept_at us os) ps
     → length ps ≡ length t.items
-many_spots us os ps t usual sites limit view each =
+many_positions us os ps t compact sites limit view each =
     Found.many (message_kept_at us os) ps (filter_map (message_kept_at us os) ps) each ∙ ap (λ (t : MessageTable). length t.items) view

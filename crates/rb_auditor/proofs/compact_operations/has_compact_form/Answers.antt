@@ -2,7 +2,7 @@
 use Rattle.std.proofs.Common.{◌∙◌, arith, sym}
 use Rattle.std.proofs.lemmas.Bool.{eqb-true}
 use Rattle.rb_auditor.proofs.Clocks
-use Rattle.rb_auditor.proofs.compact_operations.is_usual.Goals as goal
+use Rattle.rb_auditor.proofs.compact_operations.has_compact_form.Goals as goal
 
 pub returns : goal.returns
 returns c = λ yes.
