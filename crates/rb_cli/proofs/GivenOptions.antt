@@ -184,7 +184,7 @@ none_defaulted c (a ∷ rules) rows all =
     go true k = refl
     go false k = refl
 
--- a command takes its options in turn, where the last checks pass
+-- a command takes its options in turn, if the last checks pass
 pub takes_given : (s : Shape) (gs : List Given) → HasOptions s → AreGiven s [] gs → check_fault s (rows_with [] gs) false ≡ []
     → (level_fault s [] nothing_held (spelled gs) false [] ≡ []) × (rows_after s.rules [] (spelled gs) ≡ rows_with [] gs)
 takes_given s gs all given checks =

@@ -225,7 +225,7 @@ site_given its_rows all none =
       given_text (leaf site_line).rules _ _ its_rows all refl given.1,
     )
 
--- the number of entries that are sent again, where it is given
+-- the number of entries that are sent again, if it is given
 resent : (o : Option Text) → IfSome o (IsNumberWithin 0 MOST_HISTORY) → IfSome (option_map numeral_value o) (λ n. n ≤ MOST_HISTORY)
 resent None h = tt
 resent (Some t) h = h.2
@@ -253,7 +253,7 @@ site_asks its_rows all none =
 
 -- ---- the command line
 
--- what a command asks for where words lead to it by this name
+-- what a command asks for if words lead to it by this name
 abbrev AsksBy : Text → Shape → Type 0
 AsksBy name s = (words : List Text) → level_fault s [] nothing_held words false [] ≡ [] → answers_to name (label_of s) ≡ true
     → Asks (Some (rows_at s words))

@@ -182,7 +182,7 @@ sent, and the replies of the operations that became ready, which are applied the
 
 What is indented further here is the rest of the line above it. A message is given to its receivers as an event,
 as it is: an operation to every other site, the token to the site that it is for. A journal that is there goes on:
-first the messages of its last N entries are written again, those of all entries where --resend isn't given.
+first the messages of its last N entries are written again, those of all entries if --resend isn't given.
 
 The options have any order, as --me 0 or as --me=0; a file's name that begins with - is written ./-
 
