@@ -22,9 +22,9 @@ pub record IsEndAtFault (fault : ScriptFault) (e : Ending) : Type 0 where
   pub number : e.number ≡ number_of_line fault
 
 -- a script or a migration that ended well has the status 0, and the number is that of the lines that were written
-abbrev pub IsEndOfLines : Result ℕ ScriptFault → Ending → Type 0
-IsEndOfLines (Ok count) e = e ≡ record { status = 0; number = count }
-IsEndOfLines (Err fault) e = IsEndAtFault fault e
+abbrev pub IsEndingOf : Result ℕ ScriptFault → Ending → Type 0
+IsEndingOf (Ok count) e = e ≡ record { status = 0; number = count }
+IsEndingOf (Err fault) e = IsEndAtFault fault e
 
 -- ---- from memory to memory
 

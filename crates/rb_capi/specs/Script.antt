@@ -3,7 +3,7 @@ use Rattle.std.specs.Prelude.{ℕ, ℤ, List, [], Some, Result}
 use Rattle.rb_lines.specs.declared.fault.ScriptFault.{ScriptFault}
 use Rattle.rb_runs.specs.Script.{ScriptEndsAs}
 use Rattle.rb_capi.specs.declared.ending.Ending.{Ending}
-use Rattle.rb_capi.specs.Endings.{IsEndOfLines, IsHandedOver, IsInMemory}
+use Rattle.rb_capi.specs.Endings.{IsEndingOf, IsHandedOver, IsInMemory}
 
 -- a script on these bytes ended as a run may, in memory, and C finds what it wrote and how it ended
 pub record AnswersScript (input before after : List ℕ) (written number : ℕ) (status : ℤ) : Type 0 where
@@ -12,5 +12,5 @@ pub record AnswersScript (input before after : List ℕ) (written number : ℕ) 
   pub ending : Ending
   pub ran : ScriptEndsAs result input (Some []) text
   pub in_memory : IsInMemory result
-  pub ended : IsEndOfLines result ending
+  pub ended : IsEndingOf result ending
   pub handed : IsHandedOver text ending before after written number status

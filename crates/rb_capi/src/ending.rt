@@ -1,7 +1,7 @@
 //! How a run in memory ends, and what C finds then. The run's text is kept until the end and then copied, since no
 //! contract of a run says that what is behind its text stays as it was.
 ghost use Rattle.std.specs.Prelude.{◌≡◌};
-ghost use Rattle.rb_capi.specs.Endings.{IsEndAtFault, IsEndOfLines, IsHandedOver};
+ghost use Rattle.rb_capi.specs.Endings.{IsEndAtFault, IsEndingOf, IsHandedOver};
 ghost use Rattle.rb_capi.specs.Endings.{number_of_line, result_in_memory, text_in_memory};
 
 use rb_lines::{ScriptFault, status};
@@ -51,8 +51,8 @@ pub fn end_at_fault(fault: ScriptFault) -> Ending
 }
 
 /// How a script or a migration ends: the number is that of the lines that it wrote.
-pub fn end_of_lines(ran: Result<u64, ScriptFault>) -> Ending
-    ensures { IsEndOfLines ran result }
+pub fn ending_of(ran: Result<u64, ScriptFault>) -> Ending
+    ensures { IsEndingOf ran result }
 {
     match ran {
         Ok(lines) => Ending {

@@ -1,7 +1,7 @@
 //! A migration, from bytes to bytes.
 ghost use Rattle.rb_capi.specs.Migrate.{AnswersMigration};
 
-use crate::ending::{end_of_lines, hand_over, in_memory};
+use crate::ending::{ending_of, hand_over, in_memory};
 use rb_lines::{FromBytes, ToBytes};
 use rb_runs::run_migrate;
 use std::alloc::Global;
@@ -22,6 +22,6 @@ pub extern "C" fn rbbank_migrate(
     let mut reader = FromBytes::new(input);
     let mut writer = ToBytes::new(alloc);
     let ran = run_migrate(alloc, &mut reader, &mut writer);
-    let ended = end_of_lines(in_memory(ran, &mut writer.taken));
+    let ended = ending_of(in_memory(ran, &mut writer.taken));
     hand_over(writer.taken.as_slice(), ended, out, written, number)
 }
