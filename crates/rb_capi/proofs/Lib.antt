@@ -1,4 +1,2 @@
-mod BankHandleValues
 mod RawBoxValues
-mod SiteHandleValues
 mod SlotValues

@@ -22,9 +22,9 @@ use Rattle.core.proofs.atomic.Steps.{Ptr-Good}
 use Rattle.core.proofs.cell.Inside.{Good}
 use Rattle.std.proofs.raw_atomic.Walks.{proved_at, leaves}
 use Rattle.rb_capi.proofs.RawBoxValues.{both, both_tt}
-use Rattle.rb_capi.proofs.SlotValues.{Z, Slot, slot_in}
+use Rattle.rb_capi.proofs.SlotValues.{Z, Slot, slot_in, slot_out}
 use Rattle.rb_capi.specs.contracts.bank.Bank.{the_row as bank_row}
-use Rattle.rb_capi.proofs.BankHandleValues.{BankHandle, handle_out}
+use Rattle.rb_capi.specs.contracts.bank_handle.BankHandle.{the_row as BankHandle}
 use Rattle.rb_capi.specs.contracts.bank_handle.BankHandle.into_slot.{ended, clauses}
 use Rattle.rb_capi.specs.contracts.bank_handle.BankHandle.into_slot.Key.{name as #self}
 use Rattle.rb_capi.proofs.bank_handle.BankHandle.into_slot.Statement.{statement}
@@ -41,7 +41,7 @@ into_slot_spec 𝓤 𝓛 𝓜 𝓡 wired =
     → SProp 𝓤 = λ ws. WpFn 𝓤 H 𝓣.C 𝓣.Λ fn ws Post in
     qed 𝓛 ((raw (alive 𝓛 En.signature κs qs) ⊛ ‵ (owns (types_at En.signature.params κs) z.0.3 z.0.4)) ∷ raw ((c κs z.0.3).requires z.1)
     ∷ []) ∵
-    split ! $ move ! (1 ∷ []) $ fsplit ! $ handle_out ! s z.0.4.0 (λ h ws fits.
+    split ! $ move ! (1 ∷ []) $ fsplit ! $ slot_out R ! (record { at = s.at; alloc = s.alloc; value = s.value }) z.0.4.0 (λ h ws fits.
     let w : Val = both (ptr_val s.at) h in let ptr = Ptr-Good s.at in
     let typed : Good (layout (BankHandle)) w = (
       both_tt (has_ty ty_ptr (ptr_val s.at)) (has_ty (layout Z) h) ptr.0 fits.0,

@@ -22,9 +22,9 @@ use Rattle.core.proofs.atomic.Steps.{Ptr-Good}
 use Rattle.core.proofs.cell.Inside.{Good}
 use Rattle.std.proofs.raw_atomic.Walks.{proved_at, leaves}
 use Rattle.rb_capi.proofs.RawBoxValues.{both, both_tt}
-use Rattle.rb_capi.proofs.SlotValues.{Z, Slot, slot_out}
+use Rattle.rb_capi.proofs.SlotValues.{Z, Slot, slot_in, slot_out}
 use Rattle.rb_capi.specs.contracts.kept_site.KeptSite.{the_row as site_row}
-use Rattle.rb_capi.proofs.SiteHandleValues.{SiteHandle, handle_in}
+use Rattle.rb_capi.specs.contracts.site_handle.SiteHandle.{the_row as SiteHandle}
 use Rattle.rb_capi.specs.contracts.site_handle.SiteHandle.of_slot.{ended, clauses}
 use Rattle.rb_capi.specs.contracts.site_handle.SiteHandle.of_slot.Key.{name as #self}
 use Rattle.rb_capi.proofs.site_handle.SiteHandle.of_slot.Statement.{statement}
@@ -51,7 +51,7 @@ of_slot_spec 𝓤 𝓛 𝓜 𝓡 wired =
       ),
     ) in
     let r : (SiteHandle).Denot = record { at = s.at; alloc = s.alloc; value = s.value } in
-    handle_in ! s.at h s.alloc s.value $
+    slot_in R ! s.at h s.alloc s.value $
     suffices ! (Run (w ∷ [])) (subst (λ (us : List Val). ent 𝓤 (Run (w ∷ [])) (Run us)) (sym (λ i. ws i ++ [])) (id⊢ 𝓤 (Run (w ∷ [])))) $
     enter ! 𝓣.C 𝓣.Λ fn (w ∷ []) Post $ alloc_all ! (λ l. pass_all ! refl (typed, tt) $
     sets ! (of_opd ! (get_in ! (fld ! refl (stop !)) (sub ! 0 refl (whole !)))) refl ptr $
