@@ -229,7 +229,8 @@ pub not_held : (z : SiteState) (x : OpName) (a : NotedReply) → find_in z.site.
 not_held z x a none is = answers_as z z _ _ a (named_comes z.settings z.site x None none) (refl, is, refl)
 
 -- a held shadow whose past isn't applied stays held
-pub not_ready : (z : SiteState) (x : OpName) (v : Shadow) (a : NotedReply) → find_in z.site.held x ≡ Some v → is_eligible z.site.ops v ≡ false
+pub not_ready : (z : SiteState) (x : OpName) (v : Shadow) (a : NotedReply) → find_in z.site.held x ≡ Some v →
+    is_eligible z.site.ops v ≡ false
     → Says true a (Refused NotReady) → AnswersAlone z z (outcome_of z.settings z.site (Apply x)) a
 not_ready z x v a found waits is = answers_as z z _ _ a (named_comes z.settings z.site x (Some v) found
     ∙ ap (λ b. cond (not b) (Refuses NotReady) (outcome_of_check v (refusal_of_sound z.settings z.site.ops v))) waits) (refl, is, refl)
@@ -266,7 +267,8 @@ applies s me ops held more less token x v a found eligible sound refusal grown t
     (ap (λ us. state_as s me us less token) grown ∙ ap (λ vs. state_as s me (ops ++ v ∷ []) vs token) taken, is, refl)
 
 -- the same where the check refuses it, but not as not ready: it is let go with that refusal
-pub drops : (s : Settings) (me : ℕ) (ops held less : List Shadow) (token : Token) (x : OpName) (v : Shadow) (why : Refusal) (a : NotedReply) →
+pub drops : (s : Settings) (me : ℕ) (ops held less : List Shadow) (token : Token) (x : OpName) (v : Shadow) (why : Refusal)
+    (a : NotedReply) →
     find_in held x ≡ Some v → is_eligible ops v ≡ true → IsSound s v → refusal_of s ops v ≡ Some why → (why ≡ NotReady → ⊥)
     → less ≡ without v.name held → Says true a (Refused why)
     → AnswersAlone (state_as s me ops held token) (state_as s me ops less token) (outcome_of s (site_as me ops held token) (Apply x)) a
@@ -465,7 +467,8 @@ too_many s me ops inbox token c v a few valid same limit many is =
         ap (λ b. b && not (is_eligible ops v)) first ∙ ap not (waits_means s ops c v few valid same many.waits)
 
 -- the same where it is held already: the answer is that, and nothing changes
-pub already : (s : Settings) (me : ℕ) (ops held : List Shadow) (token : Token) (v : Shadow) (a : NotedReply) → find_in held v.name ≡ Some v →
+pub already : (s : Settings) (me : ℕ) (ops held : List Shadow) (token : Token) (v : Shadow) (a : NotedReply) →
+    find_in held v.name ≡ Some v →
     Says true a (Already v.name)
     → AnswersAlone (state_as s me ops held token) (state_as s me ops held token) (outcome_of_new s (site_as me ops held token) v) a
 already s me ops held token v a found is =

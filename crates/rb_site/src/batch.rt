@@ -10,7 +10,7 @@ ghost use Rattle.rb_scratch.specs.Tried.{IsTried};
 ghost use Rattle.rb_scratch.specs.declared.request.TheConstants.{MOST_REQUESTS};
 ghost use Rattle.rb_site.specs.States.{Says};
 
-use crate::batch_room::BatchRoom;
+use crate::batch_capacity::BatchCapacity;
 use crate::noted_reply::NotedReply;
 use crate::{Message, Reply};
 use rb_ledger::Ledger;
@@ -95,7 +95,7 @@ pub fn run_batch(
         scratch.abort();
         return Err(why);
     }
-    let room = match BatchRoom::open(alloc, before, requests.len(), keeps, sent) {
+    let room = match BatchCapacity::open(alloc, before, requests.len(), keeps, sent) {
         Ok(room) => room,
         Err(_) => {
             scratch.abort();

@@ -3,7 +3,7 @@
 #![tactic(auto)]
 
 mod batch;
-mod batch_room;
+mod batch_capacity;
 mod entry;
 mod event;
 mod keeps_entry;

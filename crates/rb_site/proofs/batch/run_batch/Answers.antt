@@ -1,6 +1,6 @@
 -- What was tried is named in the answer and sent, and its records are at the log's end.
 use Rattle.std.proofs.Common.{◌≡◌, ◌∙◌, ap, arith, length}
-use Rattle.rb_site.specs.Rooms.{BatchRoomFor}
+use Rattle.rb_site.specs.Capacities.{BatchCapacityFor}
 use Rattle.rb_site.proofs.Batches.{as_many}
 use Rattle.rb_site.proofs.batch.run_batch.Goals as goal
 
@@ -9,7 +9,7 @@ filled-requires-clause-few c =
     let (vs, tried, runs) = c.in_default.ensures.tried in
     let same : c.as_slice.result.now ≡ vs = c.as_slice.ensures.value ∙ c.in-Ok-commit.ensures.made _ vs tried in
     let many : length vs ≡ length c.args.requests.now = as_many _ _ _ vs c.open-scratch.result.token c.args.requests.now runs in
-    omega (arith, ap length same, many, ap (λ (r : BatchRoomFor). r.most) c.in-Ok.ensures.ok.0)
+    omega (arith, ap length same, many, ap (λ (r : BatchCapacityFor). r.most) c.in-Ok.ensures.ok.0)
 
 pub filled-requires-clause-room : goal.filled-requires-clause-room
 filled-requires-clause-room c =

@@ -1,7 +1,7 @@
 -- So far there is a message for each operation below.
 use Rattle.std.proofs.Common.{◌≡◌, ◌+◌, ◌≤◌, ◌++◌, length, map, take, vec_len, vec_capacity}
 use Rattle.rb_site.specs.declared.message.Message.TheVariants.{Shadow as ShadowMessage}
-use Rattle.rb_site.proofs.batch_room.send.Given as goal
+use Rattle.rb_site.proofs.batch_capacity.send.Given as goal
 
 abbrev pub invariant-loop-shadow : goal.invariant-loop-shadow
 invariant-loop-shadow l =

@@ -1,7 +1,7 @@
 -- So far there is a name for each operation below.
 use Rattle.std.proofs.Common.{◌≡◌, ◌≤◌, length, take, vec_len, vec_capacity}
 use Rattle.rb_scratch.specs.Batches.{names_of_all}
-use Rattle.rb_site.proofs.batch_room.with_names.Given as goal
+use Rattle.rb_site.proofs.batch_capacity.with_names.Given as goal
 
 abbrev pub invariant-loop-shadow : goal.invariant-loop-shadow
 invariant-loop-shadow l =

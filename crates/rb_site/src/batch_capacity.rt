@@ -1,7 +1,7 @@
 //! Memory for the answer to a batch.
 ghost use Rattle.std.specs.Prelude.{◌≡◌, ◌+◌, ◌≤◌, ◌++◌, [], IfOk, length, map, vec_len, vec_capacity};
 ghost use Rattle.rb_scratch.specs.Batches.{names_of_all};
-ghost use Rattle.rb_site.specs.Rooms.{IsRoomFor};
+ghost use Rattle.rb_site.specs.Capacities.{IsCapacityFor};
 ghost use Rattle.rb_site.specs.States.{Says};
 
 use crate::noted_reply::NotedReply;
@@ -16,18 +16,18 @@ use std::mem;
 /// Memory for the answer to a batch: for the names, and for the same in a history that keeps replies.
 /// Clients see for how many operations it is enough, and whether the history keeps replies.
 #[derive(Drop)]
-pub struct BatchRoom {
+pub struct BatchCapacity {
     most: usize,
     keeps: bool,
     names: Vec<OpName>,
     noted: Vec<OpName>,
 }
 
-impl Model for BatchRoom {
+impl Model for BatchCapacity {
     ghost use Rattle.std.specs.Prelude.{◌≡◌, ◌≤◌, [], true, vec_capacity};
-    ghost use Rattle.rb_site.specs.Rooms.{BatchRoomFor};
+    ghost use Rattle.rb_site.specs.Capacities.{BatchCapacityFor};
 
-    ghost Value = { BatchRoomFor };
+    ghost Value = { BatchCapacityFor };
 
     ghost view = { λ r. record { most = r.most; keeps = r.keeps } };
 
@@ -35,7 +35,7 @@ impl Model for BatchRoom {
         × (r.keeps ≡ true → r.most ≤ vec_capacity r.noted) };
 }
 
-impl BatchRoom {
+impl BatchCapacity {
     /// Memory for up to `most` operations, and for as many messages after those sent. Where the reply before has names,
     /// theirs is used. `Err` means out of memory.
     pub fn open(
@@ -44,8 +44,8 @@ impl BatchRoom {
         most: usize,
         keeps: bool,
         sent: &mut Vec<Message>,
-    ) -> Result<BatchRoom, AllocError>
-        ensures ok { IfOk result (λ room. IsRoomFor room keeps most
+    ) -> Result<BatchCapacity, AllocError>
+        ensures ok { IfOk result (λ room. IsCapacityFor room keeps most
             × (vec_len sent.new + most ≤ vec_capacity sent.new)) }
         ensures sent { sent.new.items ≡ sent.old.items }
     {
@@ -56,7 +56,7 @@ impl BatchRoom {
             noted.reserve(most)?;
         }
         sent.reserve(most)?;
-        Ok(BatchRoom {
+        Ok(BatchCapacity {
             most,
             keeps,
             names,
@@ -71,7 +71,7 @@ impl BatchRoom {
         ensures answer { Says self.keeps result (Reply.Names (names_of_all made.now)) }
         ensures sent { sent.new.items ≡ sent.old.items ++ map Message.Shadow made.now }
     {
-        let BatchRoom {
+        let BatchCapacity {
             most: _,
             keeps,
             names,
