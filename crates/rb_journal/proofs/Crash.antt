@@ -1,13 +1,13 @@
 -- What a crash leaves in each step of an append and of a repair, for a file's lines.
-use Rattle.std.proofs.Common.{◌≡◌, ◌⊎◌, inl, inr, ℕ, ◌+◌, ◌-◌, ◌<◌, ◌≤◌, List, [], ◌∷◌, ◌++◌, length, get_or, take, drop, refl, sym, ◌∙◌}
-use Rattle.std.proofs.Common.{ap, subst, arith, append_assoc, length-append, length-drop, take-append-drop}
+use Rattle.std.proofs.Common.{◌≡◌, ◌⊎◌, inl, inr, ℕ, ◌+◌, ◌-◌, ◌<◌, ◌≤◌, List, [], ◌∷◌, ◌++◌, length, take, drop, refl, sym, ◌∙◌}
+use Rattle.std.proofs.Common.{ap, arith, append_assoc, length-append, length-drop, take-append-drop}
 use Rattle.std.specs.List.{concat}
-use Rattle.std.proofs.lemmas.Bool.{cases_eq}
-use Rattle.std.proofs.lemmas.List.{take_at, drop_at, drop_more, take_all, take-take, append-nil}
-use Rattle.rb_journal.specs.Host.{IsWritten, Torn, Cut}
+use Rattle.std.proofs.lemmas.List.{take_at, drop_at, take_all, take-take, take-append-le, length-take, append-nil}
+use Rattle.rb_journal.specs.Host.{IsWritten, Torn, TornByte, TornRange, Cut}
+use Rattle.rb_journal.specs.Journal.{IsAppended, HasClosedGate, IsRepaired}
 use Rattle.rb_journal.specs.Lines.{recovered, IsBatch, at_rest}
-use Rattle.rb_journal.proofs.Public.Lines.{concat-append, recovered-append, parts, front_nothing, closed, short_nothing, lines-append}
-use Rattle.rb_journal.proofs.Ends.{take_past}
+use Rattle.rb_journal.proofs.Public.Lines.{concat-append, recovered-append, parts, front_nothing, closed}
+use Rattle.rb_journal.proofs.Ends.{take_past, written_at_end}
 
 module _ (file : List ℕ) where
   abbrev lines : List (List ℕ)
@@ -42,11 +42,48 @@ module _ (file : List ℕ) where
   shut_at_rest = take_all (length text + 1) (at_rest lines) (omega (arith, length-at_rest))
 
   -- a write behind the gate keeps it closed
-  pub stays_shut : (at n : ℕ) (d c : List ℕ) → length text + 1 ≤ at → take (length text + 1) d ≡ at_rest lines → Torn at n d c →
+  range_shut : (at n : ℕ) (d c : List ℕ) → length text + 1 ≤ at → take (length text + 1) d ≡ at_rest lines → TornRange at n d c →
       take (length text + 1) c ≡ at_rest lines
-  stays_shut at n d c le shut torn =
+  range_shut at n d c le shut torn =
       sym (take-take (length text + 1) at c le) ∙ ap (λ (l : List ℕ). take (length text + 1) l) torn.before
       ∙ take-take (length text + 1) at d le ∙ shut
+
+  -- a file whose gate is closed is no shorter than the lines and the gate
+  long : (d : List ℕ) → take (length text + 1) d ≡ at_rest lines → length text + 1 ≤ length d
+  long d shut = omega (arith, length-at_rest, ap length shut, length-take (length text + 1) d)
+
+  byte_shut : (at b : ℕ) (d c : List ℕ) → length text + 1 ≤ at → take (length text + 1) d ≡ at_rest lines → TornByte at b d c →
+      take (length text + 1) c ≡ at_rest lines
+  byte_shut at b d c le shut (inl same) = ap (λ (l : List ℕ). take (length text + 1) l) same ∙ shut
+  byte_shut at b d c le shut (inr (inl written)) =
+      let front : List ℕ = take at d ++ b ∷ [] in
+      let some : length text + 1 ≤ length (take at d) = omega (arith, le, long d shut, length-take at d) in
+      let more : length text + 1 ≤ length front = omega (arith, some, length-append (take at d) (b ∷ [])) in
+      ap (λ (l : List ℕ). take (length text + 1) l) written
+      ∙ take-append-le (length text + 1) front (drop (at + length (b ∷ [])) d) more
+      ∙ take-append-le (length text + 1) (take at d) (b ∷ []) some ∙ take-take (length text + 1) at d le ∙ shut
+  byte_shut at b d c le shut (inr (inr (end, nul))) =
+      ap (λ (l : List ℕ). take (length text + 1) l) nul ∙ take-append-le (length text + 1) d (0 ∷ []) (long d shut) ∙ shut
+
+  pub stays_shut : (at : ℕ) (bytes d c : List ℕ) → length text + 1 ≤ at → take (length text + 1) d ≡ at_rest lines → Torn at bytes d c →
+      take (length text + 1) c ≡ at_rest lines
+  stays_shut at [] d c le shut torn = range_shut at 0 d c le shut torn
+  stays_shut at (b ∷ []) d c le shut torn = byte_shut at b d c le shut torn
+  stays_shut at (b ∷ e ∷ bytes) d c le shut torn = range_shut at (length (b ∷ e ∷ bytes)) d c le shut torn
+
+  -- the gate is closed, and no more bytes are behind it than the rest of the file is long
+  pub shut_closed : (c : List ℕ) (most : ℕ) → take (length text + 1) c ≡ at_rest lines → length c ≤ length text + 1 + most → HasClosedGate lines most c
+  shut_closed c most shut few = (
+    drop (length text + 1) c,
+    sym (take-append-drop (length text + 1) c) ∙ ap (λ (l : List ℕ). l ++ drop (length text + 1) c) shut,
+    omega (arith, few, length-drop (length text + 1) c),
+  )
+
+  -- then it is read as the lines
+  pub closed_is : (c : List ℕ) (most : ℕ) → HasClosedGate lines most c → recovered c ≡ lines
+  closed_is c most (bytes, is, few) =
+      ap recovered (is ∙ append_assoc text (32 ∷ []) bytes)
+      ∙ behind_nothing (32 ∷ bytes) (closed 32 bytes (λ is. absurd (omega arith)))
 
   module _ (batch tail : List ℕ) (is : batch ≡ 123 ∷ tail) (all : IsBatch batch) where
     abbrev staged : List ℕ
@@ -67,30 +104,6 @@ module _ (file : List ℕ) where
     back =
         ap (λ (l : List ℕ). drop (length text + 1) l) (sym (append_assoc text (32 ∷ []) (tail ++ 32 ∷ [])))
         ∙ drop_at (at_rest lines) (tail ++ 32 ∷ []) (length text + 1) length-at_rest
-
-    opened : recovered (text ++ 123 ∷ (tail ++ 32 ∷ [])) ≡ lines ++ recovered batch
-    opened =
-        recovered-append file (123 ∷ (tail ++ 32 ∷ []))
-        ∙ ap (λ (l : List ℕ). lines ++ recovered (l ++ 32 ∷ [])) (sym is)
-        ∙ ap (λ (ls : List (List ℕ)). lines ++ ls) (lines-append batch (32 ∷ []) all ∙ append-nil (recovered batch))
-
-    any_gate : (gate : ℕ) → (recovered (text ++ gate ∷ (tail ++ 32 ∷ [])) ≡ lines)
-        ⊎ (recovered (text ++ gate ∷ (tail ++ 32 ∷ [])) ≡ lines ++ recovered batch)
-    any_gate gate = elim (cases_eq gate 123) [
-      | inl is_open ↦ inr (ap (λ (g : ℕ). recovered (text ++ g ∷ (tail ++ 32 ∷ []))) is_open ∙ opened)
-      | inr shut ↦ inl (behind_nothing (gate ∷ (tail ++ 32 ∷ [])) (closed gate (tail ++ 32 ∷ []) shut))
-    ]
-
-    -- each outcome of the write that opens the gate has the whole batch or none of it
-    pub torn_gate : (c : List ℕ) → Torn (length text) 1 staged c → (recovered c ≡ lines) ⊎ (recovered c ≡ lines ++ recovered batch)
-    torn_gate c torn =
-        let gate = get_or c (length text) 0 in
-        let rest : drop (length text) c ≡ gate ∷ (tail ++ 32 ∷ []) =
-        drop_more c (length text) 0 (omega (arith, torn.no_shorter, length-staged)) ∙ ap (λ (l : List ℕ). gate ∷ l) (torn.after ∙ back) in
-        let whole : c ≡ text ++ gate ∷ (tail ++ 32 ∷ []) =
-        sym (take-append-drop (length text) c) ∙ ap (λ (l : List ℕ). l ++ drop (length text) c) (torn.before ∙ front)
-        ∙ ap (λ (l : List ℕ). text ++ l) rest in
-        subst (λ (f : List ℕ). (recovered f ≡ lines) ⊎ (recovered f ≡ lines ++ recovered batch)) (sym whole) (any_gate gate)
 
     -- once the gate is opened the file is at rest with the batch
     pub written_gate : (c : List ℕ) → IsWritten staged (length text) (123 ∷ []) c → c ≡ at_rest (lines ++ recovered batch)
@@ -117,6 +130,21 @@ module _ (file : List ℕ) where
     length-after = ap length (concat-append lines (recovered batch)) ∙ length-append text (concat (recovered batch))
         ∙ ap (λ (l : List ℕ). length text + length l) all
 
+    -- the write that opens the gate leaves it closed, or the file at rest with the batch
+    pub torn_gate : (c : List ℕ) → Torn (length text) (123 ∷ []) staged c → IsAppended lines batch c
+    torn_gate c (inl same) = inl (
+      tail ++ 32 ∷ [],
+      same ∙ sym (append_assoc text (32 ∷ []) (tail ++ 32 ∷ [])),
+      omega (arith, ap length is, length-append tail (32 ∷ [])),
+    )
+    torn_gate c (inr (inl written)) = inr (written_gate c written)
+    torn_gate c (inr (inr (end, nul))) = absurd (omega (arith, end, length-staged))
+
+    -- so all of the batch is there or none of it
+    pub all_or_none : (c : List ℕ) → IsAppended lines batch c → (recovered c ≡ lines) ⊎ (recovered c ≡ lines ++ recovered batch)
+    all_or_none c (inl shut) = inl (closed_is c (length batch) shut)
+    all_or_none c (inr is) = inr (ap recovered is ∙ after_gate)
+
   -- any cut behind the lines keeps them
   pub cut_keeps : (c : List ℕ) → Cut (length text) file c → recovered c ≡ lines
   cut_keeps c cut =
@@ -137,17 +165,20 @@ module _ (file : List ℕ) where
   pub fits : length text ≤ length file
   fits = omega (arith, ap length (parts file).split, length-append text (parts file).end)
 
-  -- one byte behind the lines is no line
-  pub torn_end : (c : List ℕ) → Torn (length text) 1 text c → recovered c ≡ lines
-  torn_end c torn =
-      let front : take (length text) c ≡ text = torn.before ∙ take_all (length text) text (omega arith) in
-      let whole : c ≡ text ++ drop (length text) c = sym (take-append-drop (length text) c)
-      ∙ ap (λ (l : List ℕ). l ++ drop (length text) c) front in
-      ap recovered whole ∙ behind_nothing (drop (length text) c) (short_nothing (drop (length text) c) (omega (
-        arith,
-        length-drop (length text) c,
-        torn.no_longer,
-      )))
+  -- the write of the gate leaves the lines, with the gate or a NUL behind them, or with nothing
+  pub torn_end : (c : List ℕ) → Torn (length text) (32 ∷ []) text c → IsRepaired file c
+  torn_end c (inl same) = inl (record {
+    no_shorter = omega (arith, ap length same);
+    front = ap (λ (n : ℕ). take n file) (ap length same) ∙ cut_done ∙ sym same;
+  })
+  torn_end c (inr (inl written)) = inr (inl (written_at_end text (length text) (32 ∷ []) c refl written))
+  torn_end c (inr (inr (end, nul))) = inr (inr nul)
+
+  -- what a repair leaves is read as the lines
+  pub repaired_is : (c : List ℕ) → IsRepaired file c → recovered c ≡ lines
+  repaired_is c (inl cut) = cut_keeps c cut
+  repaired_is c (inr (inl gate)) = ap recovered gate ∙ behind_nothing (32 ∷ []) refl
+  repaired_is c (inr (inr nul)) = ap recovered nul ∙ behind_nothing (0 ∷ []) refl
 
   -- the lines alone are read as the lines
   pub text_is : recovered text ≡ lines

@@ -2,6 +2,8 @@ pub mod Public
 mod Batches
 mod Ends
 mod Crash
+mod Torn
+mod Intact
 mod Output
 mod Silent
 mod Advance

@@ -45,3 +45,9 @@ module _ {H : Type 0} {moment : H → ℕ} {left_since : H → ℕ → List ℕ 
   read_as {Q} {old} {new} kept here =
       weaker moment left_since old new (λ c d. P c × (d ≡ output old)) (λ c d. Q c × (d ≡ output old)) kept.run
       (λ c d at. (here c at.0, at.1))
+
+  -- the same of the file alone
+  pub left_as : {Q : List ℕ → Type 0} {old new : H} → Keeps moment left_since may_leave output P old new → ((c : List ℕ) → P c → Q c) →
+      LeavesOnly moment left_since old new (λ c d. Q c)
+  left_as {Q} {old} {new} kept here =
+      weaker moment left_since old new (λ c d. P c × (d ≡ output old)) (λ c d. Q c) kept.run (λ c d at. here c at.0)

@@ -59,7 +59,7 @@ output_of (event ∷ past) = output_after (host_call_of event) (output_of past)
 -- what file a crash may leave after the call
 abbrev pub leaves_after : HostCall → List ℕ → (List ℕ → Type 0) → List ℕ → Type 0
 leaves_after (found bytes) file before c = c ≡ bytes
-leaves_after (wrote ok at bytes) file before c = (d : List ℕ) × before d × Torn at (length bytes) d c
+leaves_after (wrote ok at bytes) file before c = (d : List ℕ) × before d × Torn at bytes d c
 leaves_after (cut ok len) file before c = (d : List ℕ) × before d × Cut len d c
 leaves_after (synced true) file before c = (c ≡ file) × before c
 leaves_after (synced false) file before c = before c

@@ -1,5 +1,5 @@
 -- What the calls of a host do to its file and its output, and what a crash may do between two syncs.
-use Rattle.std.specs.Prelude.{◌<◌, ◌≡◌, ◌⊎◌, ℕ, ◌+◌, ◌≤◌, max, List, ◌++◌, length, take, drop, Result, IsErrOf}
+use Rattle.std.specs.Prelude.{◌<◌, ◌≡◌, ◌⊎◌, ℕ, ◌+◌, ◌≤◌, max, List, [], ◌∷◌, ◌++◌, length, take, drop, Result, IsErrOf}
 use Rattle.rb_journal.specs.declared.host.HostError.{HostError}
 use Rattle.rb_journal.specs.declared.host.HostError.TheVariants.{DiskFailed, OutputFailed, Full}
 
@@ -8,11 +8,22 @@ abbrev pub IsWritten : List ℕ → ℕ → List ℕ → List ℕ → Type 0
 IsWritten old at bytes new = new ≡ take at old ++ bytes ++ drop (at + length bytes) old
 
 -- after a write of n bytes that a crash cuts short: any bytes in the range and past the old end, the same elsewhere
-pub record Torn (at n : ℕ) (old new : List ℕ) : Type 0 where
+pub record TornRange (at n : ℕ) (old new : List ℕ) : Type 0 where
   pub before : take at new ≡ take at old
   pub after : drop (at + n) new ≡ drop (at + n) old
   pub no_shorter : length old ≤ length new
   pub no_longer : length new ≤ max (length old) (at + n)
+
+-- after a write of one byte that a crash cuts short: nothing, or all of it; or a NUL at the end of the file, where the
+-- file was made longer and the byte never came
+abbrev pub TornByte : ℕ → ℕ → List ℕ → List ℕ → Type 0
+TornByte at b old new = (new ≡ old) ⊎ IsWritten old at (b ∷ []) new ⊎ ((at ≡ length old) × (new ≡ old ++ 0 ∷ []))
+
+-- after a write of these bytes that a crash cuts short: of one byte all or nothing, of more any bytes in the range
+abbrev pub Torn : ℕ → List ℕ → List ℕ → List ℕ → Type 0
+Torn at [] old new = TornRange at 0 old new
+Torn at (b ∷ []) old new = TornByte at b old new
+Torn at (b ∷ c ∷ bytes) old new = TornRange at (length (b ∷ c ∷ bytes)) old new
 
 -- after a cut: some length between
 pub record Cut (n : ℕ) (old new : List ℕ) : Type 0 where

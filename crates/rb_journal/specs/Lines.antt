@@ -1,6 +1,6 @@
 -- The lines of a file.
-use Rattle.std.specs.Prelude.{◌≡◌, ◌≢◌, ℕ, Bool, false, List, [], ◌∷◌, ◌++◌, if◌then◌else◌, ◌==◌, take_while}
-use Rattle.std.specs.Prelude.{slice_index, All}
+use Rattle.std.specs.Prelude.{◌≡◌, ◌≢◌, ◌⊎◌, ℕ, Bool, false, List, [], ◌∷◌, ◌++◌, if◌then◌else◌, ◌==◌, take_while}
+use Rattle.std.specs.Prelude.{slice_index, All, length, drop}
 use Rattle.std.specs.List.{concat}
 
 -- a byte before lines belongs to the first of them, and is no line alone
@@ -21,6 +21,24 @@ is_open (b ∷ line) = b == 123
 -- the lines of a file: those up to the first that doesn't begin with `{` or isn't whole
 abbrev pub recovered : List ℕ → List (List ℕ)
 recovered file = take_while is_open (lines_in file)
+
+-- what is behind the lines of a file
+abbrev pub behind_lines : List ℕ → List ℕ
+behind_lines file = drop (length (concat (recovered file))) file
+
+-- what a crash may leave behind lines: nothing; a closed gate, a space (32), or a NUL in its place, with any bytes behind
+-- it; or the front of one line, which begins with `{` and has no LF
+abbrev pub MayBeBehind : List ℕ → Type 0
+MayBeBehind [] = Unit {0}
+MayBeBehind (b ∷ bytes) = (b ≡ 32) ⊎ (b ≡ 0) ⊎ ((b ≡ 123) × All (λ c. c ≢ 10) bytes)
+
+-- a crash may leave the file: no other byte is at the place of a line's first, or of the gate
+abbrev pub IsIntact : List ℕ → Type 0
+IsIntact file = MayBeBehind (behind_lines file)
+
+-- no crash leaves it
+abbrev pub IsDamaged : List ℕ → Type 0
+IsDamaged file = ¬ IsIntact file
 
 -- these bytes are lines that begin with `{`, and nothing else
 abbrev pub IsBatch : List ℕ → Type 0

@@ -39,7 +39,7 @@ pub(crate) fn wrote(log: &mut CallLog, at: usize, bytes: &[u8], ok: bool) -> Res
     ensures ok { IsTrue ok ↔ IsOk result }
     ensures usable { OnOk result (faults_of log.new.events ≡ 0) }
     ensures written { IsWritten (content_of log.old.events) at bytes.now (content_of log.new.events) }
-    ensures crash { StepsFrom (Torn at (length bytes.now)) (leaves log.old.events) (leaves log.new.events) }
+    ensures crash { StepsFrom (Torn at bytes.now) (leaves log.old.events) (leaves log.new.events) }
     ensures output { output_of log.new.events ≡ output_of log.old.events }
     ensures time { Elapses (length log.old.events) (length log.new.events) (left_since log.old.events)
         (left_since log.new.events)

@@ -4,7 +4,7 @@
 ghost use Rattle.std.specs.Prelude.{◌≡◌, ◌+◌, ◌^◌, ◌<◌, ◌≤◌, ◌⊎◌, ◌++◌, List, ℕ, [], true, Some, Ok, Err, length};
 ghost use Rattle.std.specs.Prelude.{MatchResult};
 ghost use Rattle.rb_journal.specs.Host.{LeavesOnly};
-ghost use Rattle.rb_journal.specs.Lines.{recovered};
+ghost use Rattle.rb_journal.specs.Lines.{IsIntact, recovered};
 ghost use Rattle.rb_journal.specs.Journal.{IsSettled};
 ghost use Rattle.rb_journal.specs.Ends.{EndsAtRest, IsFull};
 ghost use Rattle.rb_journal.specs.Run.{IsRunOfBatches};
@@ -50,6 +50,7 @@ pub fn answer_group<R: JournaledResponder, H: Host>(
         → LeavesOnly H.moment H.left_since journal.old.host journal.new.host
         (IsRunOfBatches R.answers (Some (buffers.old.pending ++ rest)) (R.state responder.old)
         (recovered (H.content journal.old.host)) (H.output journal.old.host)) }
+    ensures intact { LeavesOnly H.moment H.left_since journal.old.host journal.new.host (λ c _. IsIntact c) }
 
     ensures later { H.faults journal.old.host ≤ H.faults journal.new.host }
     ensures write { result ≡ Err Write → H.faults journal.old.host < H.faults journal.new.host }

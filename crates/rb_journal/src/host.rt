@@ -59,13 +59,14 @@ pub trait Host {
     /// How often the file or the output has failed.
     ghost faults: { Self → ℕ };
 
-    /// Writes over what is there, and past the end. Until a sync, a crash may leave any bytes in the range.
+    /// Writes over what is there, and past the end. Until a sync, a crash may leave any bytes in the range of more than
+    /// one; one byte is written or isn't, and at the end there may be a NUL in its place.
     fn write_at(&mut self, at: usize, bytes: &[u8]) -> Result<(), HostError>
         requires usable { is_usable self.old }
         requires place { at ≤ length (content self.old) }
         ensures usable { OnOk result (is_usable self.new) }
         ensures written { OnOk result (IsWritten (content self.old) at bytes.now (content self.new)) }
-        ensures crash { StepsFrom (Torn at (length bytes.now)) (may_leave self.old) (may_leave self.new) }
+        ensures crash { StepsFrom (Torn at bytes.now) (may_leave self.old) (may_leave self.new) }
         ensures output { output self.new ≡ output self.old }
         ensures time { Elapses (moment self.old) (moment self.new) (left_since self.old) (left_since self.new)
             (Silent (may_leave self.new) (output self.old)) }

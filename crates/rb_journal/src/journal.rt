@@ -2,11 +2,12 @@
 //! a batch is written behind it, with a closed gate of its own at its end, and synced; then the gate is opened, by
 //! the one byte `{`, and synced. So a crash leaves all of a batch or none of it.
 ghost use Rattle.std.specs.Prelude.{◌≡◌, ◌⊎◌, ◌+◌, ◌<◌, ◌≤◌, ◌^◌, ◌++◌, [], ◌∷◌, List, ℕ, length, take, IfOk, IfErr};
-ghost use Rattle.std.specs.Prelude.{OnOk, IsErrOf, ◌==◌, position};
+ghost use Rattle.std.specs.Prelude.{◌↔◌, OnOk, IsErrOf, IsTrue, MatchOption, ◌==◌, position};
 ghost use Rattle.std.specs.List.{concat};
 ghost use Rattle.rb_journal.specs.Host.{Only, Outputs, LeavesOnly};
-ghost use Rattle.rb_journal.specs.Lines.{recovered, at_rest, IsBatch};
-ghost use Rattle.rb_journal.specs.Journal.{IsSettled, IsLeftAs, IsBeforeOrAfter, IsDurable};
+ghost use Rattle.rb_journal.specs.Lines.{recovered, at_rest, IsBatch, IsDamaged, IsIntact, MayBeBehind};
+ghost use Rattle.rb_journal.specs.Journal.{IsSettled, IsLeftAs, IsBeforeOrAfter, IsDurable, IsAppended, HasClosedGate};
+ghost use Rattle.rb_journal.specs.Journal.{IsRepaired};
 
 use crate::{Host, HostError};
 
@@ -26,7 +27,8 @@ pub struct Journal<H: Host> {
 
 impl<H: Host> Journal<H> {
     /// Opens a file that a crash may have left, whose bytes these are, and repairs its end. It may crash too.
-    /// An `Err` gives the host back: out of memory, or the file failed.
+    /// `damaged_line` finds a file that no crash left, before it. An `Err` gives the host back: out of memory, or the
+    /// file failed.
     pub fn open(mut host: H, bytes: &[u8]) -> Result<Journal<H>, (HostError, H)>
         requires usable { H.is_usable host }
         requires bytes { bytes.now ≡ H.content host }
@@ -42,6 +44,12 @@ impl<H: Host> Journal<H> {
             (IsLeftAs (recovered bytes.now) (H.output host))) }
         ensures any_moment_err { IfErr result (λ e. LeavesOnly H.moment H.left_since host e.1
             (IsLeftAs (recovered bytes.now) (H.output host))) }
+
+        // And a file with some bytes cut off, or its lines with a byte behind them: undamaged, if the file was.
+        ensures repaired { IfOk result (λ journal. LeavesOnly H.moment H.left_since host journal.host
+            (λ c _. IsRepaired bytes.now c × (IsIntact bytes.now → IsIntact c))) }
+        ensures repaired_err { IfErr result (λ e. LeavesOnly H.moment H.left_since host e.1
+            (λ c _. IsRepaired bytes.now c × (IsIntact bytes.now → IsIntact c))) }
 
         ensures later { IfOk result (λ journal. H.faults host ≤ H.faults journal.host) }
         ensures failed { IfErr result (λ e. e.0 ≡ HostError.DiskFailed → H.faults host < H.faults e.1) }
@@ -69,6 +77,10 @@ impl<H: Host> Journal<H> {
         // A crash at any moment of the call leaves the lines from before it, with all of the batch or none of it.
         ensures any_moment { LeavesOnly H.moment H.left_since self.old.host self.new.host
             (IsBeforeOrAfter (recovered (H.content self.old.host)) (recovered batch.now) (H.output self.old.host)) }
+
+        // And a file that isn't damaged: the gate is closed, or the file is at rest with the batch.
+        ensures appended { LeavesOnly H.moment H.left_since self.old.host self.new.host
+            (λ c _. IsAppended (recovered (H.content self.old.host)) batch.now c × IsIntact c) }
 
         // It doesn't give up by itself.
         ensures later { H.faults self.old.host ≤ H.faults self.new.host }
@@ -102,6 +114,8 @@ impl<H: Host> Journal<H> {
         // Nothing is put out that a crash, at any moment of the call, takes back.
         ensures any_moment { LeavesOnly H.moment H.left_since self.old.host self.new.host
             (IsDurable (recovered (H.content self.old.host)) (recovered batch.now) (H.output self.old.host) reply.now) }
+        ensures appended { LeavesOnly H.moment H.left_since self.old.host self.new.host
+            (λ c _. IsAppended (recovered (H.content self.old.host)) batch.now c × IsIntact c) }
 
         // It doesn't give up by itself. If the output fails, the batch is on the disk all the same.
         ensures later { H.faults self.old.host ≤ H.faults self.new.host }
@@ -133,7 +147,7 @@ fn stage<H: Host>(host: &mut H, end: usize, tail: &[u8]) -> Result<(), HostError
     ensures durable { OnOk result (Only (H.content host.new) (H.may_leave host.new)) }
     ensures output { H.output host.new ≡ H.output host.old }
     ensures any_moment { LeavesOnly H.moment H.left_since host.old host.new
-        (IsLeftAs (recovered (H.content host.old)) (H.output host.old)) }
+        (λ c d. HasClosedGate (recovered (H.content host.old)) (length tail.now + 1) c × (d ≡ H.output host.old)) }
     ensures later { H.faults host.old ≤ H.faults host.new }
     ensures failed { IsErrOf result HostError.DiskFailed → H.faults host.old < H.faults host.new }
     ensures no_output_fault { IsErrOf result HostError.OutputFailed → ⊥ }
@@ -168,7 +182,8 @@ fn put_out_all<H: Host>(host: &mut H, bytes: &[u8]) -> Result<(), HostError>
 }
 
 /// Repairs the end of a file that a crash may have left, whose bytes these are, and answers where its lines end,
-/// in bytes. It may crash too. An `Err` means out of memory, or that the file failed.
+/// in bytes. It may crash too. `damaged_line` finds a file that no crash left, before it. An `Err` means out of memory,
+/// or that the file failed.
 pub fn recover<H: Host>(host: &mut H, bytes: &[u8]) -> Result<usize, HostError>
     requires usable { H.is_usable host.old }
     requires bytes { bytes.now ≡ H.content host.old }
@@ -184,6 +199,10 @@ pub fn recover<H: Host>(host: &mut H, bytes: &[u8]) -> Result<usize, HostError>
     // A crash at any moment leaves the same lines.
     ensures any_moment { LeavesOnly H.moment H.left_since host.old host.new
         (IsLeftAs (recovered bytes.now) (H.output host.old)) }
+
+    // And a file with some bytes cut off, or its lines with a byte behind them: undamaged, if the file was.
+    ensures repaired { LeavesOnly H.moment H.left_since host.old host.new
+        (λ c _. IsRepaired bytes.now c × (IsIntact bytes.now → IsIntact c)) }
 
     ensures later { H.faults host.old ≤ H.faults host.new }
     ensures failed { IsErrOf result HostError.DiskFailed → H.faults host.old < H.faults host.new }
@@ -205,19 +224,70 @@ fn first_lf(bytes: &[u8]) -> Option<usize>
     bytes.iter().position(|b| *b == LF)
 }
 
-/// Where the lines end that these bytes of a file have, in bytes from its start.
-pub fn end_of_lines(bytes: &[u8]) -> usize
-    ensures length { result ≡ length (concat (recovered bytes.now)) }
-    ensures lines { take result bytes.now ≡ concat (recovered bytes.now) }
+// The number of lines in these bytes of a file, and where they end, in bytes from its start.
+fn count_lines(bytes: &[u8]) -> (u64, usize)
+    ensures count { result.0 ≡ length (recovered bytes.now) }
+    ensures few { result.0 ≤ length bytes.now }
+    ensures within { result.1 ≤ length bytes.now }
+    ensures length { result.1 ≡ length (concat (recovered bytes.now)) }
 {
+    let mut count = 0;
     let mut end = 0;
     let mut rest = bytes;
     while let Some(last) = first_lf(rest) {
         if rest[0] != b'{' {
             break;
         }
+        count += 1;
         end += last + 1;
         rest = &rest[last + 1..];
     }
+    (count, end)
+}
+
+/// Where the lines end that these bytes of a file have, in bytes from its start.
+pub fn end_of_lines(bytes: &[u8]) -> usize
+    ensures length { result ≡ length (concat (recovered bytes.now)) }
+    ensures lines { take result bytes.now ≡ concat (recovered bytes.now) }
+{
+    let (_count, end) = count_lines(bytes);
     end
+}
+
+// Whether a crash may leave bytes behind lines that begin with this one: a gate, a NUL in its place, or a line's front.
+fn may_begin(first: u8) -> bool
+    ensures { IsTrue result ↔ (first ≡ 32) ⊎ (first ≡ 0) ⊎ (first ≡ 123) }
+{
+    match first {
+        b' ' => true,
+        0 => true,
+        b'{' => true,
+        _ => false,
+    }
+}
+
+// Whether a crash may leave these bytes behind lines.
+fn may_be_behind(rest: &[u8]) -> bool
+    requires { recovered rest.now ≡ [] }
+    ensures { IsTrue result ↔ MayBeBehind rest.now }
+{
+    if rest.is_empty() {
+        true
+    } else {
+        may_begin(rest[0])
+    }
+}
+
+/// Where a file of these bytes is damaged: the number, from 1, of the line at whose place, or at that of the gate, is a
+/// byte that no crash leaves there. `None` if there is no such byte.
+pub fn damaged_line(bytes: &[u8]) -> Option<u64>
+    ensures { MatchOption result (IsIntact bytes.now)
+        (λ n. IsDamaged bytes.now × (n ≡ length (recovered bytes.now) + 1)) }
+{
+    let (count, end) = count_lines(bytes);
+    if may_be_behind(&bytes[end..]) {
+        None
+    } else {
+        Some(count + 1)
+    }
 }

@@ -29,7 +29,7 @@ pub use batch::{LineBatch, is_line};
 pub use disk::{Disk, open_disk};
 pub use fault::ServeFault;
 pub use host::{Host, HostError};
-pub use journal::{Journal, end_of_lines, recover};
+pub use journal::{Journal, damaged_line, end_of_lines, recover};
 pub use memory::Memory;
 pub use no_answer::NoAnswer;
 pub use responder::JournaledResponder;

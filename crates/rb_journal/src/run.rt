@@ -3,7 +3,7 @@
 ghost use Rattle.std.specs.Prelude.{◌≡◌, ◌+◌, ◌^◌, ◌<◌, ◌≤◌, ◌⊎◌, List, [], true, Err, length};
 ghost use Rattle.std.specs.Io.KnownBytes.{IsAtEnd};
 ghost use Rattle.rb_journal.specs.Host.{LeavesOnly};
-ghost use Rattle.rb_journal.specs.Lines.{recovered};
+ghost use Rattle.rb_journal.specs.Lines.{IsIntact, recovered};
 ghost use Rattle.rb_journal.specs.Journal.{IsSettled};
 ghost use Rattle.rb_lines.specs.Buffers.{Counts};
 ghost use Rattle.rb_lines.specs.declared.limits.TheConstants.{MOST_READS};
@@ -60,6 +60,7 @@ pub fn serve<R: JournaledResponder, H: Host, S: Source>(
     ensures any_moment { LeavesOnly H.moment H.left_since journal.old.host journal.new.host
         (IsRunOfTurns R.answers (served_input buffers.old.pending (S.remaining reader.old)) (R.state responder.old)
         (recovered (H.content journal.old.host)) (H.output journal.old.host)) }
+    ensures intact { LeavesOnly H.moment H.left_since journal.old.host journal.new.host (λ c _. IsIntact c) }
 
     // At each moment what is in the file and isn't put out yet is one batch, and a batch is bounded. While a line is
     // answered no more waits for the disk, which is a condition of `answer_line`.

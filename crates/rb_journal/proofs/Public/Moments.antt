@@ -38,3 +38,13 @@ module _ {H : Type 0} (moment : H → ℕ) (left_since : H → ℕ → List ℕ 
     each = λ c d left. here c d (run.each c d left);
     before = λ t c d le left. ⊎_elim (λ was. inl was) (λ now. inr (here c d now)) (run.before t c d le left);
   }
+
+  -- two claims
+  pub both : (old new : H) (P Q : List ℕ → List ℕ → Type 0) → LeavesOnly moment left_since old new P → LeavesOnly moment left_since old new Q
+      → LeavesOnly moment left_since old new (λ c d. P c d × Q c d)
+  both old new P Q one other = record {
+    later = one.later;
+    each = λ c d left. (one.each c d left, other.each c d left);
+    before = λ t c d le left. ⊎_elim (λ was. inl was)
+        (λ p. ⊎_elim (λ was. inl was) (λ q. inr (p, q)) (other.before t c d le left)) (one.before t c d le left);
+  }

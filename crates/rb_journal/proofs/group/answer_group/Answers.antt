@@ -1,7 +1,7 @@
 -- A group of lines is answered and committed.
 use Rattle.std.proofs.Common.{rules, ◌≡◌, ◌++◌, ⊎_elim, inl, inr, Some, Err, ap, sym, subst, ℕ, List, [], true}
 use Rattle.rb_journal.specs.Host.{LeavesOnly}
-use Rattle.rb_journal.specs.Lines.{IsBatch, recovered}
+use Rattle.rb_journal.specs.Lines.{IsBatch, IsIntact, recovered}
 use Rattle.rb_journal.specs.declared.host.HostError.TheVariants.{DiskFailed, Full}
 use Rattle.rb_journal.specs.Faults.{fault_of_host}
 use Rattle.rb_journal.specs.Run.{IsRunOfBatches}
@@ -68,3 +68,15 @@ returns-in_err-commit_and_put_out-clause-journal g c = λ is.
     (subst IsBatch (sym batch) c.answer_waiting-answered.new.work.batch.whole)
     c.requires.settled.end (why.full (ap Err full))))
     (journal_cause error journal)
+
+-- nor is a damaged file left
+intact : (g : Over) (c : After-commit_and_put_out g) → LeavesOnly g.H.Host.moment g.H.Host.left_since c.args.journal.now.host
+    c.commit_and_put_out.new.self.host (λ f d. IsIntact f)
+intact g c = weaker g.H.Host.moment g.H.Host.left_since _ _ _ _ c.commit_and_put_out.ensures.appended (λ f d at. at.1)
+
+pub returns-in_err-commit_and_put_out-clause-intact : goal.returns-in_err-commit_and_put_out-clause-intact
+returns-in_err-commit_and_put_out-clause-intact g c =
+    intact g (goal.at.returns-in_err-commit_and_put_out-clause-intact g c).After-commit_and_put_out
+
+pub returns-clause-intact : goal.returns-clause-intact
+returns-clause-intact g c = intact g (goal.at.returns-clause-intact g c).After-commit_and_put_out

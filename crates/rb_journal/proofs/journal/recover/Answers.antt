@@ -1,28 +1,42 @@
-use Rattle.std.proofs.Common.{◌≡◌, ℕ, List, [], ◌∷◌, ◌++◌, length, take, sym, ◌∙◌, ap, subst}
+use Rattle.std.proofs.Common.{◌≡◌, ℕ, List, [], ◌∷◌, ◌++◌, length, take, inl, sym, ◌∙◌, ap, subst, arith}
 use Rattle.std.specs.List.{concat}
+use Rattle.std.proofs.lemmas.List.{take_all}
 use Rattle.rb_journal.specs.Host.{Torn, Cut}
-use Rattle.rb_journal.specs.Lines.{recovered}
-use Rattle.rb_journal.proofs.Silent.{Keeps, first_call, called, synced}
+use Rattle.rb_journal.specs.Journal.{IsRepaired}
+use Rattle.rb_journal.specs.Lines.{recovered, IsIntact}
+use Rattle.rb_journal.proofs.Silent.{Keeps, first_call, called, synced, read_as, left_as}
 use Rattle.rb_journal.proofs.Ends.{written_at_end}
-use Rattle.rb_journal.proofs.Crash.{cut_keeps, cut_done, torn_end, recovered-at_rest}
+use Rattle.rb_journal.proofs.Crash.{cut_done, fits, torn_end, repaired_is, recovered-at_rest}
+use Rattle.rb_journal.proofs.Intact.{repaired_intact}
 use Rattle.rb_journal.proofs.journal.recover.Given.{Over}
 use Rattle.rb_journal.proofs.journal.recover.Goals.{After-cut, After-sync, In_ok-cut, After-write_at, After-sync-2}
 use Rattle.rb_journal.proofs.journal.recover.Goals as goal
 
--- the cut keeps the lines
+-- a file of which nothing is cut yet
+untouched : (file c : List ℕ) → c ≡ file → IsRepaired file c
+untouched file c same = inl (record {
+  no_shorter = omega (arith, ap length same, fits file);
+  front = ap (λ (n : ℕ). take n file) (ap length same) ∙ take_all (length file) file (omega arith) ∙ sym same;
+})
+
+-- a repaired file isn't damaged, if the file wasn't
+sound : (file c : List ℕ) → IsRepaired file c → IsRepaired file c × (IsIntact file → IsIntact c)
+sound file c at = (at, λ intact. repaired_intact file c intact at)
+
+-- what a crash leaves is a repaired file
 cut : (g : Over) (c : goal.After-cut g) → Keeps g.H.Host.moment g.H.Host.left_since g.H.Host.may_leave g.H.Host.output
-    (λ f. recovered f ≡ recovered c.args.bytes.now) c.args.host.now c.cut.new.self
+    (IsRepaired c.args.bytes.now) c.args.host.now c.cut.new.self
 cut g c =
     let bytes = c.args.bytes.now in
     let was : (f : List ℕ) → g.H.Host.may_leave c.args.host.now f → f ≡ bytes = λ f now. c.requires.durable f now ∙ sym c.requires.bytes in
-    first_call (g.met.H.Host.only_now c.args.host.now) (λ f now. ap recovered (was f now)) c.cut.ensures.time c.cut.ensures.output
+    first_call (g.met.H.Host.only_now c.args.host.now) (λ f now. untouched bytes f (was f now)) c.cut.ensures.time c.cut.ensures.output
     (λ f now. let from = c.cut.ensures.crash f now in
-    cut_keeps bytes f (subst (λ (n : ℕ). Cut n bytes f) c.end_of_lines-end.ensures.length
+    inl (subst (λ (n : ℕ). Cut n bytes f) c.end_of_lines-end.ensures.length
     (subst (λ (d : List ℕ). Cut c.end_of_lines-end.result d f) (was from.0 from.1) from.2)))
 
 -- so does the sync of the cut
 cut_synced : (g : Over) (c : goal.After-sync g) → Keeps g.H.Host.moment g.H.Host.left_since g.H.Host.may_leave g.H.Host.output
-    (λ f. recovered f ≡ recovered c.args.bytes.now) c.args.host.now c.sync.new.self
+    (IsRepaired c.args.bytes.now) c.args.host.now c.sync.new.self
 cut_synced g c = synced (cut g (goal.at.After-sync g c).After-cut) c.sync.ensures.time c.sync.ensures.output c.sync.ensures.crash
 
 -- after the cut the file is the lines alone
@@ -31,39 +45,54 @@ is_cut g c =
     c.in_ok-cut.ensures.cut ∙ ap (λ (f : List ℕ). take c.end_of_lines-end.result f) (sym c.requires.bytes)
     ∙ ap (λ (n : ℕ). take n c.args.bytes.now) c.end_of_lines-end.ensures.length ∙ cut_done c.args.bytes.now
 
--- the write of the gate keeps the lines
+-- so does the write of the gate
 gate_written : (g : Over) (c : goal.After-write_at g) → Keeps g.H.Host.moment g.H.Host.left_since g.H.Host.may_leave g.H.Host.output
-    (λ f. recovered f ≡ recovered c.args.bytes.now) c.args.host.now c.write_at.new.self
+    (IsRepaired c.args.bytes.now) c.args.host.now c.write_at.new.self
 gate_written g c =
     let bytes = c.args.bytes.now in
     let at = goal.at.After-write_at g c in
     let kept = cut_synced g at.After-sync in
     called kept.run kept.same c.write_at.ensures.time c.write_at.ensures.output
     (λ f now. let from = c.write_at.ensures.crash f now in
-    torn_end bytes f (subst (λ (n : ℕ). Torn n 1 (concat (recovered bytes)) f) c.end_of_lines-end.ensures.length
-    (subst (λ (d : List ℕ). Torn c.end_of_lines-end.result 1 d f)
+    torn_end bytes f (subst (λ (n : ℕ). Torn n (32 ∷ []) (concat (recovered bytes)) f) c.end_of_lines-end.ensures.length
+    (subst (λ (d : List ℕ). Torn c.end_of_lines-end.result (32 ∷ []) d f)
     (c.in_ok-sync.ensures.durable from.0 from.1 ∙ is_cut g at.In_ok-cut) from.2)))
 
 -- so does the sync of the gate
 gate_synced : (g : Over) (c : goal.After-sync-2 g) → Keeps g.H.Host.moment g.H.Host.left_since g.H.Host.may_leave g.H.Host.output
-    (λ f. recovered f ≡ recovered c.args.bytes.now) c.args.host.now c.sync-2.new.self
+    (IsRepaired c.args.bytes.now) c.args.host.now c.sync-2.new.self
 gate_synced g c =
     synced (gate_written g (goal.at.After-sync-2 g c).After-write_at) c.sync-2.ensures.time c.sync-2.ensures.output c.sync-2.ensures.crash
 
 pub returns-in_err-cut-clause-any_moment : goal.returns-in_err-cut-clause-any_moment
-returns-in_err-cut-clause-any_moment g c = (cut g (goal.at.returns-in_err-cut-clause-any_moment g c).After-cut).run
+returns-in_err-cut-clause-any_moment g c = read_as (cut g (goal.at.returns-in_err-cut-clause-any_moment g c).After-cut) (repaired_is c.args.bytes.now)
+
+pub returns-in_err-cut-clause-repaired : goal.returns-in_err-cut-clause-repaired
+returns-in_err-cut-clause-repaired g c = left_as (cut g (goal.at.returns-in_err-cut-clause-repaired g c).After-cut) (sound c.args.bytes.now)
 
 pub returns-in_err-sync-clause-any_moment : goal.returns-in_err-sync-clause-any_moment
-returns-in_err-sync-clause-any_moment g c = (cut_synced g (goal.at.returns-in_err-sync-clause-any_moment g c).After-sync).run
+returns-in_err-sync-clause-any_moment g c = read_as (cut_synced g (goal.at.returns-in_err-sync-clause-any_moment g c).After-sync) (repaired_is c.args.bytes.now)
+
+pub returns-in_err-sync-clause-repaired : goal.returns-in_err-sync-clause-repaired
+returns-in_err-sync-clause-repaired g c = left_as (cut_synced g (goal.at.returns-in_err-sync-clause-repaired g c).After-sync) (sound c.args.bytes.now)
 
 pub returns-in_err-write_at-clause-any_moment : goal.returns-in_err-write_at-clause-any_moment
-returns-in_err-write_at-clause-any_moment g c = (gate_written g (goal.at.returns-in_err-write_at-clause-any_moment g c).After-write_at).run
+returns-in_err-write_at-clause-any_moment g c = read_as (gate_written g (goal.at.returns-in_err-write_at-clause-any_moment g c).After-write_at) (repaired_is c.args.bytes.now)
+
+pub returns-in_err-write_at-clause-repaired : goal.returns-in_err-write_at-clause-repaired
+returns-in_err-write_at-clause-repaired g c = left_as (gate_written g (goal.at.returns-in_err-write_at-clause-repaired g c).After-write_at) (sound c.args.bytes.now)
 
 pub returns-in_err-sync-2-clause-any_moment : goal.returns-in_err-sync-2-clause-any_moment
-returns-in_err-sync-2-clause-any_moment g c = (gate_synced g (goal.at.returns-in_err-sync-2-clause-any_moment g c).After-sync-2).run
+returns-in_err-sync-2-clause-any_moment g c = read_as (gate_synced g (goal.at.returns-in_err-sync-2-clause-any_moment g c).After-sync-2) (repaired_is c.args.bytes.now)
+
+pub returns-in_err-sync-2-clause-repaired : goal.returns-in_err-sync-2-clause-repaired
+returns-in_err-sync-2-clause-repaired g c = left_as (gate_synced g (goal.at.returns-in_err-sync-2-clause-repaired g c).After-sync-2) (sound c.args.bytes.now)
 
 pub returns-clause-any_moment : goal.returns-clause-any_moment
-returns-clause-any_moment g c = (gate_synced g (goal.at.returns-clause-any_moment g c).After-sync-2).run
+returns-clause-any_moment g c = read_as (gate_synced g (goal.at.returns-clause-any_moment g c).After-sync-2) (repaired_is c.args.bytes.now)
+
+pub returns-clause-repaired : goal.returns-clause-repaired
+returns-clause-repaired g c = left_as (gate_synced g (goal.at.returns-clause-repaired g c).After-sync-2) (sound c.args.bytes.now)
 
 pub returns-clause-same : goal.returns-clause-same
 returns-clause-same g c =

@@ -1,8 +1,9 @@
 -- A group more of a run, and how it ends.
 use Rattle.std.proofs.Common.{rules, arith, ◌≡◌, ◌∙◌, ℕ, true, false, List, Err, refl, ap, sym, subst, ◌*◌}
-use Rattle.rb_journal.specs.Lines.{recovered}
 use Rattle.rb_journal.specs.Host.{LeavesOnly}
-use Rattle.rb_journal.proofs.Public.Moments.{started, weaker}
+use Rattle.rb_journal.specs.Lines.{IsIntact, recovered}
+use Rattle.rb_journal.proofs.Intact.{at_rest_intact}
+use Rattle.rb_journal.proofs.Public.Moments.{runs_on, started, weaker}
 use Rattle.rb_lines.specs.Buffers.{Counts}
 use Rattle.rb_lines.specs.declared.limits.TheConstants.{READ_SIZE}
 use Rattle.rb_journal.specs.Ends.{EndsAs, EndsAtRest, IsPutOut}
@@ -16,6 +17,13 @@ use Rattle.rb_journal.proofs.Groups.{group_cause, group_follows, group_moments}
 use Rattle.rb_journal.proofs.run.serve.Given.{Over}
 use Rattle.rb_journal.proofs.run.serve.Goals.{After-answer_group}
 use Rattle.rb_journal.proofs.run.serve.Goals as goal
+
+-- one group more leaves no damaged file
+then_intact : {H : Type 0} {moment : H → ℕ} {left_since : H → ℕ → List ℕ → List ℕ → Type 0} {old mid new : H}
+    → LeavesOnly moment left_since old mid (λ f d. IsIntact f) → LeavesOnly moment left_since mid new (λ f d. IsIntact f)
+    → LeavesOnly moment left_since old new (λ f d. IsIntact f)
+then_intact {moment = m} {left_since = l} {old = x} {mid = y} {new = z} so_far then_on =
+    runs_on m l x y z (λ f d. IsIntact f) (λ f d. IsIntact f) so_far then_on (λ f d at. at)
 
 pub batches-init : goal.batches-init
 batches-init g c =
@@ -45,6 +53,9 @@ batches-init g c =
       any_moment = started host.moment host.left_since was (IsRunOfBatches answers input begin lines output)
           (λ f d left. let now = g.met.H.Host.only_now was f d left in
           run_start answers input begin lines output f d (ap recovered (c.requires.settled.durable f now.0)) now.1);
+      intact = started host.moment host.left_since was (λ f d. IsIntact f)
+          (λ f d left. let now = g.met.H.Host.only_now was f d left in
+          subst IsIntact (sym (c.requires.settled.durable f now.0 ∙ c.requires.settled.file)) (at_rest_intact (host.content was)));
     }
 
 -- at each moment of the calls so far, and of the batch that was answered now
@@ -183,4 +194,17 @@ batches-preserved g c =
       follows = follows_read _ _ _ _ _ _ _ _ _ _ _ _ follows read.read
           (λ still. going) (search rules) (search rules) (search rules) (search rules) (search rules);
       any_moment = moments g (goal.at.batches-preserved g c).After-answer_group;
+      intact = then_intact inv.intact c.answer_group.ensures.intact;
     }
+
+pub returns-in_err-more-clause-intact : goal.returns-in_err-more-clause-intact
+returns-in_err-more-clause-intact g c = then_intact c.batches.invariant.intact c.answer_group.ensures.intact
+
+pub returns-then-buffers-clause-intact : goal.returns-then-buffers-clause-intact
+returns-then-buffers-clause-intact g c = then_intact c.batches.invariant.intact c.answer_group.ensures.intact
+
+pub returns-in-Err-Read-clause-intact : goal.returns-in-Err-Read-clause-intact
+returns-in-Err-Read-clause-intact g c = then_intact c.batches.invariant.intact c.answer_group.ensures.intact
+
+pub returns-in-Err-OutOfMemory-clause-intact : goal.returns-in-Err-OutOfMemory-clause-intact
+returns-in-Err-OutOfMemory-clause-intact g c = then_intact c.batches.invariant.intact c.answer_group.ensures.intact

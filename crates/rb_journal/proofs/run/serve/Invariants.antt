@@ -2,7 +2,7 @@
 use Rattle.std.proofs.Common.{◌≡◌, ◌≤◌, ◌+◌, [], true}
 use Rattle.std.specs.Io.KnownBytes.{IsAtEnd}
 use Rattle.rb_journal.specs.Host.{LeavesOnly}
-use Rattle.rb_journal.specs.Lines.{recovered}
+use Rattle.rb_journal.specs.Lines.{IsIntact, recovered}
 use Rattle.rb_journal.specs.Journal.{IsSettled}
 use Rattle.rb_lines.specs.Buffers.{Counts, left}
 use Rattle.rb_journal.specs.Run.{IsRunOfBatches, served_input}
@@ -33,6 +33,7 @@ invariant-batches g l =
           (host.output l.journal.host) l.work l.buffers)
           (g.S.Source.remaining l.reader) l.buffers.ended;
       any_moment : LeavesOnly host.moment host.left_since l.fn.journal.host l.journal.host (IsRunOfBatches answers input begin lines output);
+      intact : LeavesOnly host.moment host.left_since l.fn.journal.host l.journal.host (λ f d. IsIntact f);
     }
 
 abbrev pub decreases-batches : goal.decreases-batches

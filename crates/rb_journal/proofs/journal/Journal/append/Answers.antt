@@ -1,12 +1,14 @@
-use Rattle.std.proofs.Common.{◌≡◌, ◌⊎◌, inl, ℕ, ◌-◌, ◌≤◌, List, [], ◌∷◌, ◌++◌, length, get_or, take, drop, sym, ◌∙◌, ap, subst, arith}
+use Rattle.std.proofs.Common.{◌≡◌, ◌⊎◌, inl, ℕ, ◌+◌, ◌-◌, ◌≤◌, List, [], ◌∷◌, ◌++◌, length, get_or, take, drop, sym, ◌∙◌, ap, subst, arith, append-nil}
 use Rattle.std.specs.List.{concat}
 use Rattle.std.proofs.lemmas.List.{take_rest}
 use Rattle.rb_journal.specs.Host.{IsWritten, Torn, Only}
-use Rattle.rb_journal.specs.Lines.{recovered, at_rest, IsBatch}
-use Rattle.rb_journal.proofs.Public.Moments.{weaker}
-use Rattle.rb_journal.proofs.Silent.{Keeps, called, synced}
+use Rattle.rb_journal.specs.Lines.{recovered, at_rest, IsBatch, IsIntact}
+use Rattle.rb_journal.specs.Journal.{IsAppended, IsBeforeOrAfter, HasClosedGate}
+use Rattle.rb_journal.proofs.Public.Moments.{started, weaker}
+use Rattle.rb_journal.proofs.Silent.{Keeps, called, synced, read_as, left_as}
 use Rattle.rb_journal.proofs.Public.Lines.{begins}
-use Rattle.rb_journal.proofs.Crash.{torn_gate, written_gate, after_gate, length-after}
+use Rattle.rb_journal.proofs.Crash.{torn_gate, written_gate, after_gate, all_or_none, length-after}
+use Rattle.rb_journal.proofs.Intact.{appended_intact, at_rest_intact}
 use Rattle.rb_journal.proofs.journal.Journal.append.Given.{Over}
 use Rattle.rb_journal.proofs.journal.Journal.append.Goals.{After-write_at, After-sync}
 use Rattle.rb_journal.proofs.journal.Journal.append.Goals as goal
@@ -21,31 +23,46 @@ gate_is [] all some = absurd (omega arith)
 gate_is (b ∷ bytes) all some =
     ap (λ (l : List ℕ). b ∷ l) (sym (take_rest (b ∷ bytes) 1)) ∙ ap (λ (n : ℕ). n ∷ tail_of (b ∷ bytes)) (begins b bytes all)
 
--- a file with the lines of the old one, and all of the batch or none of it
-abbrev HasAllOrNone : List ℕ → List ℕ → List ℕ → Type 0
-HasAllOrNone old batch f = (recovered f ≡ recovered old) ⊎ (recovered f ≡ recovered old ++ recovered batch)
+-- what stage leaves is what an append leaves
+staged : (file batch c : List ℕ) → batch ≡ 123 ∷ tail_of batch → HasClosedGate (recovered file) (length (tail_of batch) + 1) c
+    → IsAppended (recovered file) batch c
+staged file batch c is (bytes, whole, few) = inl (bytes, whole, omega (arith, ap length is, few))
 
--- the write that opens the gate leaves all of the batch or none of it
+-- the write that opens the gate leaves it closed, or the file at rest with the batch
 opened : (g : Over) (c : goal.After-write_at g) → Keeps g.H.Host.moment g.H.Host.left_since g.H.Host.may_leave g.H.Host.output
-    (HasAllOrNone (g.H.Host.content c.args.self.now.host) c.args.batch.now) c.args.self.now.host c.write_at.new.self
+    (IsAppended (recovered (g.H.Host.content c.args.self.now.host)) c.args.batch.now) c.args.self.now.host c.write_at.new.self
 opened g c =
     let file = g.H.Host.content c.args.self.now.host in
     let batch = c.args.batch.now in
     let tail = tail_of batch in
+    let is = gate_is batch c.requires.lines c.in-len1-up.len_at_least in
+    let begins : get_or batch 0 0 ≡ 123 = ap (λ (l : List ℕ). get_or l 0 0) is in
     let behind = weaker g.H.Host.moment g.H.Host.left_since c.args.self.now.host c.stage.new.host _
-    (λ f d. HasAllOrNone file batch f × (d ≡ g.H.Host.output c.args.self.now.host)) c.stage.ensures.any_moment
-    (λ f d at. (inl at.0, at.1)) in
+    (λ f d. IsAppended (recovered file) batch f × (d ≡ g.H.Host.output c.args.self.now.host)) c.stage.ensures.any_moment
+    (λ f d at. (staged file batch f is at.0, at.1)) in
     called behind c.stage.ensures.output c.write_at.ensures.time c.write_at.ensures.output
     (λ f now. let from = c.write_at.ensures.crash f now in
     let was = c.in_ok-stage.ensures.durable from.0 from.1 ∙ c.in_ok-stage.ensures.staged in
-    torn_gate file batch tail (gate_is batch c.requires.lines c.in-len1-up.len_at_least) c.requires.lines f
-    (subst (λ (n : ℕ). Torn n 1 (concat (recovered file) ++ 32 ∷ (tail ++ 32 ∷ [])) f) c.requires.settled.end
-    (subst (λ (d : List ℕ). Torn c.args.self.now.end 1 d f) was from.2)))
+    torn_gate file batch tail is c.requires.lines f
+    (subst (λ (b : ℕ). Torn (length (concat (recovered file))) (b ∷ []) (concat (recovered file) ++ 32 ∷ (tail ++ 32 ∷ [])) f) begins
+    (subst (λ (n : ℕ). Torn n (get_or batch 0 0 ∷ []) (concat (recovered file) ++ 32 ∷ (tail ++ 32 ∷ [])) f) c.requires.settled.end
+    (subst (λ (d : List ℕ). Torn c.args.self.now.end (get_or batch 0 0 ∷ []) d f) was from.2))))
 
 -- so does the sync of it
 open_synced : (g : Over) (c : goal.After-sync g) → Keeps g.H.Host.moment g.H.Host.left_since g.H.Host.may_leave g.H.Host.output
-    (HasAllOrNone (g.H.Host.content c.args.self.now.host) c.args.batch.now) c.args.self.now.host c.sync.new.self
+    (IsAppended (recovered (g.H.Host.content c.args.self.now.host)) c.args.batch.now) c.args.self.now.host c.sync.new.self
 open_synced g c = synced (opened g (goal.at.After-sync g c).After-write_at) c.sync.ensures.time c.sync.ensures.output c.sync.ensures.crash
+
+-- what an append leaves has all of the batch or none of it
+all_there : (file batch : List ℕ) → IsBatch batch → 1 ≤ length batch → (c : List ℕ) → IsAppended (recovered file) batch c
+    → (recovered c ≡ recovered file) ⊎ (recovered c ≡ recovered file ++ recovered batch)
+all_there file batch all some c = all_or_none file batch (tail_of batch) (gate_is batch all some) all c
+
+-- and isn't damaged
+sound : (file batch : List ℕ) → IsBatch batch → 1 ≤ length batch → (c : List ℕ) → IsAppended (recovered file) batch c
+    → IsAppended (recovered file) batch c × IsIntact c
+sound file batch all some c at =
+    (at, appended_intact file batch c (after_gate file batch (tail_of batch) (gate_is batch all some) all) at)
 
 -- after the sync the file is at rest, with the batch
 is_written : (g : Over) (c : goal.After-sync g) → g.H.Host.content c.sync.new.self
@@ -73,13 +90,34 @@ has_lines g c =
     (gate_is batch c.requires.lines c.in-len1-up.len_at_least) c.requires.lines
 
 pub returns-in_err-write_at-clause-any_moment : goal.returns-in_err-write_at-clause-any_moment
-returns-in_err-write_at-clause-any_moment g c = (opened g (goal.at.returns-in_err-write_at-clause-any_moment g c).After-write_at).run
+returns-in_err-write_at-clause-any_moment g c =
+    read_as (opened g (goal.at.returns-in_err-write_at-clause-any_moment g c).After-write_at)
+    (all_there (g.H.Host.content c.args.self.now.host) c.args.batch.now c.requires.lines c.in-len1-up.len_at_least)
+
+pub returns-in_err-write_at-clause-appended : goal.returns-in_err-write_at-clause-appended
+returns-in_err-write_at-clause-appended g c =
+    left_as (opened g (goal.at.returns-in_err-write_at-clause-appended g c).After-write_at)
+    (sound (g.H.Host.content c.args.self.now.host) c.args.batch.now c.requires.lines c.in-len1-up.len_at_least)
 
 pub returns-in_err-sync-clause-any_moment : goal.returns-in_err-sync-clause-any_moment
-returns-in_err-sync-clause-any_moment g c = (open_synced g (goal.at.returns-in_err-sync-clause-any_moment g c).After-sync).run
+returns-in_err-sync-clause-any_moment g c =
+    read_as (open_synced g (goal.at.returns-in_err-sync-clause-any_moment g c).After-sync)
+    (all_there (g.H.Host.content c.args.self.now.host) c.args.batch.now c.requires.lines c.in-len1-up.len_at_least)
+
+pub returns-in_err-sync-clause-appended : goal.returns-in_err-sync-clause-appended
+returns-in_err-sync-clause-appended g c =
+    left_as (open_synced g (goal.at.returns-in_err-sync-clause-appended g c).After-sync)
+    (sound (g.H.Host.content c.args.self.now.host) c.args.batch.now c.requires.lines c.in-len1-up.len_at_least)
 
 pub returns-clause-any_moment : goal.returns-clause-any_moment
-returns-clause-any_moment g c = (open_synced g (goal.at.returns-clause-any_moment g c).After-sync).run
+returns-clause-any_moment g c =
+    read_as (open_synced g (goal.at.returns-clause-any_moment g c).After-sync)
+    (all_there (g.H.Host.content c.args.self.now.host) c.args.batch.now c.requires.lines c.in-len1-up.len_at_least)
+
+pub returns-clause-appended : goal.returns-clause-appended
+returns-clause-appended g c =
+    left_as (open_synced g (goal.at.returns-clause-appended g c).After-sync)
+    (sound (g.H.Host.content c.args.self.now.host) c.args.batch.now c.requires.lines c.in-len1-up.len_at_least)
 
 pub returns-clause-lines : goal.returns-clause-lines
 returns-clause-lines g c = has_lines g (goal.at.returns-clause-lines g c).After-sync
@@ -103,3 +141,35 @@ returns-clause-settled g c =
       durable = subst (λ (f : List ℕ). Only f (g.H.Host.may_leave c.sync.new.self)) (sym c.sync.ensures.content)
           c.in_ok-sync.ensures.durable;
     }
+
+-- a file at rest is what an append leaves that does nothing
+at_rest_appended : (file batch c : List ℕ) → c ≡ at_rest (recovered file) → IsAppended (recovered file) batch c × IsIntact c
+at_rest_appended file batch c is =
+    (inl ([], is ∙ sym (append-nil (at_rest (recovered file))), omega arith), subst IsIntact (sym is) (at_rest_intact file))
+
+pub returns-then-self-ge-MAX_LEN-clause-appended : goal.returns-then-self-ge-MAX_LEN-clause-appended
+returns-then-self-ge-MAX_LEN-clause-appended g c =
+    let host = g.H.Host in
+    let was = c.args.self.now.host in
+    let file = host.content was in
+    let batch = c.args.batch.now in
+    started host.moment host.left_since was (λ f d. IsAppended (recovered file) batch f × IsIntact f)
+    (λ f d left. at_rest_appended file batch f (c.requires.settled.durable f (g.met.H.Host.only_now was f d left).0 ∙ c.requires.settled.file))
+
+pub returns-in_err-stage-clause-any_moment : goal.returns-in_err-stage-clause-any_moment
+returns-in_err-stage-clause-any_moment g c =
+    let file = g.H.Host.content c.args.self.now.host in
+    let batch = c.args.batch.now in
+    let some = c.in-len1-up.len_at_least in
+    weaker g.H.Host.moment g.H.Host.left_since c.args.self.now.host c.stage.new.host _
+    (IsBeforeOrAfter (recovered file) (recovered batch) (g.H.Host.output c.args.self.now.host)) c.stage.ensures.any_moment
+    (λ f d at. (all_there file batch c.requires.lines some f (staged file batch f (gate_is batch c.requires.lines some) at.0), at.1))
+
+pub returns-in_err-stage-clause-appended : goal.returns-in_err-stage-clause-appended
+returns-in_err-stage-clause-appended g c =
+    let file = g.H.Host.content c.args.self.now.host in
+    let batch = c.args.batch.now in
+    let some = c.in-len1-up.len_at_least in
+    weaker g.H.Host.moment g.H.Host.left_since c.args.self.now.host c.stage.new.host _
+    (λ f d. IsAppended (recovered file) batch f × IsIntact f) c.stage.ensures.any_moment
+    (λ f d at. sound file batch c.requires.lines some f (staged file batch f (gate_is batch c.requires.lines some) at.0))

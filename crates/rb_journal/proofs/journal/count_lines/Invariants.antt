@@ -1,11 +1,13 @@
-use Rattle.std.proofs.Common.{◌≡◌, ◌+◌, length}
+use Rattle.std.proofs.Common.{◌≡◌, ◌≤◌, ◌+◌, length}
 use Rattle.std.specs.List.{concat}
 use Rattle.rb_journal.specs.Lines.{recovered}
-use Rattle.rb_journal.proofs.journal.end_of_lines.Given as goal
+use Rattle.rb_journal.proofs.journal.count_lines.Given as goal
 
 abbrev pub invariant-loop-last : goal.invariant-loop-last
 invariant-loop-last l = record {
   so_far : l.end + length (concat (recovered l.rest)) ≡ length (concat (recovered l.bytes));
+  counted : l.count + length (recovered l.rest) ≡ length (recovered l.bytes);
+  few : l.count ≤ l.end;
   place : l.end + length l.rest ≡ length l.bytes;
 }
 

@@ -1,0 +1,120 @@
+-- Files that aren't damaged: what is behind their lines.
+use Rattle.std.proofs.Common.{◌≡◌, ◌⊎◌, inl, inr, ℕ, zero, suc, ◌-◌, List, [], ◌∷◌, ◌++◌, length, get_or, take, drop}
+use Rattle.std.proofs.Common.{refl, sym, ◌∙◌, ap, subst, arith, append_assoc, append-nil, take_while}
+use Rattle.std.specs.Prelude.{◌≢◌, All}
+use Rattle.std.specs.List.{concat}
+use Rattle.std.proofs.lemmas.Bool.{cases_eq, eq-eqb}
+use Rattle.std.proofs.lemmas.List.{drop_at}
+use Rattle.std.proofs.lemmas.List.Elements.{All-take}
+use Rattle.rb_journal.specs.Lines.{lines_in, joined, is_open, recovered, at_rest, behind_lines, MayBeBehind, IsIntact}
+use Rattle.rb_journal.specs.Journal.{IsAppended, HasClosedGate, IsRepaired}
+use Rattle.rb_journal.proofs.Public.Lines.{parts, recovered-append, whole-lf, whole-other, open-true, closed, short_nothing, front_nothing}
+use Rattle.rb_journal.proofs.Ends.{take_past}
+
+-- what is read as nothing, behind the lines of a file, is what is behind the lines of both
+pub behind_is : (file rest : List ℕ) → recovered rest ≡ [] → behind_lines (concat (recovered file) ++ rest) ≡ rest
+behind_is file rest none =
+    let text : List ℕ = concat (recovered file) in
+    let same : recovered (text ++ rest) ≡ recovered file =
+    recovered-append file rest ∙ ap (λ ls. recovered file ++ ls) none ∙ append-nil (recovered file) in
+    ap (λ ls. drop (length (concat ls)) (text ++ rest)) same ∙ drop_at text rest (length text) refl
+
+-- what a crash may leave behind lines is read as nothing, but for the beginning of a line
+pub intact : (file rest : List ℕ) → recovered rest ≡ [] → MayBeBehind rest → IsIntact (concat (recovered file) ++ rest)
+intact file rest none may = subst MayBeBehind (sym (behind_is file rest none)) may
+
+-- so is what is behind the lines of a file
+pub end_is : (file : List ℕ) → behind_lines file ≡ (parts file).end
+end_is file = ap behind_lines (parts file).split ∙ behind_is file (parts file).end (parts file).nothing
+
+-- a closed gate, with any bytes behind it
+pub gate_intact : (file rest : List ℕ) → IsIntact (concat (recovered file) ++ 32 ∷ rest)
+gate_intact file rest = intact file (32 ∷ rest) (closed 32 rest (λ is. absurd (omega arith))) (inl refl)
+
+-- a file at rest, and one whose gate is closed
+pub closed_intact : (file c : List ℕ) (most : ℕ) → HasClosedGate (recovered file) most c → IsIntact c
+closed_intact file c most (bytes, is, few) =
+    subst IsIntact (sym (is ∙ append_assoc (concat (recovered file)) (32 ∷ []) bytes)) (gate_intact file bytes)
+
+pub at_rest_intact : (file : List ℕ) → IsIntact (at_rest (recovered file))
+at_rest_intact file = gate_intact file []
+
+-- what may be behind lines may be there in part
+front_behind : (n : ℕ) (rest : List ℕ) → MayBeBehind rest → MayBeBehind (take n rest)
+front_behind zero rest may = tt
+front_behind (suc n) [] may = tt
+front_behind (suc n) (b ∷ rest) (inl space) = inl space
+front_behind (suc n) (b ∷ rest) (inr (inl nul)) = inr (inl nul)
+front_behind (suc n) (b ∷ rest) (inr (inr (opens, one))) = inr (inr (opens, All-take (λ c. c ≢ 10) n rest one))
+
+-- what a repair leaves of a file that isn't damaged isn't either
+pub repaired_intact : (file c : List ℕ) → IsIntact file → IsRepaired file c → IsIntact c
+repaired_intact file c was (inr (inl gate)) = subst IsIntact (sym gate) (gate_intact file [])
+repaired_intact file c was (inr (inr nul)) =
+    subst IsIntact (sym nul) (intact file (0 ∷ []) (short_nothing (0 ∷ []) (omega arith)) (inr (inl refl)))
+repaired_intact file c was (inl cut) =
+    let text : List ℕ = concat (recovered file) in
+    let end = (parts file).end in
+    let n = length c - length text in
+    let whole : c ≡ take (length c) (text ++ end) = sym cut.front ∙ ap (λ (l : List ℕ). take (length c) l) (parts file).split in
+    let front : c ≡ text ++ take n end = whole ∙ take_past text end (length c) n (omega (arith, cut.no_shorter)) in
+    subst IsIntact (sym front) (intact file (take n end) (front_nothing n end (parts file).nothing)
+    (front_behind n end (subst MayBeBehind (end_is file) was)))
+
+-- ---- the first byte behind the lines says whether a file is damaged
+
+none_joined : (b : ℕ) (lines : List (List ℕ)) → joined b lines ≡ [] → lines ≡ []
+none_joined b [] none = refl
+none_joined b (line ∷ lines) none = absurd (cc (none))
+
+-- bytes without a whole line have no LF
+no_lf : (bytes : List ℕ) → lines_in bytes ≡ [] → All (λ c. c ≢ 10) bytes
+no_lf [] none = λ k d within. absurd (omega arith)
+no_lf (b ∷ bytes) none = elim (cases_eq b 10) [
+  | inl is ↦ let some : (10 ∷ []) ∷ lines_in bytes ≡ [] = sym (whole-lf b bytes is) ∙ none in absurd (cc (some))
+  | inr other ↦
+      let rest = no_lf bytes (none_joined b (lines_in bytes) (sym (whole-other b bytes other) ∙ none)) in
+      each other rest
+]
+  where
+    each : (b ≡ 10 → ⊥) → All (λ c. c ≢ 10) bytes → All (λ c. c ≢ 10) (b ∷ bytes)
+    each other rest zero d within = other
+    each other rest (suc k) d within = rest k d (omega arith)
+
+not_whole : (b : ℕ) (lines : List (List ℕ)) → b ≡ 123 → take_while is_open (joined b lines) ≡ [] → lines ≡ []
+not_whole b [] is none = refl
+not_whole b (line ∷ lines) is none =
+    let some : (b ∷ line) ∷ take_while is_open lines ≡ [] = sym (open-true (b ∷ line) lines (eq-eqb b 123 is)) ∙ none in
+    absurd (cc (some))
+
+-- `{` behind the lines begins a line that isn't whole
+front_of_line : (b : ℕ) (bytes : List ℕ) → b ≡ 123 → recovered (b ∷ bytes) ≡ [] → All (λ c. c ≢ 10) bytes
+front_of_line b bytes is none =
+    let other : b ≡ 10 → ⊥ = λ lf. absurd (omega (arith, lf, is)) in
+    no_lf bytes (not_whole b (lines_in bytes) is (ap (λ ls. take_while is_open ls) (sym (whole-other b bytes other)) ∙ none))
+
+-- the first of some bytes says whether they may be behind lines
+pub by_first : (rest : List ℕ) → recovered rest ≡ [] → (length rest ≡ 0 → ⊥)
+    → (get_or rest 0 0 ≡ 32) ⊎ (get_or rest 0 0 ≡ 0) ⊎ (get_or rest 0 0 ≡ 123) → MayBeBehind rest
+by_first [] none some first = tt
+by_first (b ∷ rest) none some (inl space) = inl space
+by_first (b ∷ rest) none some (inr (inl nul)) = inr (inl nul)
+by_first (b ∷ rest) none some (inr (inr opens)) = inr (inr (opens, front_of_line b rest opens none))
+
+pub first_is : (rest : List ℕ) → (length rest ≡ 0 → ⊥) → MayBeBehind rest
+    → (get_or rest 0 0 ≡ 32) ⊎ (get_or rest 0 0 ≡ 0) ⊎ (get_or rest 0 0 ≡ 123)
+first_is [] some may = absurd (some refl)
+first_is (b ∷ rest) some (inl is) = inl is
+first_is (b ∷ rest) some (inr (inl is)) = inr (inl is)
+first_is (b ∷ rest) some (inr (inr is)) = inr (inr is.0)
+
+pub nothing_may : (rest : List ℕ) → length rest ≡ 0 → MayBeBehind rest
+nothing_may [] none = tt
+nothing_may (b ∷ rest) none = absurd (omega (arith, none))
+
+-- what an append leaves isn't damaged
+pub appended_intact : (file batch c : List ℕ) → recovered (at_rest (recovered file ++ recovered batch)) ≡ recovered file ++ recovered batch
+    → IsAppended (recovered file) batch c → IsIntact c
+appended_intact file batch c after (inl shut) = closed_intact file c (length batch) shut
+appended_intact file batch c after (inr is) =
+    subst IsIntact (sym is) (subst (λ ls. IsIntact (at_rest ls)) after (at_rest_intact (at_rest (recovered file ++ recovered batch))))
