@@ -49,7 +49,8 @@ def made(count):
 
 
 def words(program, journal):
-    return [program, "site", "--me", "0", "--journal", journal, "--resend", "0"]
+    new = [] if os.path.exists(journal) else ["--new"]
+    return [program, "site", "--me", "0", "--journal", journal, *new, "--resend", "0"]
 
 
 def by_turns(program, journal, lines, at_once):

@@ -192,7 +192,7 @@ class Program:
         if form == "odd":
             return run([self.path, "script"], b"".join(line + b"\n" for line in [odd_lines.CONFIG[:-1], *lines]))
         with tempfile.TemporaryDirectory() as folder:
-            words = [self.path, "site", "--me", "0", "--journal", os.path.join(folder, "journal")]
+            words = [self.path, "site", "--me", "0", "--journal", os.path.join(folder, "journal"), "--new"]
             return run(words, b"".join(line + b"\n" for line in [odd_lines.CONFIG[:-1], *lines]))
 
     def is_bad(self, form, line):

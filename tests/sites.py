@@ -4,10 +4,13 @@
 usage: sites.py [--quiet] PROGRAM      (--quiet prints only what is different)
 
 Which of the operations that are ready at once is applied first; a journal cut at each byte, and with any bytes behind
-its space; a restart after each line; lines one at a time and all at once; many large answers in little memory; another
-bank's journal; a folder, a device and a full disk as journal; a second process; output that can't be written; wrong
-words; where strace is there, the order of writes and syncs; the pipes that docs/RUNNING.md shows.
+its space; a restart after each line; lines one at a time and all at once; many large answers in little memory; a new
+journal where one is there, and none where it has to be; another bank's journal; a folder, a device and a full disk as
+journal; a second process; output that can't be written; wrong words; where strace is there, the order of writes and
+syncs; the pipes that docs/RUNNING.md shows.
 """
+import errno
+import itertools
 import json
 import os
 import random
@@ -65,8 +68,10 @@ class Sites:
     def __init__(self, program):
         self.program = os.path.abspath(program)
 
-    def words(self, journal, me=0, resend=None):
-        more = [] if resend is None else ["--resend", str(resend)]
+    def words(self, journal, me=0, resend=None, new=None):
+        """The words of a site. A new journal is asked for where none is there, unless `new` says otherwise."""
+        new = not os.path.exists(journal) if new is None else new
+        more = (["--new"] if new else []) + ([] if resend is None else ["--resend", str(resend)])
         return [self.program, "site", "--me", str(me), "--journal", journal, *more]
 
     def run(self, given, before=None, limit=None, signals=True, output=subprocess.PIPE, **words):
@@ -242,6 +247,28 @@ def refused_journals(sites):
     yield "a journal with a wrong reply and a torn end", sites.run(BANK, torn_too) == wanted
 
 
+def asked_for(sites):
+    """A journal is new only where a new one is asked for; else it has to be there."""
+    journal, out = stored("site_deposit.site.journal"), stored("site_deposit.site.expected")
+    given = BANK + b'{"deposit":["ann",500]}\n' + BALANCE
+    missing, there = "rbbank: no journal\n", "rbbank: there is a journal\n"
+    yield "no journal, and no new one", sites.run(given, new=False) == (b"", missing, 2, None)
+    yield "a new journal", sites.run(given, new=True) == (out, "", 0, journal)
+    yield "a new journal over an empty file", sites.run(given, b"", new=True) == (out, "", 0, journal)
+    yield "an empty file", sites.run(given, b"", new=False) == (out, "", 0, journal)
+    for name, before in [("a journal", journal), ("a space", b" "), ("notes", b"some notes\n")]:
+        yield f"a new journal over {name}", sites.run(given, before, new=True) == (b"", there, 2, before)
+    with tempfile.TemporaryDirectory() as folder:
+        name = os.path.join(folder, "journal")
+        for words in itertools.permutations([["--me", "0"], ["--journal", name], ["--new"], ["--resend", "7"]]):
+            run = subprocess.run([sites.program, "site", *sum(words, [])], input=given, capture_output=True)
+            yield f"words: site {' '.join(sum(words, []))}", (run.stdout, run.stderr, read(name)) == (out, b"", journal)
+            os.remove(name)
+        os.symlink(os.path.join(folder, "nowhere"), os.path.join(folder, "link"))
+        fine = sites.at(os.path.join(folder, "link"), given, new=False) == (b"", missing, 2)
+        yield "a link to no journal", fine and not os.path.exists(os.path.join(folder, "nowhere"))
+
+
 def used_twice(sites):
     """A second process on a journal is refused, and the first goes on. Once it has ended, another may begin."""
     with tempfile.TemporaryDirectory() as folder:
@@ -259,19 +286,27 @@ def used_twice(sites):
         yield "another behind it", sites.at(journal, BANK, resend=0) == (b"", "", 0)
 
 
+def journal_failed(journal, why):
+    """The end of a site whose journal failed for this reason of the system's."""
+    return b"", f"rbbank: journal failed: {journal}: {os.strerror(why)} (os error {why})\n", 3
+
+
 def failed(sites):
     """A journal that can't be opened, read or written: nothing more is answered, and what is on the disk stays."""
-    failure = (b"", "rbbank: journal failed\n", 3)
     with tempfile.TemporaryDirectory() as folder:
-        yield "a folder as journal", sites.at(folder, BANK) == failure
-        yield "a journal in no folder", sites.at(os.path.join(folder, "no", "journal"), BANK) == failure
-    yield "a full device as journal", sites.at("/dev/full", BANK, memory=MEMORY) == failure
+        yield "a folder as journal", sites.at(folder, BANK) == journal_failed(folder, errno.EISDIR)
+        nowhere = os.path.join(folder, "no", "journal")
+        yield "a journal in no folder", sites.at(nowhere, BANK) == journal_failed(nowhere, errno.ENOENT)
+    full = journal_failed("/dev/full", errno.EINVAL)
+    yield "a full device as journal", sites.at("/dev/full", BANK, memory=MEMORY) == full
     journal = stored("site_deposit.site.journal")
     deposits = BANK + b'{"deposit":["ann",1]}\n' * 40
     for more in [1, 2, 50, 500]:
         limit = len(journal) + more
-        *run, after = sites.run(deposits, journal, limit, False, resend=0)
-        fine = tuple(run) == failure and after.startswith(journal[:-1]) and whole_lines(after) == journal[:-1]
+        out, errors, status, after = sites.run(deposits, journal, limit, False, resend=0)
+        why = re.fullmatch(r"rbbank: journal failed: \S*/journal: File too large \(os error 27\)\n", errors)
+        fine = (out, status) == (b"", 3) and why is not None and after.startswith(journal[:-1])
+        fine = fine and whole_lines(after) == journal[:-1]
         yield f"a disk with {more} bytes left", fine and sites.run(BANK, after, resend=0)[3] == journal
         *run, after = sites.run(deposits, journal, limit, True, resend=0)
         fine = run[0] == b"" and run[2] == -signal.SIGXFSZ and whole_lines(after) == journal[:-1]
@@ -318,7 +353,9 @@ def words_at_fault(sites):
     """Words that aren't those of a site: a text on standard error, status 2, and no file."""
     wanted = [[], ["--me", "0"], ["--journal", "j"], ["--me", "16", "--journal", "j"], ["--me", "-1", "--journal", "j"],
               ["--me", "x", "--journal", "j"], ["--me", "0", "--journal", "j", "--resend", "100000001"],
-              ["--me", "0", "--journal", "j", "--resend", "all"], ["--me", "0", "--journal", "j", "more"]]
+              ["--me", "0", "--journal", "j", "--resend", "all"], ["--me", "0", "--journal", "j", "more"],
+              ["--me", "0", "--journal", "j", "--new=j"], ["--me", "0", "--journal", "--new"], ["--new", "--me", "0"],
+              ["--me", "0", "--journal", "j", "--new", "--new"]]
     with tempfile.TemporaryDirectory() as folder:
         for words in wanted:
             run = subprocess.run([sites.program, "site", *words], input=BANK, capture_output=True, cwd=folder)
@@ -418,7 +455,7 @@ def of_the_page(sites):
     yield "the pipes of docs/RUNNING.md", run.stdout.decode() == out
 
 
-PARTS = [same_however_read, ready_at_once, torn, audited, refused_journals, used_twice, failed, unwritten,
+PARTS = [same_however_read, ready_at_once, torn, audited, asked_for, refused_journals, used_twice, failed, unwritten,
          lines_at_fault, words_at_fault, many_sites, large_batch, large_answers, in_order, of_the_page]
 
 

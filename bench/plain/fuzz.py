@@ -136,7 +136,9 @@ def journals(program, fuzz, folder):
             lines = [fuzz.event() if fuzz.one_in(3) else fuzz.forged(messages) for _ in range(count)]
             if fuzz.one_in(3):
                 lines.append({"pass": fuzz.random.randrange(fuzz.sites)})
-            words = [program, "site", "--me", str(site), "--journal", os.path.join(folder, str(site))]
+            journal = os.path.join(folder, str(site))
+            words = [program, "site", "--me", str(site), "--journal", journal]
+            words += [] if os.path.exists(journal) else ["--new"]
             run = subprocess.run(words, input=text([bank, *lines]), capture_output=True, check=True)
             for line in run.stdout.splitlines():
                 messages += [json.dumps(sent) for sent in json.loads(line)["sends"]]

@@ -1,7 +1,7 @@
 /* The commands of the program over the library, for check.py: what each writes has to be what the program writes.
  *
  * usage: rows script|audit|migrate|bank|odd < LINES
- *        rows site --me S --journal FILE [--resend N] < LINES
+ *        rows site --me S --journal FILE [--new] [--resend N] < LINES
  *        rows odd-site --me S < LINES
  *        rows calls COUNT < TWO LINES
  *
@@ -217,13 +217,16 @@ static void replay(struct rbbank_site *site, struct text journal, long resend) {
 }
 
 /* The journal that a site goes on from: that of a file, replayed, or a new one. */
-static struct text opened(struct rbbank_site *site, const char *path, long resend) {
+static struct text opened(struct rbbank_site *site, const char *path, int is_new, long resend) {
     FILE *file = fopen(path, "rb");
     struct text config = entries_of(site), all = {NULL, 0};
     if (file != NULL) {
         all = read_all(file);
         fclose(file);
-    }
+    } else if (!is_new)
+        stop("no journal", 0, "");
+    if (is_new && all.length != 0)
+        stop("there is a journal", 0, "");
     struct text before = {all.bytes, whole_lines(all)};
     if (before.length == 0 && (all.length == 0 || all.bytes[0] == ' ')) {
         free(all.bytes);
@@ -236,14 +239,14 @@ static struct text opened(struct rbbank_site *site, const char *path, long resen
     return before;
 }
 
-static int site(struct text all, unsigned me, const char *path, long resend) {
+static int site(struct text all, unsigned me, const char *path, int is_new, long resend) {
     struct line line = {0};
     struct rbbank_site site = {0};
     first_line(all, &line);
     int32_t status = rbbank_site_open(&site, (uint8_t)me, line.text.bytes, line.text.length);
     if (status != RBBANK_OK)
         stop(status == RBBANK_REFUSED ? "no such site" : "line", status == RBBANK_REFUSED ? 0 : line.number, "");
-    struct text kept = opened(&site, path, resend);
+    struct text kept = opened(&site, path, is_new, resend);
     FILE *journal = fopen(path, "wb");
     if (journal == NULL)
         return 3;
@@ -289,6 +292,14 @@ static const char *word(int count, char **words, const char *option, const char 
     return otherwise;
 }
 
+/* Whether a word is given. */
+static int has(int count, char **words, const char *wanted) {
+    for (int i = 1; i < count; i++)
+        if (strcmp(words[i], wanted) == 0)
+            return 1;
+    return 0;
+}
+
 static int run(int count, char **words, struct text all) {
     const char *what = count > 1 ? words[1] : "";
     unsigned me = (unsigned)atoi(word(count, words, "--me", "0"));
@@ -305,7 +316,8 @@ static int run(int count, char **words, struct text all) {
     if (strcmp(what, "odd-site") == 0)
         return odd_site(all, me);
     if (strcmp(what, "site") == 0)
-        return site(all, me, word(count, words, "--journal", "journal"), atol(word(count, words, "--resend", "-1")));
+        return site(all, me, word(count, words, "--journal", "journal"), has(count, words, "--new"),
+                    atol(word(count, words, "--resend", "-1")));
     stop("rows script|audit|migrate|bank|odd|site|odd-site|calls", 0, "");
     return 2;
 }

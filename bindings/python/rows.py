@@ -2,7 +2,7 @@
 """The commands of the program over the Python module, for check.py: what each writes has to be what the program writes.
 
 usage: rows.py script|audit|migrate|bank < LINES
-       rows.py site --me S --journal FILE [--resend N] < LINES
+       rows.py site --me S --journal FILE [--new] [--resend N] < LINES
        rows.py calls COUNT < TWO LINES
 
 `bank` answers a script line by line. `calls` gives the second line COUNT times to the bank of the first, and writes
@@ -107,6 +107,7 @@ def site(words, data):
     asked = argparse.ArgumentParser()
     asked.add_argument("--me", type=int)
     asked.add_argument("--journal")
+    asked.add_argument("--new", action="store_true")
     asked.add_argument("--resend", type=int)
     given = asked.parse_args(words)
     lines = lines_of(data)
@@ -117,6 +118,10 @@ def site(words, data):
             if os.path.exists(given.journal):
                 with open(given.journal, "rb") as file:
                     before = file.read()
+            elif not given.new:
+                raise Stop("no journal")
+            if given.new and before:
+                raise Stop("there is a journal")
             kept = replay(at, before, at.entries(), given.resend)
             with open(given.journal, "wb") as journal:
                 journal.write(kept)

@@ -38,11 +38,11 @@ until_true() {
     fail "this took too long: $*"
 }
 
-# The site N: what is published for it, the site, and what publishes its messages.
+# The site N: what is published for it, the site, and what publishes its messages. More words go to the site.
 start() {
     { echo $BASHPID > "$folder/in$1.pid"; echo "$bank"
       exec mosquitto_sub -p "$port" -q 1 -c -i "site$1" -t "bank/$1"; } |
-        { echo $BASHPID > "$folder/site$1.pid"; exec "$program" site --me "$1" --journal "$folder/$1.journal"; } |
+        { echo $BASHPID > "$folder/site$1.pid"; exec "$program" site --me "$1" --journal "$folder/$1.journal" "${@:2}"; } |
         "$here/../tools/wire.py" --me "$1" --sites 3 --to "mosquitto_pub -p $port -q 1 -l -t bank/{}" \
             >> "$folder/$1.replies" &
 }
@@ -81,7 +81,7 @@ echo $! > "$folder/broker.pid"
 for site in 0 1 2; do
     # The session begins before anything is published for the site.
     until_true mosquitto_sub -p "$port" -q 1 -c -i "site$site" -t "bank/$site" -E
-    start "$site"
+    start "$site" --new
 done
 
 ask 0 '{"deposit":["ann",500]}';        replied 0 '{"kind":"deposit","name":"B0.1"}'

@@ -67,7 +67,7 @@ def helps(program, command):
     """Whether the input that help shows is answered as it shows. An audit's answer is the first of those it lists."""
     given, told = shown(program, command)
     with tempfile.TemporaryDirectory() as folder:
-        options = ["--me", "0", "--journal", os.path.join(folder, "journal")] if command == "site" else []
+        options = ["--me", "0", "--journal", os.path.join(folder, "journal"), "--new"] if command == "site" else []
         words = [program, command, *options]
         run = subprocess.run(words, input=given.replace("\n  ", "\n")[2:], capture_output=True, text=True)
     if command == "audit":

@@ -2,7 +2,7 @@
 //! writes.
 //!
 //! usage: rows script|audit|migrate|bank < LINES
-//!        rows site --me S --journal FILE [--resend N] < LINES
+//!        rows site --me S --journal FILE [--new] [--resend N] < LINES
 //!        rows calls COUNT < TWO LINES
 //!
 //! `bank` answers a script line by line. `calls` gives the second line COUNT times to the bank of the first, and writes
@@ -145,11 +145,16 @@ fn site(words: &[String], input: &str) -> Result<(), Stop> {
         Err(OpenError::NoSuchSite) => return stop("no such site"),
         Err(_) => return stop(format!("line {number}")),
     };
-    let kept = replay(
-        &mut site,
-        &fs::read(path).unwrap_or_default(),
-        number_of("--resend"),
-    )?;
+    let is_new = words.iter().any(|word| word == "--new");
+    let before = match fs::read(path) {
+        Ok(before) => before,
+        Err(_) if is_new => Vec::new(),
+        Err(_) => return stop("no journal"),
+    };
+    if is_new && !before.is_empty() {
+        return stop("there is a journal");
+    }
+    let kept = replay(&mut site, &before, number_of("--resend"))?;
     let mut journal = fs::File::create(path).expect("a file");
     let mut keep = |text: &str| {
         journal

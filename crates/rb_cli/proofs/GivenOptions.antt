@@ -1,4 +1,4 @@
--- A command whose options are given one after another, each name and its value in a word of its own.
+-- A command whose options are given one after another, each name, and its value if it has one, in a word of its own.
 use Rattle.std.proofs.Common.{◌≡◌, ◌∙◌, ◌||◌, Bool, cond, true, false, refl, sym, ap, subst, List, [], ◌∷◌, Option, Some, None}
 use Rattle.std.specs.Prelude.{fold, option_and_then}
 use Rattle.std.specs.Option.{option_map_or}
@@ -7,7 +7,7 @@ use Rattle.std.proofs.lemmas.Slice.Eq.{bytes_eq-Decides}
 use Rattle.clap.specs.Lexer.{long_of, long_of_rest, short_of, short_of_rest, strip_byte}
 use Rattle.clap.specs.Facts.{unwrap_or_range}
 use Rattle.clap.specs.Kinds.{Kinds, or_else}
-use Rattle.clap.specs.Faults.{bundle_fault, check_fault, defaults_fault, flag_word_fault, level_fault, settle_fault}
+use Rattle.clap.specs.Faults.{bundle_fault, check_fault, defaults_fault, flag_word_fault, level_fault, repeat_fault, settle_fault}
 use Rattle.clap.specs.Faults.{step_fault, turn_fault, use_fault, walk_fault}
 use Rattle.clap.specs.Simple.{Shape}
 use Rattle.clap.specs.Takes.{value_passes}
@@ -16,8 +16,6 @@ use Rattle.clap.specs.Walk.{long_or_other, most_values, nothing_held, option, op
 use Rattle.clap.specs.Walk.{rows_after, settled_rows, short_or_plain, trailing, used, used_by_id, walked, with_default, word_met}
 use Rattle.clap.specs.declared.builder.action.ArgAction.TheVariants.{Set}
 use Rattle.clap.proofs.OnLiterals.{clap_on_literals}
-use Rattle.rb_cli.proofs.Options.{no_defaults}
-use Rattle.rb_cli.proofs.Passing.{Each, HasOptions, IsOption}
 
 -- of two checks that find no fault the first fault is none
 pub both_none : (a b : Kinds) → a ≡ [] → b ≡ [] → or_else a b ≡ []
@@ -49,6 +47,14 @@ pub record IsNamed (s : Shape) (word : Text) (a : Rule) : Type 0 where
   pub most : most_values a ≡ 1
   pub least : (unwrap_or_range a.range).start_inclusive ≡ 1
   pub set : action_of a ≡ Set
+
+-- the word is a switch, which has no value
+pub record IsSwitch (s : Shape) (word : Text) (a : Rule) : Type 0 where
+  pub met : (rows : List Row) (pending : Option (Text × List Text))
+      → walked s.rules [] (at rows pending) word ≡ at (used a [] (settled_rows s.rules pending rows)) None
+  pub fault : (rows : List Row) (pending : Option (Text × List Text))
+      → settle_fault s.rules s.args_override_self (at rows pending).held ≡ []
+      → has_row a.id (settled_rows s.rules pending rows) ≡ false → turn_fault s [] (at rows pending) word ≡ []
 
 -- the text doesn't begin with a hyphen
 abbrev pub IsPlain : Text → Type 0
@@ -109,43 +115,43 @@ value_fault s id rows v plain =
 
 -- ---- options in turn
 
--- an option as it is given: the word of its name, its rule, and the word of its value
-pub record Given : Type 0 where
-  pub word : Text
-  pub rule : Rule
-  pub value : Text
+-- an option as it is given: the word of its name, its rule, and the word of its value, if it has one
+pub data Given : Type 0 where
+  valued : (word : Text) (rule : Rule) (value : Text) → Given
+  switch : (word : Text) (rule : Rule) → Given
 
 -- the words of options in turn
 abbrev pub spelled : List Given → List Text
 spelled [] = []
-spelled (g ∷ gs) = g.word ∷ g.value ∷ spelled gs
+spelled (valued word rule value ∷ gs) = word ∷ value ∷ spelled gs
+spelled (switch word rule ∷ gs) = word ∷ spelled gs
 
 -- the rows after them
 abbrev pub rows_with : List Row → List Given → List Row
 rows_with rows [] = rows
-rows_with rows (g ∷ gs) = rows_with (used g.rule (g.value ∷ []) rows) gs
+rows_with rows (valued word rule value ∷ gs) = rows_with (used rule (value ∷ []) rows) gs
+rows_with rows (switch word rule ∷ gs) = rows_with (used rule [] rows) gs
 
--- each is an option that is not given before, and has a value that passes
+-- each is an option that is not given before, and its value passes
 abbrev pub AreGiven : Shape → List Row → List Given → Type 0
 AreGiven s rows [] = Unit {0}
-AreGiven s rows (g ∷ gs) = IsNamed s g.word g.rule × IsPlain g.value × (has_row g.rule.id rows ≡ false)
-    × (value_passes g.rule g.value ≡ true)
-    × AreGiven s (used g.rule (g.value ∷ []) rows) gs
+AreGiven s rows (valued word rule value ∷ gs) = IsNamed s word rule × IsPlain value × (has_row rule.id rows ≡ false)
+    × (value_passes rule value ≡ true) × AreGiven s (used rule (value ∷ []) rows) gs
+AreGiven s rows (switch word rule ∷ gs) = IsSwitch s word rule × (has_row rule.id rows ≡ false) × AreGiven s (used rule [] rows) gs
 
 used_once : (again : Bool) (a : Rule) (v : Text) (rows : List Row) → most_values a ≡ 1 → (unwrap_or_range a.range).start_inclusive ≡ 1
     → action_of a ≡ Set → has_row a.id rows ≡ false → value_passes a v ≡ true → use_fault again a (v ∷ []) rows ≡ []
 used_once again a v rows most least set new passes = rw (least, most, set, new, passes) refl
 
-settled_is : (s : Shape) (g : Given) (rows : List Row) → IsNamed s g.word g.rule
-    → settled_rows s.rules (Some (g.rule.id, g.value ∷ [])) rows ≡ used g.rule (g.value ∷ []) rows
-settled_is s g rows named = ap (λ found. used_by_id found (g.value ∷ []) rows) named.own
+settled_is : (s : Shape) (word : Text) (a : Rule) (v : Text) (rows : List Row) → IsNamed s word a
+    → settled_rows s.rules (Some (a.id, v ∷ [])) rows ≡ used a (v ∷ []) rows
+settled_is s word a v rows named = ap (λ found. used_by_id found (v ∷ []) rows) named.own
 
-settles : (s : Shape) (g : Given) (rows : List Row) → IsNamed s g.word g.rule → has_row g.rule.id rows ≡ false
-    → value_passes g.rule g.value ≡ true
-    → settle_fault s.rules s.args_override_self (at rows (Some (g.rule.id, g.value ∷ []))).held ≡ []
-settles s g rows named new passes =
-    ap (λ found. option_map_or (λ a. use_fault s.args_override_self a (g.value ∷ []) rows) found []) named.own
-    ∙ used_once s.args_override_self g.rule g.value rows named.most named.least named.set new passes
+settles : (s : Shape) (word : Text) (a : Rule) (v : Text) (rows : List Row) → IsNamed s word a → has_row a.id rows ≡ false
+    → value_passes a v ≡ true → settle_fault s.rules s.args_override_self (at rows (Some (a.id, v ∷ []))).held ≡ []
+settles s word a v rows named new passes =
+    ap (λ found. option_map_or (λ r. use_fault s.args_override_self r (v ∷ []) rows) found []) named.own
+    ∙ used_once s.args_override_self a v rows named.most named.least named.set new passes
 
 -- a walk over options in turn fails nowhere, and ends with their rows
 pub record WalksGiven (s : Shape) (start : Walk) (gs : List Given) (rows : List Row) : Type 0 where
@@ -159,40 +165,40 @@ walks_given : (s : Shape) (gs : List Given) (rows : List Row) (pending : Option 
     → WalksGiven s (at rows pending) gs (rows_with (settled_rows s.rules pending rows) gs)
 unfolding clap_on_literals
 walks_given s [] rows pending given settled = record { none = refl; settled = settled; rows_are = refl }
-walks_given s (g ∷ gs) rows pending (named, plain, new, passes, more) settled =
+walks_given s (valued word a v ∷ gs) rows pending (named, plain, new, passes, more) settled =
     let now = settled_rows s.rules pending rows in
-    let met = ap (λ w. walked s.rules [] w g.value) (named.met rows pending) ∙ value_met s g.word g.rule now g.value named plain in
-    let rest = walks_given s gs now (Some (g.rule.id, g.value ∷ []))
-    (subst (λ r. AreGiven s r gs) (sym (settled_is s g now named)) more) (settles s g now named new passes) in
-    let as_met = subst (λ w. WalksGiven s w gs (rows_with (settled_rows s.rules (Some (g.rule.id, g.value ∷ [])) now) gs)) (sym met) rest in
+    let met = ap (λ w. walked s.rules [] w v) (named.met rows pending) ∙ value_met s word a now v named plain in
+    let rest = walks_given s gs now (Some (a.id, v ∷ []))
+    (subst (λ r. AreGiven s r gs) (sym (settled_is s word a v now named)) more) (settles s word a v now named new passes) in
+    let as_met = subst (λ w. WalksGiven s w gs (rows_with (settled_rows s.rules (Some (a.id, v ∷ [])) now) gs)) (sym met) rest in
     record {
       none = both_none _ _ (named.fault rows pending settled)
           (both_none _ _
-          (subst (λ w. turn_fault s [] w g.value ≡ []) (sym (named.met rows pending)) (value_fault s g.rule.id now g.value plain))
+          (subst (λ w. turn_fault s [] w v ≡ []) (sym (named.met rows pending)) (value_fault s a.id now v plain))
           as_met.none);
       settled = as_met.settled;
-      rows_are = as_met.rows_are ∙ ap (λ r. rows_with r gs) (settled_is s g now named);
+      rows_are = as_met.rows_are ∙ ap (λ r. rows_with r gs) (settled_is s word a v now named);
+    }
+walks_given s (switch word a ∷ gs) rows pending (is, new, more) settled =
+    let now = used a [] (settled_rows s.rules pending rows) in
+    let as_met = subst (λ w. WalksGiven s w gs (rows_with now gs)) (sym (is.met rows pending)) (walks_given s gs now None more refl) in
+    record {
+      none = both_none _ _ (is.fault rows pending settled new) as_met.none;
+      settled = as_met.settled;
+      rows_are = as_met.rows_are;
     }
 
-none_defaulted : (c rules : List Rule) (rows : List Row) → Each (IsOption c) rules → defaults_fault rows rules ≡ []
-unfolding clap_on_literals
-none_defaulted c [] rows all = refl
-none_defaulted c (a ∷ rules) rows all =
-    both_none _ _ (rw all.0.defaults (go (has_row a.id rows) _)) (none_defaulted c rules (with_default rows a) all.1)
-  where
-    go : (b : Bool) (k : Kinds) → cond (b || true) [] k ≡ []
-    go true k = refl
-    go false k = refl
-
--- a command takes its options in turn, if the last checks pass
-pub takes_given : (s : Shape) (gs : List Given) → HasOptions s → AreGiven s [] gs → check_fault s (rows_with [] gs) false ≡ []
-    → (level_fault s [] nothing_held (spelled gs) false [] ≡ []) × (rows_after s.rules [] (spelled gs) ≡ rows_with [] gs)
-takes_given s gs all given checks =
+-- a command takes its options in turn, if its defaults and the last checks pass
+pub takes_given : (s : Shape) (gs : List Given) → AreGiven s [] gs → defaults_fault (rows_with [] gs) s.rules ≡ []
+    → check_fault s (fold with_default (rows_with [] gs) s.rules) false ≡ []
+    → (level_fault s [] nothing_held (spelled gs) false [] ≡ [])
+    × (rows_after s.rules [] (spelled gs) ≡ fold with_default (rows_with [] gs) s.rules)
+takes_given s gs given defaults checks =
     let walks = walks_given s gs [] None given refl in
-    let after = no_defaults s.rules s.rules _ all ∙ walks.rows_are in (
+    let after = ap (λ (r : List Row). fold with_default r s.rules) walks.rows_are in (
       both_none _ _ walks.none
           (both_none _ _ walks.settled
-          (both_none _ _ (none_defaulted s.rules s.rules _ all)
+          (both_none _ _ (ap (λ (r : List Row). defaults_fault r s.rules) walks.rows_are ∙ defaults)
           (ap (λ r. check_fault s r false) after ∙ checks))),
       after,
     )

@@ -17,26 +17,16 @@ use Rattle.clap.specs.Faults.{check_fault, level_fault}
 use Rattle.clap.specs.Simple.{Shape}
 use Rattle.clap.specs.Takes.{is_given, value_passes}
 use Rattle.clap.specs.Values.{IsSignedIn, read_as}
-use Rattle.clap.specs.Walk.{Row, Rule, Text, arg_by_id, default_rows, first_of, has_row, nothing_held, one_of}
-use Rattle.clap.specs.Walk.{reading_by, row_text, rows_after, walk, walk_from, with_default}
+use Rattle.clap.specs.Walk.{Row, Rule, Text, arg_by_id, first_of, nothing_held, one_of}
+use Rattle.clap.specs.Walk.{reading_by, row_text, rows_after, walk, walk_from}
 use Rattle.clap.specs.declared.builder.value_parser.ValueParser.TheVariants.{Signed}
 use Rattle.clap.specs.declared.error.kind.ErrorKind.TheVariants.{DisplayHelpOnMissingArgumentOrSubcommand}
 use Rattle.clap.specs.declared.error.kind.ErrorKind.TheVariants.{MissingRequiredArgument, MissingSubcommand}
 use Rattle.clap.proofs.ValueTestLemmas.{accepts-Accepts}
 use Rattle.rb_cli.specs.Words.{IsNumberWithin}
-use Rattle.rb_cli.proofs.Passing.{Each, HasOptions, IsOption, Passes, found_in, never, none_of, settle_passes, walk_passes}
+use Rattle.rb_cli.proofs.Passing.{Each, HasOptions, Passes, defaults_pass, found_in, never, none_of, settle_passes, walk_passes}
 
 -- ---- at the end of a parse
-
--- options without a default add no row
-pub no_defaults : (c rules : List Rule) (rows : List Row) → Each (IsOption c) rules → fold with_default rows rules ≡ rows
-no_defaults c [] rows all = refl
-no_defaults c (a ∷ rules) rows all =
-    ap (λ (r : List Row). fold with_default r rules) (go (has_row a.id rows)) ∙ no_defaults c rules rows all.1
-  where
-    go : (b : Bool) → cond b rows (default_rows a.id (reading_by a) a.defaults rows) ≡ rows
-    go true = refl
-    go false = ap (λ (d : List Text). default_rows a.id (reading_by a) d rows) all.0.defaults
 
 -- the rows of a command that fails nowhere pass, and so do its last checks
 pub leaf_passes : (s : Shape) → HasOptions s → (words : List Text) → level_fault s [] nothing_held words false [] ≡ []
@@ -47,7 +37,7 @@ leaf_passes s all words none =
     let three = none_of _ _ two.1 in
     let walked = walk_passes s [] all (walk_from nothing_held) words one.0 tt in
     let rest = settle_passes s.rules s.args_override_self all (walk s.rules [] nothing_held words).held two.0 walked in (
-      subst (Each (Passes s.rules)) (sym (no_defaults s.rules s.rules _ all)) rest,
+      defaults_pass s.rules s.rules _ all rest,
       three.1,
     )
 

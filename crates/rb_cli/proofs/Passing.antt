@@ -17,16 +17,18 @@ use Rattle.clap.specs.Walk.{long_or_other, more_values, most_values, next, optio
 use Rattle.clap.specs.Walk.{positional_held, pushed, reacted, reading_by, settled, settled_rows}
 use Rattle.clap.specs.Walk.{short_met, short_or_plain, subcommand, subcommand_met, subcommand_or_other, takes_several}
 use Rattle.clap.specs.Walk.{takes_values, to_positional, trailing, used, used_as, used_by_id, value}
-use Rattle.clap.specs.Walk.{values_or_missing, walked, walked_from, with_values, without, word_met, done, waits}
+use Rattle.clap.specs.Walk.{default_rows, has_row, values_or_missing, walked, walked_from, with_default, with_values, without, word_met}
+use Rattle.clap.specs.Walk.{done, waits}
 use Rattle.clap.specs.Walk.{plain, refused, idle, option, positional}
 use Rattle.clap.specs.Kinds.{Kinds, or_else, range_kinds}
 use Rattle.clap.specs.Simple.{Shape}
 use Rattle.clap.specs.Takes.{value_passes}
 use Rattle.clap.specs.Faults.{action_fault, bundle_fault, bundle_step_fault, flag_word_fault, flags_fault, long_fault}
-use Rattle.clap.specs.Faults.{option_fault, other_fault, positional_fault, react_fault, set_fault, settle_fault}
-use Rattle.clap.specs.Faults.{short_fault, step_fault, stray_fault, use_fault, values_fault, walk_fault, word_fault}
-use Rattle.clap.specs.declared.builder.action.ArgAction.TheVariants.{Set, Help}
-use Rattle.clap.specs.declared.parser.matches.ValueSource.TheVariants.{CommandLine}
+use Rattle.clap.specs.Faults.{option_fault, other_fault, positional_fault, react_fault, repeat_fault, set_fault}
+use Rattle.clap.specs.Faults.{settle_fault, short_fault, step_fault, stray_fault, use_fault, values_fault, walk_fault, word_fault}
+use Rattle.clap.specs.declared.builder.action.ArgAction.TheVariants.{Set, SetTrue, Help}
+use Rattle.clap.specs.declared.parser.matches.ValueSource.{ValueSource}
+use Rattle.clap.specs.declared.parser.matches.ValueSource.TheVariants.{CommandLine, DefaultValue}
 use Rattle.clap.proofs.OnLiterals.{clap_on_literals}
 
 -- ---- lists
@@ -63,11 +65,19 @@ never k ks e = cc e
 
 -- ---- rows
 
--- the rule is found by its id, and has one value or more, or asks for help; it has no default
+-- the rule is a switch: where it is used without a value, it has one
+abbrev pub IsSwitchRule : Rule → Type 0
+IsSwitchRule a = (action_of a ≡ SetTrue) × (word : Text) × (words : List Text) × (a.missing ≡ word ∷ words)
+
+-- what a rule is: an option with one value or more, a request for help, or a switch
+abbrev pub IsKnownKind : Rule → Type 0
+IsKnownKind a = ((action_of a ≡ Set) × (1 ≤ (unwrap_or_range a.range).start_inclusive)) ⊎ ((action_of a ≡ Help) ⊎ IsSwitchRule a)
+
+-- the rule is found by its id, and is of a known kind; its defaults pass
 pub record IsOption (c : List Rule) (a : Rule) : Type 0 where
   pub own : arg_by_id c a.id ≡ Some a
-  pub defaults : a.defaults ≡ []
-  pub kind : ((action_of a ≡ Set) × (1 ≤ (unwrap_or_range a.range).start_inclusive)) ⊎ (action_of a ≡ Help)
+  pub defaults : Each (λ v. value_passes a v ≡ true) a.defaults
+  pub kind : IsKnownKind a
 
 -- the row is of one of the rules, and its first value passes
 pub record Passes (c : List Rule) (r : Row) : Type 0 where
@@ -95,8 +105,8 @@ passes_first a v vs e = go (value_passes a v) (none_of _ _ e).0
     go true e = refl
     go false e = cc e
 
-more_passes : (c : List Rule) (added : List Text) (r : Row) → Passes c r → Each (Passes c) (more_values CommandLine added r)
-more_passes c added r has = (
+more_passes : (c : List Rule) (by : ValueSource) (added : List Text) (r : Row) → Passes c r → Each (Passes c) (more_values by added r)
+more_passes c by added r has = (
   record {
     rule = has.rule;
     own = has.own;
@@ -109,9 +119,9 @@ more_passes c added r has = (
   tt,
 )
 
-new_passes : (c : List Rule) (a : Rule) (v : Text) (vs : List Text) → IsOption c a → value_passes a v ≡ true
-    → Passes c (record { id = a.id; values = v ∷ vs; count = None; source = Some CommandLine; reading = reading_by a })
-new_passes c a v vs is pass = record {
+new_passes : (c : List Rule) (by : ValueSource) (a : Rule) (v : Text) (vs : List Text) → IsOption c a → value_passes a v ≡ true
+    → Passes c (record { id = a.id; values = v ∷ vs; count = None; source = Some by; reading = reading_by a })
+new_passes c by a v vs is pass = record {
   rule = a;
   own = is.own;
   reading = refl;
@@ -125,9 +135,28 @@ set_passes : (c : List Rule) (a : Rule) (v : Text) (vs : List Text) (rows : List
     → Each (Passes c) rows
     → Each (Passes c) (with_values a.id (reading_by a) CommandLine (v ∷ vs) (without a.id rows))
 set_passes c a v vs rows is none e =
-    each_at (Passes c) a.id (more_values CommandLine (v ∷ vs)) _ (without a.id rows) (more_passes c (v ∷ vs))
-    (new_passes c a v vs is (passes_first a v vs none), tt)
+    each_at (Passes c) a.id (more_values CommandLine (v ∷ vs)) _ (without a.id rows) (more_passes c CommandLine (v ∷ vs))
+    (new_passes c CommandLine a v vs is (passes_first a v vs none), tt)
     (each_at (Passes c) a.id (λ _. []) [] rows (λ r has. tt) tt e)
+
+-- the default values of a rule pass
+default_passes : (c : List Rule) (a : Rule) (values : List Text) (rows : List Row) → IsOption c a
+    → Each (λ v. value_passes a v ≡ true) values → Each (Passes c) rows
+    → Each (Passes c) (default_rows a.id (reading_by a) values rows)
+default_passes c a [] rows is pass e = e
+default_passes c a (v ∷ vs) rows is pass e =
+    each_at (Passes c) a.id (more_values DefaultValue (v ∷ vs)) _ rows (more_passes c DefaultValue (v ∷ vs))
+    (new_passes c DefaultValue a v vs is pass.0, tt) e
+
+-- and so do the rows with all default values
+pub defaults_pass : (c rules : List Rule) (rows : List Row) → Each (IsOption c) rules → Each (Passes c) rows
+    → Each (Passes c) (fold with_default rows rules)
+defaults_pass c [] rows all e = e
+defaults_pass c (a ∷ rules) rows all e = defaults_pass c rules (with_default rows a) all.1 (go (has_row a.id rows))
+  where
+    go : (b : Bool) → Each (Passes c) (cond b rows (default_rows a.id (reading_by a) a.defaults rows))
+    go true = e
+    go false = default_passes c a a.defaults rows all.0 all.0.defaults e
 
 too_few : (least most : ℕ) → 1 ≤ least → range_kinds least most 0 ≡ [] → ⊥
 too_few least most some e =
@@ -141,7 +170,18 @@ use_passes c again a values rows is none e =
     let parts = none_of _ _ none in
     go values is.kind parts.0 parts.1
   where
-    go : (vs : List Text) → ((action_of a ≡ Set) × (1 ≤ (unwrap_or_range a.range).start_inclusive)) ⊎ (action_of a ≡ Help)
+    -- a use of a switch
+    switched : (vs words : List Text) (word : Text) → action_of a ≡ SetTrue → values_or_missing a vs ≡ word ∷ words
+        → action_fault (action_of a) again a (values_or_missing a vs) rows ≡ [] → Each (Passes c) (used a vs rows)
+    switched vs words word set has fault =
+        let as_set : set_fault again a (values_or_missing a vs) rows ≡ [] =
+        subst (λ x. action_fault x again a (values_or_missing a vs) rows ≡ []) set fault in
+        let as_word : values_fault a (word ∷ words) ≡ [] = subst (λ xs. values_fault a xs ≡ []) has (none_of (repeat_fault again a.id rows) (values_fault a (values_or_missing a vs)) as_set).1 in
+        subst (λ x. Each (Passes c) (used_as x a.id (reading_by a) (values_or_missing a vs) rows)) (sym set)
+        (subst (λ xs. Each (Passes c) (with_values a.id (reading_by a) CommandLine xs (without a.id rows))) (sym has)
+        (set_passes c a word words rows is as_word e))
+
+    go : (vs : List Text) → IsKnownKind a
         → range_kinds (unwrap_or_range a.range).start_inclusive (most_values a) (length vs) ≡ []
         → action_fault (action_of a) again a (values_or_missing a vs) rows ≡ []
         → Each (Passes c) (used a vs rows)
@@ -150,7 +190,9 @@ use_passes c again a values rows is none e =
         let as_set : set_fault again a (v ∷ vs) rows ≡ [] = subst (λ x. action_fault x again a (v ∷ vs) rows ≡ []) set.0 fault in
         subst (λ x. Each (Passes c) (used_as x a.id (reading_by a) (v ∷ vs) rows)) (sym set.0)
         (set_passes c a v vs rows is (none_of _ _ as_set).1 e)
-    go vs (inr help) range fault =
+    go [] (inr (inr flag)) range fault = switched [] flag.2 flag.1 flag.0 flag.3 fault
+    go (v ∷ vs) (inr (inr flag)) range fault = switched (v ∷ vs) vs v flag.0 refl fault
+    go vs (inr (inl help)) range fault =
         let as_help = subst (λ x. action_fault x again a (values_or_missing a vs) rows ≡ []) help fault in
         absurd (never DisplayHelp [] as_help)
 

@@ -1,5 +1,5 @@
 -- Words that the command line takes ask for something, within its limits.
-use Rattle.std.proofs.Common.{◌≡◌, ◌∙◌, ◌≤◌, ◌&&◌, ◌||◌, ℕ, Bool, cond, codes, true, false, true≢false, not, refl}
+use Rattle.std.proofs.Common.{◌≡◌, ◌∙◌, ◌≤◌, ◌⊎◌, ◌&&◌, ◌||◌, ℕ, Bool, cond, codes, true, false, true≢false, not, refl}
 use Rattle.std.proofs.Common.{sym, subst, arith, List, [], ◌∷◌, Option, Some, None, inl, inr, is_some}
 use Rattle.std.specs.Prelude.{IfSome, find, fold, option_map}
 use Rattle.std.specs.Option.{option_map_or}
@@ -21,7 +21,8 @@ use Rattle.clap.specs.declared.error.kind.ErrorKind.TheVariants.{DisplayHelp, In
 use Rattle.clap.proofs.OnLiterals.{clap_on_literals}
 use Rattle.rb_money.specs.declared.limits.TheConstants.{MOST_HISTORY, MOST_SITES}
 use Rattle.rb_cli.specs.declared.words.TheConstants.{MOST_TELLERS}
-use Rattle.rb_cli.specs.Words.{AreFit, Asked, IsInRange, IsNumberWithin, command_line, option_rule, site_line}
+use Rattle.rb_cli.specs.Words.{AreFit, Asked, IsInRange, IsNumberWithin, IsSwitchWord, command_line, option_rule, site_line}
+use Rattle.rb_cli.specs.Words.{switch_at, switch_rule}
 use Rattle.rb_cli.specs.Words.{threads_line, within, numeral_value, words_of_matches, script, audit, migrate, threads}
 use Rattle.rb_cli.specs.Words.{site}
 use Rattle.rb_cli.proofs.Options.{HasText, at_option, fits, given_text, none_missing, leaf_passes, number_of_text}
@@ -137,6 +138,7 @@ no_options name its_rows no_threads no_site = record {
   seed = λ is. absurd (other_text _ _ no_threads is);
   me = λ is. absurd (other_text _ _ no_site is);
   resend = λ is. absurd (other_text _ _ no_site is);
+  new = λ is. absurd (other_text _ _ no_site is);
 }
 
 nothing_missing : (a b d : Bool) → (not a || (not b || (not d || false))) ≡ false → (a ≡ true) × (b ≡ true) × (d ≡ true)
@@ -156,12 +158,12 @@ numbers name least most required = filled (option_rule name (within least most) 
 -- the rules of `threads` are options
 pub threads_options : HasOptions (leaf threads_line)
 threads_options = (
-  record { own = refl; defaults = refl; kind = inl (refl, omega arith) },
+  record { own = refl; defaults = tt; kind = inl (refl, omega arith) },
   (
-    record { own = refl; defaults = refl; kind = inl (refl, omega arith) },
+    record { own = refl; defaults = tt; kind = inl (refl, omega arith) },
     (
-      record { own = refl; defaults = refl; kind = inl (refl, omega arith) },
-      (record { own = refl; defaults = refl; kind = inr refl }, tt),
+      record { own = refl; defaults = tt; kind = inl (refl, omega arith) },
+      (record { own = refl; defaults = tt; kind = inr (inl refl) }, tt),
     ),
   ),
 )
@@ -169,12 +171,15 @@ threads_options = (
 -- and so are those of `site`
 pub site_options : HasOptions (leaf site_line)
 site_options = (
-  record { own = refl; defaults = refl; kind = inl (refl, omega arith) },
+  record { own = refl; defaults = tt; kind = inl (refl, omega arith) },
   (
-    record { own = refl; defaults = refl; kind = inl (refl, omega arith) },
+    record { own = refl; defaults = tt; kind = inl (refl, omega arith) },
     (
-      record { own = refl; defaults = refl; kind = inl (refl, omega arith) },
-      (record { own = refl; defaults = refl; kind = inr refl }, tt),
+      record { own = refl; defaults = (refl, tt); kind = inr (inr (refl, codes "true", [], refl)) },
+      (
+        record { own = refl; defaults = tt; kind = inl (refl, omega arith) },
+        (record { own = refl; defaults = tt; kind = inr (inl refl) }, tt),
+      ),
     ),
   ),
 )
@@ -212,6 +217,7 @@ threads_asks its_rows all none =
         seed = λ _. fits _ _ its_rows 0 4294967295 (at_option rules (numbers (codes "seed") 0 4294967295 true) _ its_rows all refl) refl;
         me = λ is. absurd (other_text (codes "threads") (codes "site") refl is);
         resend = λ is. absurd (other_text (codes "threads") (codes "site") refl is);
+        new = λ is. absurd (other_text (codes "threads") (codes "site") refl is);
       };
     }
 
@@ -230,6 +236,21 @@ resent : (o : Option Text) → IfSome o (IsNumberWithin 0 MOST_HISTORY) → IfSo
 resent None h = tt
 resent (Some t) h = h.2
 
+-- the word of a switch
+switch_word : (t : Text) → (bytes_eq t (codes "true") || bytes_eq t (codes "false")) ≡ true → IsSwitchWord t
+switch_word t passes = go (bytes_eq t (codes "true")) refl passes
+  where
+    go : (b : Bool) → bytes_eq t (codes "true") ≡ b → (b || bytes_eq t (codes "false")) ≡ true → IsSwitchWord t
+    go true is passes = inl ((bytes_eq-Decides t (codes "true")).0 is)
+    go false is passes = inr ((bytes_eq-Decides t (codes "false")).0 passes)
+
+-- a switch has one of its two words, if any
+switched : (id : Text) (its_rows : List Row)
+    → ((one_of id its_rows ≡ None) × (is_given id its_rows ≡ false)) ⊎ HasText (filled (switch_rule id)) id its_rows
+    → IfSome (one_of id its_rows) IsSwitchWord
+switched id its_rows (inl none) = subst (λ o. IfSome o IsSwitchWord) (sym none.0) tt
+switched id its_rows (inr has) = subst (λ o. IfSome o IsSwitchWord) (sym has.one) (switch_word has.text has.passes)
+
 site_asks : (its_rows : List Row) → Each (Passes (leaf site_line).rules) its_rows → check_fault (leaf site_line) its_rows false ≡ []
     → Asks (Some (codes "site", its_rows))
 site_asks its_rows all none =
@@ -239,7 +260,8 @@ site_asks its_rows all none =
     let again = fits _ _ its_rows 0 MOST_HISTORY
     (at_option rules (numbers (codes "resend") 0 MOST_HISTORY false) (codes "resend") its_rows all refl) refl in
     record {
-      asked = site (numeral_value (without_minus given.0.text)) given.1.text (option_map numeral_value (one_of (codes "resend") its_rows));
+      asked = site (numeral_value (without_minus given.0.text)) given.1.text (switch_at (codes "new") its_rows)
+          (option_map numeral_value (one_of (codes "resend") its_rows));
       is = rw (me.0, given.1.first) refl;
       in_range = (omega (arith, me.1.2), resent (one_of (codes "resend") its_rows) again);
       fit = record {
@@ -248,6 +270,7 @@ site_asks its_rows all none =
         seed = λ is. absurd (other_text (codes "site") (codes "threads") refl is);
         me = λ _. fits _ _ its_rows 0 15 (at_option rules (numbers (codes "me") 0 15 true) _ its_rows all refl) refl;
         resend = λ _. again;
+        new = λ _. switched (codes "new") its_rows (at_option rules (filled (switch_rule (codes "new"))) (codes "new") its_rows all refl);
       };
     }
 

@@ -1,9 +1,12 @@
 -- The words that ask for each thing, the command line that takes them, and what it reads them as.
-use Rattle.std.specs.Prelude.{◌≡◌, ◌<◌, ◌≤◌, ◌+◌, ◌*◌, ◌^◌, ℕ, pos, List, [], ◌∷◌, length, codes, decimal, Bool, true, false}
+use Rattle.std.specs.Prelude.{◌≡◌, ◌<◌, ◌≤◌, ◌+◌, ◌*◌, ◌^◌, ◌⊎◌, ℕ, pos, List, [], ◌∷◌, ◌++◌, length, take, drop, codes, decimal}
+use Rattle.std.specs.Prelude.{Bool, true, false}
+use Rattle.std.specs.Option.{option_map_or}
 use Rattle.std.specs.Prelude.{Option, None, Some, IfSome, if◌then◌else◌, option_map, slice_get}
 use Rattle.std.specs.Str.{bytes_eq}
 use Rattle.std.specs.Str.Parse.{IsNumeral, digits_value, without_leading_plus}
 use Rattle.clap.specs.Words.{App, Row, Rule, Shape, Text, first_of, new_app, new_rule, one_of, subcommand_of, with_rule, with_subcommand}
+use Rattle.clap.specs.declared.builder.action.ArgAction.TheVariants.{SetTrue}
 use Rattle.clap.specs.declared.builder.value_parser.ValueParser.{ValueParser}
 use Rattle.clap.specs.declared.builder.value_parser.ValueParser.TheVariants.{Signed}
 use Rattle.rb_money.specs.declared.limits.TheConstants.{MOST_HISTORY, MOST_SITES}
@@ -39,8 +42,16 @@ abbrev pub IsResend : List (List ℕ) → Option ℕ → Type 0
 IsResend words None = length words ≡ 5
 IsResend words (Some n) = (length words ≡ 7) × IsGiven words (codes "--resend") (decimal n) × (n ≤ MOST_HISTORY)
 
--- the words ask for a site: they are its name and two or three options, in any order, with numbers in their ranges
-pub record AskForSite (words : List (List ℕ)) (me : ℕ) (journal : List ℕ) (resend : Option ℕ) : Type 0 where
+-- the words are these others, with `--new` behind the first of them or behind an option's value if a new journal is
+-- asked for
+abbrev pub IsNewGiven : Bool → List (List ℕ) → List (List ℕ) → Type 0
+IsNewGiven false words others = words ≡ others
+IsNewGiven true words others =
+    (i : ℕ) × (2 * i < length others) × (words ≡ take (2 * i + 1) others ++ codes "--new" ∷ drop (2 * i + 1) others)
+
+-- words without `--new` ask for a site: they are its name and two or three options, in any order, with numbers in their
+-- ranges
+pub record AskForJournal (words : List (List ℕ)) (me : ℕ) (journal : List ℕ) (resend : Option ℕ) : Type 0 where
   pub first : slice_get words 0 ≡ Some (codes "site")
   pub me_given : IsGiven words (codes "--me") (decimal me)
   pub is_site : me < MOST_SITES
@@ -48,13 +59,19 @@ pub record AskForSite (words : List (List ℕ)) (me : ℕ) (journal : List ℕ) 
   pub is_file : IsFileName journal
   pub resent : IsResend words resend
 
+-- the words ask for a site, whose journal is to be made or has to be there
+pub record AskForSite (words : List (List ℕ)) (me : ℕ) (journal : List ℕ) (is_new : Bool) (resend : Option ℕ) : Type 0 where
+  pub others : List (List ℕ)
+  pub new_given : IsNewGiven is_new words others
+  pub ask : AskForJournal others me journal resend
+
 -- what the words after the program's name ask for
 abbrev pub Ask : List (List ℕ) → Words → Type 0
 Ask words Script = words ≡ codes "script" ∷ []
 Ask words Audit = words ≡ codes "audit" ∷ []
 Ask words Migrate = words ≡ codes "migrate" ∷ []
 Ask words (Threads sites tellers seed) = AskForThreads words sites tellers seed
-Ask words (Site me journal resend) = AskForSite words me journal.now resend
+Ask words (Site me journal is_new resend) = AskForSite words me journal.now is_new resend
 
 -- ---- the command line
 
@@ -65,6 +82,10 @@ top_line = record (new_app (codes "rbbank")).top { no_binary_name = true; subcom
 -- an option with one value, of this kind if any is named, that must be given or needn't
 abbrev pub option_rule : List ℕ → Option ValueParser → Bool → Rule
 option_rule name kind required = record (new_rule name) { long = Some name; value_names = 1; parser = kind; required = required }
+
+-- an option without a value, that needn't be given
+abbrev pub switch_rule : List ℕ → Rule
+switch_rule name = record (new_rule name) { long = Some name; action = Some SetTrue }
 
 -- a number from the first to the second
 abbrev pub within : ℕ → ℕ → Option ValueParser
@@ -81,8 +102,9 @@ threads_line =
 abbrev pub site_line : App
 site_line =
     with_rule
-    (with_rule (with_rule (new_app (codes "site")) (option_rule (codes "me") (within 0 15) true))
-    (option_rule (codes "journal") None true)) (option_rule (codes "resend") (within 0 MOST_HISTORY) false)
+    (with_rule
+    (with_rule (with_rule (new_app (codes "site")) (option_rule (codes "me") (within 0 15) true)) (option_rule (codes "journal") None true))
+    (switch_rule (codes "new"))) (option_rule (codes "resend") (within 0 MOST_HISTORY) false)
 
 -- the command line with the subcommands that have no options
 abbrev pub plain_line : App
@@ -103,14 +125,14 @@ pub data Asked : Type 0 where
   audit : Asked
   migrate : Asked
   threads : ℕ → ℕ → ℕ → Asked
-  site : ℕ → Text → Option ℕ → Asked
+  site : ℕ → Text → Bool → Option ℕ → Asked
 
 abbrev pub as_asked : Words → Asked
 as_asked Script = script
 as_asked Audit = audit
 as_asked Migrate = migrate
 as_asked (Threads sites tellers seed) = threads sites tellers seed
-as_asked (Site me journal resend) = site me journal.now resend
+as_asked (Site me journal is_new resend) = site me journal.now is_new resend
 
 -- the number that a text is, which may have a plus sign and zeros in front
 abbrev pub numeral_value : Text → ℕ
@@ -120,6 +142,10 @@ numeral_value text = digits_value 10 (without_leading_plus text)
 abbrev pub number_at : Text → List Row → Option ℕ
 number_at name rows = option_map numeral_value (one_of name rows)
 
+-- the switch with this name is given
+abbrev pub switch_at : Text → List Row → Bool
+switch_at name rows = option_map_or (λ text. bytes_eq text (codes "true")) (one_of name rows) false
+
 -- a run of threads has all three of its options
 abbrev pub with_run : Option ℕ → Option ℕ → Option ℕ → Option Asked
 with_run (Some sites) (Some tellers) (Some seed) = Some (threads sites tellers seed)
@@ -128,13 +154,15 @@ with_run _ _ _ = None
 abbrev pub threads_asked : List Row → Option Asked
 threads_asked rows = with_run (number_at (codes "sites") rows) (number_at (codes "tellers") rows) (number_at (codes "seed") rows)
 
--- a site has its number and its file, and may have how many last entries' messages are written again
-abbrev pub with_site_options : Option ℕ → Option Text → Option ℕ → Option Asked
-with_site_options (Some me) (Some journal) resend = Some (site me journal resend)
-with_site_options _ _ _ = None
+-- a site has its number and its file, which may be a new one, and may have how many last entries' messages are written
+-- again
+abbrev pub with_site_options : Option ℕ → Option Text → Bool → Option ℕ → Option Asked
+with_site_options (Some me) (Some journal) is_new resend = Some (site me journal is_new resend)
+with_site_options _ _ _ _ = None
 
 abbrev pub site_asked : List Row → Option Asked
-site_asked rows = with_site_options (number_at (codes "me") rows) (first_of (codes "journal") rows) (number_at (codes "resend") rows)
+site_asked rows = with_site_options (number_at (codes "me") rows) (first_of (codes "journal") rows) (switch_at (codes "new") rows)
+    (number_at (codes "resend") rows)
 
 -- what a command with its options asks for
 abbrev pub words_of_command : Text → List Row → Option Asked
@@ -160,7 +188,7 @@ IsAsUsual words asked = (usual : Words) → Ask words usual → as_asked asked �
 abbrev pub IsInRange : Asked → Type 0
 IsInRange (threads sites tellers seed) =
     (2 ≤ sites) × (sites ≤ MOST_SITES) × (1 ≤ tellers) × (tellers ≤ MOST_TELLERS) × (seed < 2 ^ 32)
-IsInRange (site me journal resend) = (me < MOST_SITES) × IfSome resend (λ n. n ≤ MOST_HISTORY)
+IsInRange (site me journal is_new resend) = (me < MOST_SITES) × IfSome resend (λ n. n ≤ MOST_HISTORY)
 IsInRange _ = Unit {0}
 
 -- ---- what is known of the options of a command that was met
@@ -173,10 +201,19 @@ IsNumberWithin least most text = IsNumeral 10 (without_leading_plus text) × (le
 abbrev pub FitsWithin : ℕ → ℕ → Text → List Row → Type 0
 FitsWithin least most name rows = IfSome (one_of name rows) (IsNumberWithin least most)
 
--- the options of a command with this name have numbers within their limits
+-- the word of a switch
+abbrev pub IsSwitchWord : Text → Type 0
+IsSwitchWord text = (text ≡ codes "true") ⊎ (text ≡ codes "false")
+
+-- the switch has such a word, if it has any
+abbrev pub HasSwitchWord : Text → List Row → Type 0
+HasSwitchWord name rows = IfSome (one_of name rows) IsSwitchWord
+
+-- the options of a command with this name have numbers within their limits, and its switch has its word
 pub record AreFit (name : Text) (rows : List Row) : Type 0 where
   pub sites : name ≡ codes "threads" → FitsWithin 2 MOST_SITES (codes "sites") rows
   pub tellers : name ≡ codes "threads" → FitsWithin 1 MOST_TELLERS (codes "tellers") rows
   pub seed : name ≡ codes "threads" → FitsWithin 0 4294967295 (codes "seed") rows
   pub me : name ≡ codes "site" → FitsWithin 0 15 (codes "me") rows
   pub resend : name ≡ codes "site" → FitsWithin 0 MOST_HISTORY (codes "resend") rows
+  pub new : name ≡ codes "site" → HasSwitchWord (codes "new") rows

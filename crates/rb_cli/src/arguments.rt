@@ -2,13 +2,13 @@
 ghost use Rattle.std.specs.Prelude.{◌≡◌, None, codes, false, pos, true};
 ghost use Rattle.clap.specs.Words.{rule_of};
 ghost use Rattle.clap.specs.declared.builder.value_parser.ValueParser.TheVariants.{Signed};
-ghost use Rattle.rb_cli.specs.Words.{option_rule, within};
+ghost use Rattle.rb_cli.specs.Words.{option_rule, switch_rule, within};
 ghost use Rattle.rb_money.specs.declared.limits.TheConstants.{MOST_HISTORY as most_resent, MOST_SITES as most_sites};
 ghost use Rattle.rb_cli.specs.declared.words.TheConstants.{MOST_TELLERS as most_tellers};
 
 use crate::{MOST_TELLERS, texts};
 use clap::builder::ValueParser;
-use clap::{Arg, value_parser};
+use clap::{Arg, ArgAction, value_parser};
 use rb_money::{MOST_HISTORY, MOST_SITES};
 use std::alloc::Global;
 
@@ -87,6 +87,17 @@ pub fn journal<'a>(alloc: Global) -> Arg<'a>
     ensures local { result.global ≡ false }
 {
     option(alloc, "journal", "FILE", texts::JOURNAL, true)
+}
+
+/// Whether that file is a new one.
+pub fn new_file<'a>(alloc: Global) -> Arg<'a>
+    ensures rule { rule_of result ≡ switch_rule (codes "new") }
+    ensures local { result.global ≡ false }
+{
+    Arg::new(alloc, "new")
+        .long("new")
+        .help(texts::NEW)
+        .action(ArgAction::SetTrue)
 }
 
 /// How many of the site's last entries have their messages written again.

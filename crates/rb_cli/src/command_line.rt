@@ -53,6 +53,7 @@ fn site<'a>(alloc: Global) -> Result<Command<'a>, AllocError>
     let options = vec![in alloc;
         arguments::me(alloc),
         arguments::journal(alloc),
+        arguments::new_file(alloc),
         arguments::resend(alloc),
     ]?;
     part(

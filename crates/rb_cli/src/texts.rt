@@ -17,7 +17,7 @@ pub const AUDIT_USAGE: &str = "rbbank audit < HISTORIES";
 pub const MIGRATE_USAGE: &str = "rbbank migrate < HISTORIES";
 
 /// How `site` is used.
-pub const SITE_USAGE: &str = "rbbank site --me S --journal FILE [--resend N] < EVENTS";
+pub const SITE_USAGE: &str = "rbbank site --me S --journal FILE [--new] [--resend N] < EVENTS";
 
 /// How `threads` is used.
 pub const THREADS_USAGE: &str = "rbbank threads --sites K --tellers T --seed S";
@@ -55,6 +55,9 @@ pub const ME: &str = "Which site it is, 0 to 15";
 
 /// What `--journal` is.
 pub const JOURNAL: &str = "The file that the site's history is kept in";
+
+/// The help of `--new`.
+pub const NEW: &str = "Makes the file, or takes an empty one; without it the file must be there";
 
 /// What `--resend` is.
 pub const RESEND: &str =
@@ -169,7 +172,7 @@ All lines, limits, refusals and statuses: docs/FORMAT.md"#;
 /// An event at a site with its answer, and the statuses.
 pub const SITE_HELP: &str =
     r#"The first line is the configuration, and each later line an event: any command but "deliver", without its
-site, or a message that another site sent. At site 0, which has no journal yet:
+site, or a message that another site sent. At site 0, with --new, which makes its journal:
 
   {"accounts":[["ann",0]],"sites":2,"version":1}
   {"deposit":["ann",500]}
@@ -181,14 +184,16 @@ sent, and the replies of the operations that became ready, which are applied the
     "deps":[[0,0,0,0,0,0,0,0],0],"home":0,"kind":"deposit","name":"B0.1"}}],"then":[]}
 
 What is indented further here is the rest of the line above it. A message is given to its receivers as an event,
-as it is: an operation to every other site, the token to the site that it is for. A journal that is there goes on:
-first the messages of its last N entries are written again, those of all entries if --resend isn't given.
+as it is: an operation to every other site, the token to the site that it is for. Without --new the journal has to
+be there, and goes on: first the messages of its last N entries are written again, those of all entries if
+--resend isn't given. With --new it isn't there, or is empty: no other operations are made under names that are taken.
 
 The options have any order, as --me 0 or as --me=0; a file's name that begins with - is written ./-
 
 Statuses:
   0  every line was answered
-  2  a bad line, no configuration, no such site, a journal in use or not of this site, or wrong words
+  2  a bad line, no configuration, no such site, wrong words, or a journal that isn't there without --new, that is
+     there with it, that is in use, or not of this site
   3  a read or a write failed, or the journal did
   4  out of memory
 

@@ -2,8 +2,9 @@
 ghost use Rattle.std.specs.Prelude.{◌≡◌, codes, map, option_map, IfErr, IfOk, IfSome};
 ghost use Rattle.clap.specs.Words.{FailsBy, fault_of, found_of, kind_of, rows_of, subcommand_rows_of};
 ghost use Rattle.clap.specs.declared.error.kind.ErrorKind.TheVariants.{OutOfMemory};
-ghost use Rattle.rb_cli.specs.Words.{AreFit, Ask, FitsWithin, IsAsUsual, IsInRange, AreReadAs, as_asked};
-ghost use Rattle.rb_cli.specs.Words.{command_line as line, number_at, site_asked, threads_asked, words_of_matches};
+ghost use Rattle.rb_cli.specs.Words.{AreFit, Ask, FitsWithin, HasSwitchWord, IsAsUsual, IsInRange, AreReadAs, as_asked};
+ghost use Rattle.rb_cli.specs.Words.{command_line as line, number_at, site_asked, switch_at, threads_asked};
+ghost use Rattle.rb_cli.specs.Words.{words_of_matches};
 
 use crate::command_line::command_line;
 use clap::{ArgMatches, Error};
@@ -28,11 +29,12 @@ pub enum Words<'a> {
         tellers: u8,
         seed: u32,
     },
-    /// To run this site, 0 to `MOST_SITES` - 1, whose history is kept in this file. The messages of its last
-    /// `resend` entries, 0 to `MOST_HISTORY`, are written again first, or those of all entries.
+    /// To run this site, 0 to `MOST_SITES` - 1, whose history is kept in this file, which is made if it is a new one.
+    /// The messages of its last `resend` entries, 0 to `MOST_HISTORY`, are written again first, or those of all entries.
     Site {
         me: u8,
         journal: &'a str,
+        is_new: bool,
         resend: Option<u32>,
     },
 }
@@ -43,6 +45,14 @@ fn number(given: &ArgMatches, name: &str) -> Option<u32>
     ensures { result ≡ number_at name.now (rows_of (found_of given.now)) }
 {
     given.get_one(name)
+}
+
+/// Whether a switch is given.
+fn switch(given: &ArgMatches, name: &str) -> bool
+    requires { HasSwitchWord name.now (rows_of (found_of given.now)) }
+    ensures { result ≡ switch_at name.now (rows_of (found_of given.now)) }
+{
+    given.get_flag(name)
 }
 
 /// The run of threads that its options ask for.
@@ -67,10 +77,12 @@ fn site<'a>(given: &ArgMatches<'a>) -> Option<Words<'a>>
 {
     let me = number(given, "me")?;
     let journal = given.get_str("journal")?;
+    let is_new = switch(given, "new");
     let resend = number(given, "resend");
     Some(Words::Site {
         me: me as u8,
         journal,
+        is_new,
         resend,
     })
 }

@@ -15,7 +15,8 @@ use Rattle.rb_run_site.specs.Runs.{AreBytesBehind, HasAnswered, IsLeftOrAnswered
 use Rattle.rb_run_site.specs.Starts.{IsBehind, Starts, WaitsBehind}
 use Rattle.rb_run_site.specs.declared.fault.SiteFault.{SiteFault}
 use Rattle.rb_run_site.specs.declared.fault.SiteFault.TheVariants.{NoConfig, BadConfig, NoSite, AnotherJournal, BadEntry, WrongReply}
-use Rattle.rb_run_site.specs.declared.fault.SiteFault.TheVariants.{InUse, BadLine, LongLine, Read, Write, Journal, OutOfMemory}
+use Rattle.rb_run_site.specs.declared.fault.SiteFault.TheVariants.{NoJournal, JournalThere, InUse}
+use Rattle.rb_run_site.specs.declared.fault.SiteFault.TheVariants.{BadLine, LongLine, Read, Write, Journal, OutOfMemory}
 
 -- the bytes behind the configuration's line are what waits and what is still to be read
 pub behind_known : (input : Option (List ℕ)) (config : List ℕ) (number : ℕ) (pending : List ℕ) (left : Option (List ℕ))
@@ -98,6 +99,8 @@ ran A B stops (Err (WrongReply k)) so a = absurd a
 ran A B stops (Err Write) so a = tt
 ran A B stops (Err Journal) so a = tt
 ran A B stops (Err OutOfMemory) so a = tt
+ran A B stops (Err NoJournal) so a = absurd a
+ran A B stops (Err JournalThere) so a = absurd a
 ran A B stops (Err InUse) so a = absurd a
 
 -- a run that stopped in the opening

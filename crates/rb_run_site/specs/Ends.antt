@@ -12,7 +12,8 @@ use Rattle.rb_run_site.specs.Runs.{AreBytesBehind}
 use Rattle.rb_run_site.specs.Starts.{Starts, sent_again}
 use Rattle.rb_run_site.specs.declared.fault.SiteFault.{SiteFault}
 use Rattle.rb_run_site.specs.declared.fault.SiteFault.TheVariants.{NoConfig, BadConfig, NoSite, AnotherJournal, BadEntry, WrongReply}
-use Rattle.rb_run_site.specs.declared.fault.SiteFault.TheVariants.{InUse, BadLine, LongLine, Read, Write, Journal, OutOfMemory}
+use Rattle.rb_run_site.specs.declared.fault.SiteFault.TheVariants.{NoJournal, JournalThere, InUse}
+use Rattle.rb_run_site.specs.declared.fault.SiteFault.TheVariants.{BadLine, LongLine, Read, Write, Journal, OutOfMemory}
 
 -- these were the turns of a site: their entries are in the journal and all their text was put out, behind what was sent
 -- again; the run over these bytes, whose first line has this number, ended so
@@ -64,4 +65,6 @@ RunsTo answers stops (Err (WrongReply k)) = stops (WrongReply k)
 RunsTo answers stops (Err Write) = Unit {0}
 RunsTo answers stops (Err Journal) = Unit {0}
 RunsTo answers stops (Err OutOfMemory) = Unit {0}
+RunsTo answers stops (Err NoJournal) = ⊥
+RunsTo answers stops (Err JournalThere) = ⊥
 RunsTo answers stops (Err InUse) = ⊥

@@ -5,7 +5,8 @@ use Rattle.rb_journal.specs.declared.fault.ServeFault.TheVariants.{BadLine as Ba
 use Rattle.rb_journal.specs.declared.fault.ServeFault.TheVariants.{Write as NotWritten, Journal as DiskFailed, OutOfMemory as NoMemory}
 use Rattle.rb_run_site.specs.declared.fault.SiteFault.{SiteFault}
 use Rattle.rb_run_site.specs.declared.fault.SiteFault.TheVariants.{NoConfig, BadConfig, NoSite, AnotherJournal, BadEntry, WrongReply}
-use Rattle.rb_run_site.specs.declared.fault.SiteFault.TheVariants.{InUse, BadLine, LongLine, Read, Write, Journal, OutOfMemory}
+use Rattle.rb_run_site.specs.declared.fault.SiteFault.TheVariants.{NoJournal, JournalThere, InUse}
+use Rattle.rb_run_site.specs.declared.fault.SiteFault.TheVariants.{BadLine, LongLine, Read, Write, Journal, OutOfMemory}
 
 -- a fault of a run over lines is one of a site's
 abbrev pub fault_of_serve : ServeFault → SiteFault
@@ -29,6 +30,8 @@ IsOpeningFault (LongLine n) = Unit {0}
 IsOpeningFault Read = Unit {0}
 IsOpeningFault OutOfMemory = Unit {0}
 IsOpeningFault (BadLine n) = ⊥
+IsOpeningFault NoJournal = ⊥
+IsOpeningFault JournalThere = ⊥
 IsOpeningFault InUse = ⊥
 IsOpeningFault Write = ⊥
 IsOpeningFault Journal = ⊥
@@ -49,6 +52,8 @@ site_reason_of NoSite = codes "no such site"
 site_reason_of AnotherJournal = codes "another bank's journal"
 site_reason_of (BadEntry n) = codes "journal line " ++ decimal n ++ codes ": bad line"
 site_reason_of (WrongReply n) = codes "journal line " ++ decimal n ++ codes ": wrong reply"
+site_reason_of NoJournal = codes "no journal"
+site_reason_of JournalThere = codes "there is a journal"
 site_reason_of InUse = codes "journal is in use"
 site_reason_of (BadLine n) = codes "line " ++ decimal n ++ codes ": bad line"
 site_reason_of (LongLine n) = codes "line " ++ decimal n ++ codes ": line too long"
@@ -67,6 +72,8 @@ site_status_of NoSite = 2
 site_status_of AnotherJournal = 2
 site_status_of (BadEntry n) = 2
 site_status_of (WrongReply n) = 2
+site_status_of NoJournal = 2
+site_status_of JournalThere = 2
 site_status_of InUse = 2
 site_status_of (BadLine n) = 2
 site_status_of (LongLine n) = 2

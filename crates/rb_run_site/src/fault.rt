@@ -24,6 +24,10 @@ pub enum SiteFault {
     BadEntry { line: u64 },
     /// The site gives another reply than a line of the journal has.
     WrongReply { line: u64 },
+    /// The journal isn't there, and no new one was asked for.
+    NoJournal,
+    /// A new journal was asked for, and there is one.
+    JournalThere,
     /// Another process has the journal.
     InUse,
     /// A later line is no event.
@@ -55,6 +59,8 @@ impl fmt::Display for SiteFault {
             SiteFault::AnotherJournal => f.write_str("another bank's journal"),
             SiteFault::BadEntry { line } => write!(f, "journal line {line}: bad line"),
             SiteFault::WrongReply { line } => write!(f, "journal line {line}: wrong reply"),
+            SiteFault::NoJournal => f.write_str("no journal"),
+            SiteFault::JournalThere => f.write_str("there is a journal"),
             SiteFault::InUse => f.write_str("journal is in use"),
             SiteFault::BadLine { line } => write!(f, "line {line}: bad line"),
             SiteFault::LongLine { line } => write!(f, "line {line}: line too long"),
@@ -108,6 +114,8 @@ pub fn site_status(fault: SiteFault) -> u8
         SiteFault::AnotherJournal => 2,
         SiteFault::BadEntry { line: _ } => 2,
         SiteFault::WrongReply { line: _ } => 2,
+        SiteFault::NoJournal => 2,
+        SiteFault::JournalThere => 2,
         SiteFault::InUse => 2,
         SiteFault::BadLine { line: _ } => 2,
         SiteFault::LongLine { line: _ } => 2,

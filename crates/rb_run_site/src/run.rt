@@ -69,6 +69,8 @@ fn go_on<S: Source, H: Host>(
     // For a fact alone: the settings are those of a configuration.
     let _sites = opened.responder.node.config().sites();
     journal.commit_and_put_out(&opened.first, &opened.sends)?;
+    // All that was sent again is given back before the first read of events.
+    opened.sends = Vec::new(alloc);
     serve(
         alloc,
         &mut opened.responder,
@@ -79,7 +81,7 @@ fn go_on<S: Source, H: Host>(
     )
 }
 
-/// Runs an opened site over a file, whose bytes these are.
+/// Runs an opened site over a file, whose bytes these are. They are given back before the first read of events.
 fn run_opened<S: Source, H: Host>(
     alloc: Global,
     mut opened: Opened,
@@ -87,13 +89,13 @@ fn run_opened<S: Source, H: Host>(
     buffers: &mut Buffers,
     reader: &mut S,
     host: H,
-    bytes: &[u8],
+    bytes: Vec<u8>,
 ) -> Ran<H>
     requires usable { H.is_usable host }
-    requires bytes { bytes.now ≡ H.content host }
+    requires bytes { bytes.items ≡ H.content host }
     requires durable { Only (H.content host) (H.may_leave host) }
-    requires begins { IsToBegin (recovered bytes.now) opened.responder.node.site opened.first.items }
-    requires journal { IsJournalOf (recovered bytes.now) opened.responder.node.site }
+    requires begins { IsToBegin (recovered bytes.items) opened.responder.node.site opened.first.items }
+    requires journal { IsJournalOf (recovered bytes.items) opened.responder.node.site }
     requires counted { Counts (S.calls reader.old) buffers.old.reads }
     requires end { buffers.old.ended ≡ true → IsAtEnd (S.remaining reader.old) }
     requires buffered { buffers.old.buffered.items ≡ [] }
@@ -105,7 +107,7 @@ fn run_opened<S: Source, H: Host>(
         × IsAtRest (H.content result.host) (H.may_leave result.host))
         (λ _. ⊥) result.ended }
     ensures any_moment { LeavesOnly H.moment H.left_since host result.host
-        (IsLeftOrAnswered (recovered bytes.now) opened.responder.node.site opened.sends.items
+        (IsLeftOrAnswered (recovered bytes.items) opened.responder.node.site opened.sends.items
         (served_input buffers.old.pending (S.remaining reader.old)) (H.output host)) }
     ensures read { result.ended ≡ Err NotRead → (S.failed reader.new ≡ true) ⊎ (S.calls reader.new ≡ MOST_READS) }
     ensures write { result.ended ≡ Err NotWritten → H.faults host < H.faults result.host }
@@ -114,8 +116,9 @@ fn run_opened<S: Source, H: Host>(
         opened.responder.node.site (journal_of opened.responder.node.site) }
     ensures calls { S.calls reader.new ≤ MOST_READS }
 {
-    match Journal::open(host, bytes) {
+    match Journal::open(host, &bytes) {
         Ok(mut journal) => {
+            drop(bytes);
             let ended = go_on(alloc, &mut opened, number, &mut journal, buffers, reader);
             opened.close();
             let Journal { host, end: _ } = journal;
@@ -142,17 +145,18 @@ fn run_opened<S: Source, H: Host>(
 
 /// Runs site `me` (0 to 15) of the configuration that the reader's first line has, over the file of the host, whose
 /// bytes these are. What the last `resend` entries of its journal sent is put out again; then each line of the reader
-/// is an event, and is answered by a line.
+/// is an event, and is answered by a line. The bytes and what is put out again are given back before the first event is
+/// read, so a site that runs holds its history and what one read brings.
 pub fn run_site<S: Source, H: Host>(
     alloc: Global,
     reader: &mut S,
     host: H,
-    bytes: &[u8],
+    bytes: Vec<u8>,
     me: u8,
     resend: usize,
 ) -> Ran<H>
     requires usable { H.is_usable host }
-    requires bytes { bytes.now ≡ H.content host }
+    requires bytes { bytes.items ≡ H.content host }
     // After a restart, what is read is what is on the disk.
     requires durable { Only (H.content host) (H.may_leave host) }
     requires unread { S.calls reader.old ≡ 0 }
@@ -162,31 +166,31 @@ pub fn run_site<S: Source, H: Host>(
     // host is as it was, and the fault comes only for its cause, by the input's first line and the file's lines.
     ensures ended { RunsTo
         (λ end. AnswersBehind me resend (S.remaining reader.old) (S.remaining reader.new)
-        (recovered bytes.now) (H.output host) (recovered (H.content result.host)) (H.output result.host) end
+        (recovered bytes.items) (H.output host) (recovered (H.content result.host)) (H.output result.host) end
         × IsAtRest (H.content result.host) (H.may_leave result.host))
         (λ fault. (result.host ≡ host)
-        × IsOpeningCause me (S.remaining reader.old) (S.remaining reader.new) bytes.now fault)
+        × IsOpeningCause me (S.remaining reader.old) (S.remaining reader.new) bytes.items fault)
         result.ended }
 
     // A crash at any moment leaves a journal that some first lines of the input have, and nothing was put out that it
     // takes back.
     ensures any_moment { LeavesOnly H.moment H.left_since host result.host
-        (IsSiteRun me resend (S.remaining reader.old) (recovered bytes.now) (H.output host)) }
+        (IsSiteRun me resend (S.remaining reader.old) (recovered bytes.items) (H.output host)) }
 
     // And that is a run of steps of a site with a disk, as the laws of worlds whose sites crash have them.
     ensures steps { LeavesOnly H.moment H.left_since host result.host
-        (IsRunOfSteps me resend (S.remaining reader.old) (recovered bytes.now) (H.output host)) }
+        (IsRunOfSteps me resend (S.remaining reader.old) (recovered bytes.items) (H.output host)) }
 
     // A failed read, a failed write and a failed journal are reported only for their causes, and at most `MOST_READS`
     // are made.
     ensures read { result.ended ≡ Err NotRead → (S.failed reader.new ≡ true) ⊎ (S.calls reader.new ≡ MOST_READS) }
     ensures write { result.ended ≡ Err NotWritten → H.faults host < H.faults result.host }
     ensures journal { result.ended ≡ Err DiskFailed → (H.faults host < H.faults result.host)
-        ⊎ IsFullBehind me (S.remaining reader.old) (recovered bytes.now) }
+        ⊎ IsFullBehind me (S.remaining reader.old) (recovered bytes.items) }
     ensures calls { S.calls reader.new ≤ MOST_READS }
 {
     let mut buffers = Buffers::new(alloc);
-    match open_site(alloc, &mut buffers, reader, bytes, me, resend) {
+    match open_site(alloc, &mut buffers, reader, &bytes, me, resend) {
         Ok((opened, number)) => run_opened(
             alloc,
             opened,

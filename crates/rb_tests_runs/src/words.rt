@@ -46,21 +46,26 @@ fn numbers_are_read(rt: HostRuntime) {
     }
 }
 
-/// A site's file is named by the text of its option, which may begin with a hyphen behind `=`, or be a hyphen alone.
+/// A site's file is named by the text of its option, which may begin with a hyphen behind `=`, or be a hyphen alone. It
+/// is a new one if that is said, in any place.
 #[test]
 fn journals_are_read(rt: HostRuntime) {
-    for (line, journal, resend) in [
-        ("site --me 15 --journal j", "j", None),
-        ("site --resend=0 --journal=-j --me=15", "-j", Some(0)),
+    for (line, journal, is_new, resend) in [
+        ("site --me 15 --journal j", "j", false, None),
+        ("site --resend=0 --journal=-j --me=15", "-j", false, Some(0)),
+        ("site --me 15 --journal j --new", "j", true, None),
+        ("site --new --me=15 --journal=new", "new", true, None),
         (
-            "site --journal - --resend 100000000 --me 15",
+            "site --journal - --resend 100000000 --new --me 15",
             "-",
+            true,
             Some(100_000_000),
         ),
     ] {
         let wanted = Words::Site {
             me: 15,
             journal,
+            is_new,
             resend,
         };
         are_read(&rt, rt.alloc(), line, wanted);

@@ -1,5 +1,5 @@
 -- Each status is one that the program may end with.
-use Rattle.std.proofs.Common.{◌≡◌, ◌⊎◌, ℕ, Bool, true, false, Result, Ok, Err, inl, inr}
+use Rattle.std.proofs.Common.{◌≡◌, ◌⊎◌, ℕ, Bool, true, false, List, Option, Some, None, Result, Ok, Err, inl, inr}
 use Rattle.std.specs.declared.io.ErrorKind.{ErrorKind as IoErrorKind}
 use Rattle.std.specs.declared.io.ErrorKind.TheVariants.{OutOfMemory as IoOutOfMemory}
 use Rattle.clap.specs.declared.error.kind.ErrorKind.{ErrorKind}
@@ -8,6 +8,7 @@ use Rattle.rb_lines.specs.declared.fault.ScriptFault.{ScriptFault}
 use Rattle.rb_lines.specs.declared.fault.ScriptFault.TheVariants.{NoConfig, OutOfMemory, Write}
 use Rattle.rb_lines.specs.Messages.{status_of}
 use Rattle.rb_run_site.specs.declared.fault.SiteFault.{SiteFault}
+use Rattle.rbbank.specs.declared.on_disk.RanOnDisk.{RanOnDisk}
 use Rattle.rbbank.specs.declared.on_streams.Streamed.{Streamed}
 use Rattle.rbbank.specs.declared.on_streams.Streamed.TheVariants.{Script, Audit, Migrate, Threads, SiteAsked}
 use Rattle.rbbank.specs.Statuses.{IsEnd, IsEndOf, IsEndOfAudit, IsEndOfScript, IsEndOfSite, IsEndOfThreads, IsEndOfWords}
@@ -40,12 +41,14 @@ site_end n (Err fault) (inl e) = inr (inr (inr (fault, e)))
 site_end n (Err fault) (inr e) = no_memory n e
 
 -- whatever was done
-pub any_end : (n : ℕ) (streamed : Streamed) → IsEndOf streamed n → IsEnd n
-any_end n (Script ran) e = script_end n ran e
-any_end n (Audit ran) e = audit_end n ran e
-any_end n (Migrate ran) e = script_end n ran e
-any_end n (Threads ran) e = threads_end n ran e
-any_end n (SiteAsked me journal resend) e = site_end n e.0 e.1
+pub any_end : (n : ℕ) (streamed : Streamed) (input left : Option (List ℕ)) (site : Option RanOnDisk)
+    → IsEndOf streamed input left site n → IsEnd n
+any_end n (Script ran) input left site e = script_end n ran e
+any_end n (Audit ran) input left site e = audit_end n ran e
+any_end n (Migrate ran) input left site e = script_end n ran e
+any_end n (Threads ran) input left site e = threads_end n ran e
+any_end n (SiteAsked me journal is_new resend) input left (Some ran) e = site_end n ran.ended e.1
+any_end n (SiteAsked me journal is_new resend) input left None e = absurd e
 
 shown_end : (n : ℕ) → (n ≡ 0) ⊎ IsReportedStatus (status_of Write) n → IsEnd n
 shown_end n (inl e) = inl e

@@ -1,5 +1,5 @@
 -- The statuses that the program ends with.
-use Rattle.std.specs.Prelude.{◌≡◌, ◌⊎◌, ℕ, Bool, true, false, Result, Ok, Err}
+use Rattle.std.specs.Prelude.{◌≡◌, ◌⊎◌, ℕ, Bool, true, false, List, Option, Some, None, Result, Ok, Err}
 use Rattle.std.specs.declared.io.ErrorKind.{ErrorKind as IoErrorKind}
 use Rattle.std.specs.declared.io.ErrorKind.TheVariants.{OutOfMemory as IoOutOfMemory}
 use Rattle.clap.specs.declared.error.kind.ErrorKind.{ErrorKind}
@@ -9,6 +9,8 @@ use Rattle.rb_lines.specs.declared.fault.ScriptFault.TheVariants.{Write}
 use Rattle.rb_lines.specs.Messages.{status_of}
 use Rattle.rb_run_site.specs.declared.fault.SiteFault.{SiteFault}
 use Rattle.rb_run_site.specs.Faults.{site_status_of}
+use Rattle.rbbank.specs.OnDisk.{IsRunOn}
+use Rattle.rbbank.specs.declared.on_disk.RanOnDisk.{RanOnDisk}
 use Rattle.rbbank.specs.declared.on_streams.Streamed.{Streamed}
 use Rattle.rbbank.specs.declared.on_streams.Streamed.TheVariants.{Script, Audit, Migrate, Threads, SiteAsked}
 
@@ -52,18 +54,16 @@ abbrev pub IsEndOfSite : Result ℕ SiteFault → ℕ → Type 0
 IsEndOfSite (Ok count) n = n ≡ 0
 IsEndOfSite (Err fault) n = IsReportedStatus (site_status_of fault) n
 
--- a status that a run of a site may end in, whatever the run was
-abbrev pub IsEndOfSomeSite : ℕ → Type 0
-IsEndOfSomeSite n = (ran : Result ℕ SiteFault) × IsEndOfSite ran n
-
--- whatever was done ends as a script, an audit, a migration or a run of threads does by what it came to, or as some run
--- of a site
-abbrev pub IsEndOf : Streamed → ℕ → Type 0
-IsEndOf (Script ran) n = IsEndOfScript ran n
-IsEndOf (Audit ran) n = IsEndOfAudit ran n
-IsEndOf (Migrate ran) n = IsEndOfScript ran n
-IsEndOf (Threads ran) n = IsEndOfThreads ran n
-IsEndOf (SiteAsked me journal resend) n = IsEndOfSomeSite n
+-- a script, an audit, a migration or a run of threads ends as it does by what it came to; a site that was asked for ran,
+-- as its words say, over the file that they name, and ends as it does by what that came to
+abbrev pub IsEndOf : Streamed → Option (List ℕ) → Option (List ℕ) → Option RanOnDisk → ℕ → Type 0
+IsEndOf (Script ran) input left site n = IsEndOfScript ran n
+IsEndOf (Audit ran) input left site n = IsEndOfAudit ran n
+IsEndOf (Migrate ran) input left site n = IsEndOfScript ran n
+IsEndOf (Threads ran) input left site n = IsEndOfThreads ran n
+IsEndOf (SiteAsked me journal is_new resend) input left (Some ran) n =
+    IsRunOn me journal.now is_new resend input left ran.disk ran.ended × IsEndOfSite ran.ended n
+IsEndOf (SiteAsked me journal is_new resend) input left None n = ⊥
 
 -- 0, 1, or the status of a fault
 abbrev pub IsEnd : ℕ → Type 0
@@ -71,5 +71,5 @@ IsEnd n = (n ≡ 0) ⊎ ((n ≡ 1) ⊎ (((fault : ScriptFault) × (n ≡ status_
 
 -- a site is to run
 abbrev pub IsSiteAsked : Streamed → Type 0
-IsSiteAsked (SiteAsked me journal resend) = Unit {0}
+IsSiteAsked (SiteAsked me journal is_new resend) = Unit {0}
 IsSiteAsked _ = ⊥

@@ -17,7 +17,7 @@ mod on_disk;
 mod on_streams;
 
 use clap::error::ErrorKind;
-use on_disk::run_on_disk;
+use on_disk::{RanOnDisk, run_on_disk};
 use on_streams::{Streamed, run_on_streams};
 use rb_lines::{FromReader, ScriptFault, Source, ToWriter, message, status};
 use std::alloc::AllocError;
@@ -131,21 +131,42 @@ fn end_of_threads(rt: &HostRuntime, ran: Result<(), ScriptFault>) -> ExitCode
     }
 }
 
+/// How the program ends: its status, and what a site came to, if one ran.
+struct Ended {
+    code: ExitCode,
+    site: Option<RanOnDisk>,
+}
+
+/// The end of a program that ran no site.
+fn without_site(code: ExitCode) -> Ended
+    ensures { exit_status result.code ≡ exit_status code }
+{
+    let site = None;
+    Ended { code, site }
+}
+
 /// How whatever was asked for ends the program. A site that was asked for runs now.
-fn end<S: Source>(rt: &HostRuntime, reader: &mut S, streamed: Streamed) -> ExitCode
+fn end<S: Source>(rt: &HostRuntime, reader: &mut S, streamed: Streamed) -> Ended
     requires { IsSiteAsked streamed → S.calls reader.old ≡ 0 }
-    ensures { IsEndOf streamed.entry (exit_status result) }
+    ensures { IsEndOf streamed.entry (S.remaining reader.old) (S.remaining reader.new) result.site
+        (exit_status result.code) }
 {
     match streamed {
-        Streamed::Script(ran) => end_of_script(rt, ran),
-        Streamed::Audit(ran) => end_of_audit(rt, ran),
-        Streamed::Migrate(ran) => end_of_script(rt, ran),
-        Streamed::Threads(ran) => end_of_threads(rt, ran),
+        Streamed::Script(ran) => without_site(end_of_script(rt, ran)),
+        Streamed::Audit(ran) => without_site(end_of_audit(rt, ran)),
+        Streamed::Migrate(ran) => without_site(end_of_script(rt, ran)),
+        Streamed::Threads(ran) => without_site(end_of_threads(rt, ran)),
         Streamed::SiteAsked {
             me,
             journal,
+            is_new,
             resend,
-        } => run_on_disk(rt, reader, me, journal, resend),
+        } => {
+            let ran = run_on_disk(rt, reader, me, journal, is_new, resend);
+            let code = ran.code;
+            let site = Some(ran);
+            Ended { code, site }
+        }
     }
 }
 
@@ -171,7 +192,10 @@ fn run<H: Threads + Wait + Sync>(rt: &HostRuntime, handle: &H) -> ExitCode
     let mut reader = FromReader::new(rt.reader());
     let mut writer = ToWriter::new(io::writer(rt));
     match run_on_streams(handle, alloc, views.as_slice(), &mut reader, &mut writer) {
-        Ok(streamed) => end(rt, &mut reader, streamed),
+        Ok(streamed) => {
+            let Ended { code, site: _ } = end(rt, &mut reader, streamed);
+            code
+        }
         Err(error) => report_words(rt, error),
     }
 }

@@ -1,14 +1,28 @@
 //! A site over a file of the operating system.
-ghost use Rattle.std.specs.Prelude.{◌≡◌};
+ghost use Rattle.std.specs.Prelude.{◌≡◌, ◌⊎◌, ◌≤◌, Err, IfOk, None, string_bytes, true};
 ghost use Rattle.std.specs.Process.{exit_status};
-ghost use Rattle.rbbank.specs.Statuses.{IsEndOfSite, IsEndOfSomeSite};
+ghost use Rattle.rb_lines.specs.declared.limits.TheConstants.{MOST_READS};
+ghost use Rattle.rb_run_site.specs.declared.fault.SiteFault.TheVariants.{Read as NotRead};
+ghost use Rattle.rbbank.specs.OnDisk.{IsJournalMessage, IsRunOn, fault_of_open, most_of};
+ghost use Rattle.rbbank.specs.Statuses.{IsEndOfSite};
 
 use crate::print_line;
-use rb_journal::open_disk;
+use rb_journal::{Disk, OpenError, open_disk};
 use rb_lines::Source;
 use rb_run_site::{Ran, SiteFault, run_site, site_message, site_status};
+use std::alloc::{AllocError, Global};
 use std::io;
+use std::io::Stdout;
 use std::process::ExitCode;
+
+/// The outcome of a site over a file: the file and standard output, if the file was opened; how many lines were answered,
+/// or why the run stopped; and the status that the program ends with.
+#[derive(Drop)]
+pub struct RanOnDisk {
+    pub disk: Option<Disk<Stdout>>,
+    pub ended: Result<u64, SiteFault>,
+    pub code: ExitCode,
+}
 
 /// The folder of a file.
 fn folder_of(path: &str) -> &str {
@@ -19,47 +33,125 @@ fn folder_of(path: &str) -> &str {
     }
 }
 
-/// Why a journal can't be opened.
-fn not_opened(error: &io::Error) -> SiteFault {
-    match error.kind() {
-        io::ErrorKind::WouldBlock => SiteFault::InUse,
-        io::ErrorKind::OutOfMemory => SiteFault::OutOfMemory,
-        _ => SiteFault::Journal,
-    }
-}
-
-/// How a run of a site ends the program.
-fn end_of_site(rt: &HostRuntime, ran: Result<u64, SiteFault>) -> ExitCode
-    ensures { IsEndOfSite ran (exit_status result) }
+/// Why a journal isn't opened.
+fn not_opened(error: &OpenError) -> SiteFault
+    ensures { result ≡ fault_of_open error.now }
 {
-    match ran {
-        Ok(_) => ExitCode::SUCCESS,
-        Err(fault) => print_line(rt, site_message(rt.alloc(), fault), site_status(fault)),
+    match error {
+        OpenError::NoFile => SiteFault::NoJournal,
+        OpenError::NotEmpty => SiteFault::JournalThere,
+        OpenError::Failed(error) => match error.kind() {
+            io::ErrorKind::WouldBlock => SiteFault::InUse,
+            io::ErrorKind::OutOfMemory => SiteFault::OutOfMemory,
+            _ => SiteFault::Journal,
+        },
     }
 }
 
-/// Runs a site from this reader to standard output, over its journal on the disk. What the last `resend` entries of it
-/// sent is put out again, or what all of them sent.
+/// The system's error, if it is why a journal isn't opened.
+fn system_error(error: &OpenError) -> Option<io::Error> {
+    match error {
+        OpenError::Failed(error) => Some(*error),
+        _ => None,
+    }
+}
+
+/// The text about a journal that failed: which it is, and why. Only one that is full failed without an error of the
+/// system's.
+fn journal_message(
+    alloc: Global,
+    journal: &str,
+    why: Option<io::Error>,
+) -> Result<String, AllocError>
+    ensures { IfOk result (λ text. IsJournalMessage journal.now (string_bytes text)) }
+{
+    let why = match why {
+        Some(why) => why,
+        None => io::Error::from(io::ErrorKind::FileTooLarge),
+    };
+    let reason = format!(in alloc; "{why}")?;
+    let mut text = site_message(alloc, SiteFault::Journal)?;
+    text.push_str(": ")?;
+    text.push_str(journal)?;
+    text.push_str(": ")?;
+    text.push_str(reason.as_str())?;
+    Ok(text)
+}
+
+/// How a run of a site over this file ends the program. If the file failed, this is the system's error.
+fn end_of_site(
+    rt: &HostRuntime,
+    journal: &str,
+    ended: Result<u64, SiteFault>,
+    why: Option<io::Error>,
+) -> ExitCode
+    ensures { IsEndOfSite ended (exit_status result) }
+{
+    let alloc = rt.alloc();
+    match ended {
+        Ok(_) => ExitCode::SUCCESS,
+        Err(SiteFault::Journal) => print_line(
+            rt,
+            journal_message(alloc, journal, why),
+            site_status(SiteFault::Journal),
+        ),
+        Err(fault) => print_line(rt, site_message(alloc, fault), site_status(fault)),
+    }
+}
+
+/// How many of the last entries have what they sent put out again: this many, or all.
+fn most_resent(resend: Option<u32>) -> usize
+    ensures { result ≡ most_of resend }
+{
+    match resend {
+        Some(most) => most as usize,
+        None => usize::MAX,
+    }
+}
+
+/// Runs a site from this reader to standard output, over its journal on the disk, which is made if it is a new one. What
+/// the last `resend` entries of it sent is put out again, or what all of them sent.
 pub fn run_on_disk<S: Source>(
     rt: &HostRuntime,
     reader: &mut S,
     me: u8,
     journal: &str,
+    is_new: bool,
     resend: Option<u32>,
-) -> ExitCode
+) -> RanOnDisk
     requires { S.calls reader.old ≡ 0 }
-    ensures { IsEndOfSomeSite (exit_status result) }
+    ensures ran { IsRunOn me journal.now is_new resend (S.remaining reader.old) (S.remaining reader.new)
+        result.disk result.ended }
+    ensures unread { result.disk ≡ None → reader.new ≡ reader.old }
+    ensures status { IsEndOfSite result.ended (exit_status result.code) }
+    ensures read { result.ended ≡ Err NotRead → (S.failed reader.new ≡ true) ⊎ (S.calls reader.new ≡ MOST_READS) }
+    ensures calls { S.calls reader.new ≤ MOST_READS }
 {
-    let most = match resend {
-        Some(most) => most as usize,
-        None => usize::MAX,
-    };
-    let ended = match open_disk(rt, folder_of(journal), journal, rt.stdout()) {
+    match open_disk(rt, folder_of(journal), journal, is_new, rt.stdout()) {
         Ok((disk, bytes)) => {
-            let Ran { host: _, ended } = run_site(rt.alloc(), reader, disk, &bytes, me, most);
-            ended
+            let Ran { host, ended } = run_site(
+                rt.alloc(),
+                reader,
+                disk,
+                bytes,
+                me,
+                most_resent(resend),
+            );
+            let code = end_of_site(rt, journal, ended, host.error());
+            RanOnDisk {
+                disk: Some(host),
+                ended,
+                code,
+            }
         }
-        Err(error) => Err(not_opened(&error)),
-    };
-    end_of_site(rt, ended)
+        Err(error) => {
+            let ended = Err(not_opened(&error));
+            let code = end_of_site(rt, journal, ended, system_error(&error));
+            RanOnDisk {
+                disk: None,
+                ended,
+                code,
+            }
+        }
+    }
 }

@@ -29,10 +29,11 @@ pub enum Streamed<'a> {
     Migrate(Result<u64, ScriptFault>),
     /// Tellers ran.
     Threads(Result<(), ScriptFault>),
-    /// A site is to run over this file, which takes a disk as well. Nothing is done yet.
+    /// A site is to run over this file, or over a new one, which takes a disk as well. Nothing is done yet.
     SiteAsked {
         me: u8,
         journal: &'a str,
+        is_new: bool,
         resend: Option<u32>,
     },
 }
@@ -82,11 +83,13 @@ pub fn run_on_streams<'a, H: Threads + Wait + Sync, S: Source, W: Sink>(
             Words::Site {
                 me,
                 journal,
+                is_new,
                 resend,
             },
         ) => Ok(Streamed::SiteAsked {
             me,
             journal,
+            is_new,
             resend,
         }),
         Err(error) => Err(error),

@@ -3,7 +3,7 @@ use Rattle.std.proofs.Common.{arith}
 use Rattle.std.specs.Prelude.{IfOk}
 use Rattle.std.proofs.lemmas.Result.{IfOk-weaker}
 use Rattle.rb_cli.specs.Words.{site_line}
-use Rattle.rb_cli.proofs.Added.{Is, with_three}
+use Rattle.rb_cli.proofs.Added.{Is, with_four}
 use Rattle.rb_cli.proofs.command_line.site.Goals as goal
 
 pub vec-requires : goal.vec-requires
@@ -11,10 +11,12 @@ vec-requires c = omega arith
 
 added : (c : goal.After-args-2) → IfOk c.args-2.result (λ command. Is command site_line)
 added c =
-    with_three c.part.result c.me.result c.journal.result c.resend.result _ c.args-2.result _ _ _ _ c.in_ok-options.ensures.items
+    with_four c.part.result c.me.result c.journal.result c.new_file.result c.resend.result _ c.args-2.result _ _ _ _ _
+    c.in_ok-options.ensures.items
     record { shape = c.part.ensures.shape; local = c.part.ensures.local }
     record { rule_is = c.me.ensures.rule; local = c.me.ensures.local }
     record { rule_is = c.journal.ensures.rule; local = c.journal.ensures.local }
+    record { rule_is = c.new_file.ensures.rule; local = c.new_file.ensures.local }
     record { rule_is = c.resend.ensures.rule; local = c.resend.ensures.local } c.args-2.ensures
 
 pub returns-clause-shape : goal.returns-clause-shape

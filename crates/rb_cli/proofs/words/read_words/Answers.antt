@@ -102,3 +102,9 @@ returns-clause-usual c = λ asked ask.
     let met = met_by _ words c.in_ok-matches.matches c.in_ok-command.ensures c.in_ok-matches.ensures.ok.2 in
     let is = sym (ap (option_map as_asked) c.in-Some.is) ∙ c.asked_by.ensures ∙ ap words_of_matches met in
     some_same _ _ (is ∙ (usual_words words asked ask).1)
+
+pub returns-clause-ok : goal.returns-clause-ok
+returns-clause-ok c =
+    let words = map (λ word. word.now) c.args.words.now in
+    let met = met_by _ words c.in_ok-matches.matches c.in_ok-command.ensures c.in_ok-matches.ensures.ok.2 in
+    sym (sym (ap (option_map as_asked) c.in-Some.is) ∙ c.asked_by.ensures ∙ ap words_of_matches met)

@@ -20,17 +20,25 @@ use Rattle.rb_run_site.proofs.run.run_opened.Given.{Over}
 use Rattle.rb_run_site.proofs.run.run_opened.Goals.{After-go_on-ended, After-from-in-Err-2}
 use Rattle.rb_run_site.proofs.run.run_opened.Goals as goal
 
+-- while the file is opened, a crash leaves its lines
+over_file : (g : Over) (c : After-go_on-ended g) → LeavesOnly g.H.Host.moment g.H.Host.left_since c.args.host c.in-Ok.journal.host
+    (IsLeftAs (recovered c.args.bytes.items) (g.H.Host.output c.args.host))
+over_file g c =
+    subst (λ f. LeavesOnly g.H.Host.moment g.H.Host.left_since c.args.host c.in-Ok.journal.host
+    (IsLeftAs (recovered f) (g.H.Host.output c.args.host)))
+    c.deref.ensures.value c.in-Ok.ensures.any_moment
+
 -- a crash leaves the journal and the output as they were, or with some of the lines answered
 run : (g : Over) (c : After-go_on-ended g) → LeavesOnly g.H.Host.moment g.H.Host.left_since c.args.host
     c.go_on-ended.new.journal.host
-    (IsLeftOrAnswered (recovered c.args.bytes.now) c.args.opened.responder.node.site c.args.opened.sends.items
+    (IsLeftOrAnswered (recovered c.args.bytes.items) c.args.opened.responder.node.site c.args.opened.sends.items
     (served_input c.args.buffers.now.pending (g.S.Source.remaining c.args.reader.now)) (g.H.Host.output c.args.host))
 run g c =
     let host = g.H.Host in
     runs_on host.moment host.left_since _ c.in-Ok.journal.host _ _ _
-    (weaker host.moment host.left_since _ _ _ _ c.in-Ok.ensures.any_moment (λ f d at. inl at))
+    (weaker host.moment host.left_since _ _ _ _ (over_file g c) (λ f d at. inl at))
     c.go_on-ended.ensures.any_moment
-    (λ f d run. from_same _ _ _ _ _ _ _ f d c.in-Ok.ensures.lines c.in-Ok.ensures.output run)
+    (λ f d run. from_same _ _ _ _ _ _ _ f d (c.in-Ok.ensures.lines ∙ ap recovered c.deref.ensures.value) c.in-Ok.ensures.output run)
 
 -- why the file can't be opened is passed on
 passed : (g : Over) (c : After-from-in-Err-2 g) → c.from-in-Err-2.result ≡ fault_of_serve (fault_of_host c.in-Err.error)
@@ -60,7 +68,8 @@ returns-in-Err-ended-clause-journal g c = λ failed.
 
 pub go_on-ended-requires-clause-begins : goal.go_on-ended-requires-clause-begins
 go_on-ended-requires-clause-begins g c =
-    subst (λ ls. IsToBegin ls c.args.opened.responder.node.site c.args.opened.first.items) (sym c.in-Ok.ensures.lines) c.requires.begins
+    subst (λ ls. IsToBegin ls c.args.opened.responder.node.site c.args.opened.first.items)
+    (sym (c.in-Ok.ensures.lines ∙ ap recovered c.deref.ensures.value)) c.requires.begins
 
 pub returns-in-Ok-ended-clause-ended : goal.returns-in-Ok-ended-clause-ended
 returns-in-Ok-ended-clause-ended g c =
@@ -97,11 +106,13 @@ pub returns-in-Err-clause-any_moment : goal.returns-in-Err-clause-any_moment
 returns-in-Err-clause-any_moment g c =
     let host = g.H.Host in
     let was = c.args.host in
-    let lines = recovered c.args.bytes.now in
+    let lines = recovered c.args.bytes.items in
     let opened = c.args.opened in
     let input = served_input c.args.buffers.now.pending (g.S.Source.remaining c.args.reader.now) in
+    let kept = subst (λ f. LeavesOnly host.moment host.left_since was c.in-Err.host (IsLeftAs (recovered f) (host.output was)))
+    c.deref.ensures.value c.in-Err.ensures.any_moment_err in
     weaker host.moment host.left_since was c.in-Err.host (IsLeftAs lines (host.output was))
-    (IsLeftOrAnswered lines opened.responder.node.site opened.sends.items input (host.output was)) c.in-Err.ensures.any_moment_err
+    (IsLeftOrAnswered lines opened.responder.node.site opened.sends.items input (host.output was)) kept
     (λ f d at. inl at)
 
 pub returns-in-Err-clause-read : goal.returns-in-Err-clause-read

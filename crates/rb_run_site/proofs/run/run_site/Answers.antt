@@ -1,12 +1,12 @@
 -- A site is opened, and then it goes on.
-use Rattle.std.proofs.Common.{◌≡◌, ◌<◌, ◌∙◌, ⊎_elim, ap, inl, inr, refl, sym, ℕ, List}
+use Rattle.std.proofs.Common.{◌≡◌, ◌<◌, ◌∙◌, ⊎_elim, ap, inl, inr, refl, subst, sym, ℕ, List}
 use Rattle.rb_journal.specs.Host.{LeavesOnly}
 use Rattle.rb_journal.specs.Lines.{recovered}
 use Rattle.rb_journal.specs.Ends.{IsFull}
 use Rattle.rb_journal.specs.Run.{served_input}
 use Rattle.rb_run_site.specs.Ends.{AnswersAll, AnswersBehind, IsAtRest}
 use Rattle.rb_run_site.specs.Journals.{SiteAnswers, journal_of}
-use Rattle.rb_run_site.specs.Openings.{IsOpeningCause}
+use Rattle.rb_run_site.specs.Openings.{IsOpeningCause, OpensSite}
 use Rattle.rb_run_site.specs.Runs.{IsSiteRun}
 use Rattle.rb_run_site.specs.Steps.{IsRunOfSteps}
 use Rattle.rb_run_site.proofs.Behind.{ends_behind, full_behind, ran, run_behind, stopped_there}
@@ -16,22 +16,30 @@ use Rattle.rb_run_site.proofs.run.run_site.Given.{Over}
 use Rattle.rb_run_site.proofs.run.run_site.Goals.{After-run_opened, After-open_site}
 use Rattle.rb_run_site.proofs.run.run_site.Goals as goal
 
+-- the site is opened over the file's bytes
+opens : (g : Over) (c : After-run_opened g) → OpensSite c.in-Ok.ensures.opened.0 c.args.me c.args.resend c.args.bytes.items
+    c.in-Ok.opened.responder.node.site c.in-Ok.opened.first.items c.in-Ok.opened.sends.items
+opens g c =
+    subst (λ f. OpensSite c.in-Ok.ensures.opened.0 c.args.me c.args.resend f c.in-Ok.opened.responder.node.site
+    c.in-Ok.opened.first.items c.in-Ok.opened.sends.items)
+    c.deref.ensures.value c.in-Ok.ensures.opened.1
+
 -- a crash while the opened site runs leaves a run of it
 run : (g : Over) (c : After-run_opened g) → LeavesOnly g.H.Host.moment g.H.Host.left_since c.args.host
     c.run_opened.result.host
-    (IsSiteRun c.args.me c.args.resend (g.S.Source.remaining c.args.reader.now) (recovered c.args.bytes.now)
+    (IsSiteRun c.args.me c.args.resend (g.S.Source.remaining c.args.reader.now) (recovered c.args.bytes.items)
     (g.H.Host.output c.args.host))
 run g c =
     let is = c.in-Ok.ensures.opened in
     weaker g.H.Host.moment g.H.Host.left_since _ _ _ _ c.run_opened.ensures.any_moment
-    (λ f d run. run_behind _ _ c.in-Ok.number _ (g.S.Source.remaining c.open_site.new.reader) c.args.bytes.now is.0
+    (λ f d run. run_behind _ _ c.in-Ok.number _ (g.S.Source.remaining c.open_site.new.reader) c.args.bytes.items is.0
     c.open_site.new.buffers.pending c.in-Ok.opened.responder.node.site c.in-Ok.opened.first.items
-    c.in-Ok.opened.sends.items is.1 is.2 _ f d run)
+    c.in-Ok.opened.sends.items (opens g c) is.2 _ f d run)
 
 -- a crash before the run leaves the lines and the output as they were
 still : (g : Over) (c : After-open_site g) (f d : List ℕ)
     → g.H.Host.left_since c.args.host (g.H.Host.moment c.args.host) f d
-    → (recovered f ≡ recovered c.args.bytes.now) × (d ≡ g.H.Host.output c.args.host)
+    → (recovered f ≡ recovered c.args.bytes.items) × (d ≡ g.H.Host.output c.args.host)
 still g c f d left =
     let now = g.met.H.Host.only_now c.args.host f d left in
     (ap recovered (c.requires.durable f now.0 ∙ sym c.requires.bytes), now.1)
@@ -51,13 +59,14 @@ returns-in-Ok-clause-ended g c =
     let output = host.output c.args.host in
     let now = recovered (host.content new) in
     let said = host.output new in
-    let file = c.args.bytes.now in
+    let file = c.args.bytes.items in
     let rest = IsAtRest (host.content new) (host.may_leave new) in
     ran (λ e. AnswersAll x sends c.in-Ok.number (served_input mid.buffers.pending left) still output now said e × rest)
     (λ e. AnswersBehind c.args.me c.args.resend input still (recovered file) output now said e × rest)
     (λ why. (new ≡ c.args.host) × IsOpeningCause c.args.me input still file why) c.run_opened.result.ended
     (λ e all. (
-      ends_behind c.args.me c.args.resend c.in-Ok.number input left file is.0 mid.buffers.pending x first sends is.1 is.2
+      ends_behind c.args.me c.args.resend c.in-Ok.number input left file is.0 mid.buffers.pending x first sends
+          (opens g (goal.at.returns-in-Ok-clause-ended g c).After-run_opened) is.2
           output still now said e all.0,
       all.1,
     ))
@@ -71,7 +80,7 @@ returns-in-Ok-clause-steps g c =
     let host = g.H.Host in
     let input = g.S.Source.remaining c.args.reader.now in
     weaker host.moment host.left_since c.args.host c.run_opened.result.host _
-    (IsRunOfSteps c.args.me c.args.resend input (recovered c.args.bytes.now) (host.output c.args.host))
+    (IsRunOfSteps c.args.me c.args.resend input (recovered c.args.bytes.items) (host.output c.args.host))
     (run g (goal.at.returns-in-Ok-clause-steps g c).After-run_opened) (stepped_run c.args.me c.args.resend input _ _)
 
 pub returns-in-Ok-clause-journal : goal.returns-in-Ok-clause-journal
@@ -83,8 +92,9 @@ returns-in-Ok-clause-journal g c = λ failed.
     let x = c.in-Ok.opened.responder.node.site in
     ⊎_elim (λ (more : host.faults c.args.host < host.faults c.run_opened.result.host). inl more)
     (λ (full : IsFull SiteAnswers (served_input mid.buffers.pending left) x (journal_of x)). inr
-    (full_behind c.args.me c.args.resend c.in-Ok.number (g.S.Source.remaining c.args.reader.now) left c.args.bytes.now is.0
-    mid.buffers.pending x c.in-Ok.opened.first.items c.in-Ok.opened.sends.items is.1 is.2 full))
+    (full_behind c.args.me c.args.resend c.in-Ok.number (g.S.Source.remaining c.args.reader.now) left c.args.bytes.items is.0
+    mid.buffers.pending x c.in-Ok.opened.first.items c.in-Ok.opened.sends.items
+    (opens g (goal.at.returns-in-Ok-clause-journal g c).After-run_opened) is.2 full))
     (c.run_opened.ensures.journal failed)
 
 pub returns-clause-ended : goal.returns-clause-ended
@@ -93,18 +103,18 @@ returns-clause-ended g c =
     let was = c.args.host in
     let input = g.S.Source.remaining c.args.reader.now in
     let left = g.S.Source.remaining c.open_site.new.reader in
-    let file = c.args.bytes.now in
+    let file = c.args.bytes.items in
     stopped_there (λ e. AnswersBehind c.args.me c.args.resend input left (recovered file) (host.output was)
     (recovered (host.content was)) (host.output was) e × IsAtRest (host.content was) (host.may_leave was))
     (λ why. (was ≡ was) × IsOpeningCause c.args.me input left file why) c.in-Err.fault c.in-Err.ensures.only
-    (refl, c.in-Err.ensures.cause)
+    (refl, subst (λ f. IsOpeningCause c.args.me input left f c.in-Err.fault) c.deref.ensures.value c.in-Err.ensures.cause)
 
 pub returns-clause-any_moment : goal.returns-clause-any_moment
 returns-clause-any_moment g c =
     let host = g.H.Host in
     let input = g.S.Source.remaining c.args.reader.now in
     started host.moment host.left_since c.args.host
-    (IsSiteRun c.args.me c.args.resend input (recovered c.args.bytes.now) (host.output c.args.host))
+    (IsSiteRun c.args.me c.args.resend input (recovered c.args.bytes.items) (host.output c.args.host))
     (λ f d left. inl (still g (goal.at.returns-clause-any_moment g c).After-open_site f d left))
 
 pub returns-clause-steps : goal.returns-clause-steps
@@ -112,5 +122,5 @@ returns-clause-steps g c =
     let host = g.H.Host in
     let input = g.S.Source.remaining c.args.reader.now in
     started host.moment host.left_since c.args.host
-    (IsRunOfSteps c.args.me c.args.resend input (recovered c.args.bytes.now) (host.output c.args.host))
+    (IsRunOfSteps c.args.me c.args.resend input (recovered c.args.bytes.items) (host.output c.args.host))
     (λ f d left. inl (still g (goal.at.returns-clause-steps g c).After-open_site f d left))

@@ -1,0 +1,96 @@
+-- A run of a site over a file of the operating system.
+use Rattle.std.specs.Prelude.{◌≡◌, ◌⊎◌, ◌<◌, ◌-◌, ◌^◌, ◌++◌, ℕ, Bool, true, false, List, [], length, codes, string_bytes}
+use Rattle.std.specs.Prelude.{Option, Some, None, Result, Ok, Err}
+use Rattle.std.specs.IoError.{error_kind}
+use Rattle.std.specs.declared.io.ErrorKind.{ErrorKind}
+use Rattle.std.specs.declared.io.ErrorKind.TheVariants.{WouldBlock, OutOfMemory as NoMemory}
+use Rattle.rb_journal.specs.Calls.{content_of, faults_of, leaves, left_since, output_of}
+use Rattle.rb_journal.specs.Disk.{disk_log}
+use Rattle.rb_journal.specs.Host.{LeavesOnly, Only}
+use Rattle.rb_journal.specs.Lines.{recovered}
+use Rattle.rb_journal.specs.declared.disk.Disk.{Disk}
+use Rattle.rb_journal.specs.declared.open_error.OpenError.{OpenError}
+use Rattle.rb_journal.specs.declared.open_error.OpenError.TheVariants.{NoFile, NotEmpty, Failed}
+use Rattle.rb_run_site.specs.Ends.{AnswersBehind, IsAtRest, IsFullBehind, RunsTo}
+use Rattle.rb_run_site.specs.Faults.{site_message_of}
+use Rattle.rb_run_site.specs.Openings.{IsOpeningCause}
+use Rattle.rb_run_site.specs.Runs.{IsSiteRun}
+use Rattle.rb_run_site.specs.Steps.{IsRunOfSteps}
+use Rattle.rb_run_site.specs.declared.fault.SiteFault.{SiteFault}
+use Rattle.rb_run_site.specs.declared.fault.SiteFault.TheVariants.{NoJournal, JournalThere, InUse, Journal, OutOfMemory, Write}
+
+-- how many last entries have what they sent put out again: where it isn't said, all that a history can have
+abbrev pub most_of : Option ℕ → ℕ
+most_of (Some n) = n
+most_of None = 2 ^ 64 - 1
+
+-- the fault of a file that isn't opened, by the kind of the system's error
+abbrev pub fault_of_system : ErrorKind → SiteFault
+fault_of_system WouldBlock = InUse
+fault_of_system NoMemory = OutOfMemory
+fault_of_system _ = Journal
+
+-- and by why it isn't
+abbrev pub fault_of_open : OpenError → SiteFault
+fault_of_open NoFile = NoJournal
+fault_of_open NotEmpty = JournalThere
+fault_of_open (Failed error) = fault_of_system (error_kind error)
+
+-- a run that never began, since its file wasn't opened: it wasn't there and no new one was asked for, or it was there
+-- and a new one was, or the system says why
+abbrev pub IsUnopened : Bool → Result ℕ SiteFault → Type 0
+IsUnopened is_new (Err NoJournal) = is_new ≡ false
+IsUnopened is_new (Err JournalThere) = is_new ≡ true
+IsUnopened is_new (Err InUse) = Unit {0}
+IsUnopened is_new (Err Journal) = Unit {0}
+IsUnopened is_new (Err OutOfMemory) = Unit {0}
+IsUnopened is_new _ = ⊥
+
+module _ {P : Type 0} where
+  -- the file that the disk has
+  abbrev pub file_of : Disk P → List ℕ
+  file_of disk = content_of (disk_log disk)
+
+  -- how many calls were made of it
+  abbrev pub moment_of : Disk P → ℕ
+  moment_of disk = length (disk_log disk)
+
+  -- what a crash may have left of it since a moment
+  abbrev pub crash_left_of : Disk P → ℕ → List ℕ → List ℕ → Type 0
+  crash_left_of disk = left_since (disk_log disk)
+
+  -- the file of this name is just opened: no call failed, nothing was put out, and what it has is on the disk; a new one
+  -- has nothing
+  pub record IsOpened (name : List ℕ) (is_new : Bool) (disk : Disk P) : Type 0 where
+    pub path : string_bytes disk.path ≡ name
+    pub new : is_new ≡ true → file_of disk ≡ []
+    pub usable : faults_of (disk_log disk) ≡ 0
+    pub output : output_of (disk_log disk) ≡ []
+    pub durable : Only (file_of disk) (leaves (disk_log disk))
+
+  -- site `me` ran over the file of this name: it answered the lines behind the configuration, or stopped in the opening,
+  -- as the promises of a site's run have it
+  pub record HasRunOn (me most : ℕ) (name : List ℕ) (is_new : Bool) (input left : Option (List ℕ)) (disk : Disk P)
+      (ended : Result ℕ SiteFault) : Type 0 where
+    pub start : Disk P
+    pub opened : IsOpened name is_new start
+    pub ended_as : RunsTo
+        (λ end. AnswersBehind me most input left (recovered (file_of start)) [] (recovered (file_of disk)) (output_of (disk_log disk)) end
+        × IsAtRest (file_of disk) (leaves (disk_log disk)))
+        (λ fault. (disk ≡ start) × IsOpeningCause me input left (file_of start) fault) ended
+    pub any_moment : LeavesOnly moment_of crash_left_of start disk (IsSiteRun me most input (recovered (file_of start)) [])
+    pub steps : LeavesOnly moment_of crash_left_of start disk (IsRunOfSteps me most input (recovered (file_of start)) [])
+    pub write : ended ≡ Err Write → faults_of (disk_log start) < faults_of (disk_log disk)
+    pub journal : ended ≡ Err Journal → (faults_of (disk_log start) < faults_of (disk_log disk))
+        ⊎ IsFullBehind me input (recovered (file_of start))
+
+  -- the file wasn't opened, and nothing was read; or the site ran over it
+  abbrev pub IsRunOn : ℕ → List ℕ → Bool → Option ℕ → Option (List ℕ) → Option (List ℕ) → Option (Disk P) → Result ℕ SiteFault → Type 0
+  IsRunOn me name is_new resend input left None ended = (left ≡ input) × IsUnopened is_new ended
+  IsRunOn me name is_new resend input left (Some disk) ended = HasRunOn me (most_of resend) name is_new input left disk ended
+
+-- what is said of a journal that failed: it begins with the fault and the file's name, and the system's reason is behind
+-- them
+abbrev pub IsJournalMessage : List ℕ → List ℕ → Type 0
+IsJournalMessage name text =
+    (reason : List ℕ) × (text ≡ site_message_of Journal ++ codes ": " ++ name ++ codes ": " ++ reason)
