@@ -76,8 +76,8 @@ fn read_locked<R: Files<File = fs::File> + AllocGlobal>(
 /// Opens the file of this name, which is in this folder, locks it against other processes, and reads its bytes. If a
 /// new file is asked for, it is made, unless it is there and empty.
 ///
-/// Errors: `NoFile` if it isn't there, and no new one is asked for; `NotEmpty` if a new one is asked for, and it is there
-/// with bytes in it; else the system's, `WouldBlock` if another process has the file.
+/// Errors: `NoFile` if it isn't there, and no new one is asked for; `NotEmpty` if a new one is asked for, and it is
+/// there with bytes in it; else the system's, `WouldBlock` if another process has the file.
 pub fn open_disk<R: Files<File = fs::File> + AllocGlobal, P: Print + Drop>(
     rt: &R,
     folder: &str,
