@@ -7,11 +7,9 @@ mod Numerals
 mod Back
 mod Sited
 mod UsualLines
-mod Spellings
-mod Members
+mod OneMember
 mod Scanned
 mod Blanks
-mod Batches
 mod Versions
 mod Configured
 mod Digits

@@ -10,11 +10,15 @@ use Rattle.serde_json.specs.Data.{Data, Members, object, put, member, no_members
 use Rattle.serde_json.specs.Find.{get}
 use Rattle.serde_json.proofs.Views.{get_member-put, get_member-put_other}
 use Rattle.rb_money.specs.Settings.{Settings}
+use Rattle.rb_site.specs.declared.world_event.WorldEvent.{WorldEvent}
 use Rattle.rb_history.specs.Commands.{command_for, command_of, sited_json}
-use Rattle.rb_history.specs.Spelled.{IsCommandOf, with_site}
 use Rattle.rb_history.specs.Values.{number_below, number_json, one_json}
-use Rattle.rb_history.specs.declared.site_command.SiteCommand.{SiteCommand}
 use Rattle.rb_money.proofs.Public.Tests.{is_below as below}
+
+-- the member of this command, whatever its object's site is
+pub record IsCommandOf (s : Settings) (command : ℕ → WorldEvent) (key : List ℕ) (value : Data) : Type 0 where
+  pub other : key ≡ codes "site" → ⊥
+  pub alone : (site : ℕ) → command_for s (one_json key value) site ≡ Some (command site)
 
 differ : (xs ys : List ℕ) (b : Bool) → bytes_eq xs ys ≡ b → (xs ≡ ys → ⊥) → b ≡ false
 differ xs ys true e other = absurd (other ((bytes_eq-Decides xs ys).0 e))
@@ -56,15 +60,15 @@ by_site Equal s key value site other = absurd (true≢false other)
 by_site Greater s key value site other = alone_first s key value site
 
 -- the command of a member
-at_site : (s : Settings) (command : SiteCommand) (key : List ℕ) (value : Data) (site : ℕ) → site < 2 ^ 8 → IsCommandOf s command key value
-    → option_and_then (command_for s (one_json key value)) (number_below (2 ^ 8) (number_json site)) ≡ Some (with_site site command)
+at_site : (s : Settings) (command : ℕ → WorldEvent) (key : List ℕ) (value : Data) (site : ℕ) → site < 2 ^ 8 → IsCommandOf s command key value
+    → option_and_then (command_for s (one_json key value)) (number_below (2 ^ 8) (number_json site)) ≡ Some (command site)
 at_site s command key value site h is =
     ap (λ b. option_and_then (command_for s (one_json key value)) (if b then Some site else None)) (below site (2 ^ 8) h) ∙ is.alone site
 
 -- a command's member is read as the command with the site after it, in the order of the keys
-pub site_after : (s : Settings) (command : SiteCommand) (key : List ℕ) (value : Data) (site : ℕ) → site < 2 ^ 8 →
+pub site_after : (s : Settings) (command : ℕ → WorldEvent) (key : List ℕ) (value : Data) (site : ℕ) → site < 2 ^ 8 →
     IsCommandOf s command key value
-    → command_of s (sited_json key value site) ≡ Some (with_site site command)
+    → command_of s (sited_json key value site) ≡ Some (command site)
 site_after s command key value site h is =
     let v = number_json site in
     let found = get_member-put_other (codes "site") key value (member (codes "site") v no_members) (λ e. is.other (sym e)) in
@@ -72,9 +76,9 @@ site_after s command key value site h is =
     ∙ at_site s command key value site h is
 
 -- and with the site put to it
-pub site_before : (s : Settings) (command : SiteCommand) (key : List ℕ) (value : Data) (site : ℕ) → site < 2 ^ 8 →
+pub site_before : (s : Settings) (command : ℕ → WorldEvent) (key : List ℕ) (value : Data) (site : ℕ) → site < 2 ^ 8 →
     IsCommandOf s command key value
-    → command_of s (object (put (codes "site") (number_json site) (member key value no_members))) ≡ Some (with_site site command)
+    → command_of s (object (put (codes "site") (number_json site) (member key value no_members))) ≡ Some (command site)
 site_before s command key value site h is =
     let v = number_json site in
     let found = get_member-put (codes "site") v (member key value no_members) in

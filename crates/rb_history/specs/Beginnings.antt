@@ -10,10 +10,12 @@ use Rattle.rb_money.specs.declared.place.Place.{Place}
 use Rattle.rb_scratch.specs.declared.request.Request.{Request}
 use Rattle.rb_site.specs.declared.event.Event.{Event}
 use Rattle.rb_site.specs.declared.reply.Reply.{Reply}
+use Rattle.rb_site.specs.Worlds.{IsOwn}
 use Rattle.rb_history.specs.Replies.{reply_json}
 use Rattle.rb_history.specs.Counts.{blue_json, numbered_from, numbered_json}
 use Rattle.rb_history.specs.Entries.{event_json, request_json}
 use Rattle.rb_history.specs.Fits.{Each, IsEvent, IsReply, IsRequest}
+use Rattle.rb_history.specs.Values.{one_json}
 
 -- a string behind its first quote
 abbrev pub behind_quote : List ℕ → List ℕ
@@ -27,8 +29,20 @@ account_behind_quote s a = behind_quote (unwrap_or (slice_get s.names a.0) (code
 abbrev pub IsBetween : List ℕ → List ℕ → List ℕ → List ℕ → List ℕ → Type 0
 IsBetween middle text front back rest = text ≡ (front ++ (middle ++ back)) ++ rest
 
+-- the one member of this object, from the first letter of its key to the end of its value
+pub record BeginsWithMember (d : Data) (text rest : List ℕ) : Type 0 where
+  pub key : List ℕ
+  pub value : Data
+  pub object : d ≡ one_json key value
+  pub written : text ≡ behind_quote key ++ (codes ":" ++ (compact_text value ++ rest))
+
+-- the member of a request
 abbrev pub BeginsWithRequest : Settings → Request → List ℕ → List ℕ → Type 0
-BeginsWithRequest s r text rest = IsRequest s r × (text ≡ compact_text (request_json s r) ++ rest)
+BeginsWithRequest s r text rest = IsRequest s r × BeginsWithMember (request_json s r) text rest
+
+-- the member of an event of a site's own
+abbrev pub BeginsWithOwn : Settings → Event → List ℕ → List ℕ → Type 0
+BeginsWithOwn s e text rest = IsOwn e × IsEvent s e × BeginsWithMember (event_json s e) text rest
 
 -- the items of a list, and its closing bracket
 abbrev pub BeginsWithEach : {A : Type 0} → (A → Data) → (A → Type 0) → List A → List ℕ → List ℕ → Type 0

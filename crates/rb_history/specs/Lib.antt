@@ -7,7 +7,7 @@ pub mod Requests
 pub mod Commands
 pub mod Configurations
 pub mod Adds
-pub mod Spelled
+pub mod SitedLines
 pub mod Blanks
 pub mod Laws
 pub mod Fields

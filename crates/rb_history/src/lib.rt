@@ -15,7 +15,6 @@ mod lines;
 mod on_line;
 mod read;
 mod refusals;
-mod site_command;
 pub mod write;
 
 ghost use Rattle.rb_history.specs.Commands.{CommandsAreRead};

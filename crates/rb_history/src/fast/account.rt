@@ -1,10 +1,9 @@
 //! Accounts, alone and beside a number, in one pass. `None` says nothing of a text.
 ghost use Rattle.std.specs.Prelude.{◌≡◌, ◌<◌, ◌^◌, ◌++◌, IfSome, codes, decimal};
-ghost use Rattle.json.specs.Print.{escape};
 ghost use Rattle.rb_history.specs.Fits.{IsKnown};
 ghost use Rattle.rb_history.specs.Beginnings.{IsBetween, account_behind_quote};
 
-use crate::fast::number::{parse_long_between, parse_number};
+use crate::fast::number::parse_long_between;
 use crate::fast::scan::{parse_prefix, parse_string};
 use rb_money::{Config, Place};
 
@@ -39,37 +38,27 @@ pub fn parse_account_between<'a>(
     Some((place, parse_prefix(rest, back)?))
 }
 
-/// An account and a number as the last member of an object, behind a text that ends with the first quote.
+/// An account's name behind a text that ends with its first quote.
+#[inline(always)]
+pub fn parse_account_behind<'a>(
+    config: &Config,
+    text: &'a str,
+    front: &str,
+) -> Option<(Place, &'a str)>
+    ensures { IfSome result (λ p. IsKnown config.now p.0
+        × (text.now ≡ front.now ++ (account_behind_quote config.now p.0 ++ p.1.now))) }
+{
+    let (place, rest) = parse_account(config, parse_prefix(text, front)?)?;
+    Some((place, rest))
+}
+
+/// An account and a number, the end of a list, behind a text that ends with the first quote.
 #[inline(always)]
 pub fn parse_asked<'a>(config: &Config, text: &'a str, front: &str) -> Option<(Place, u64, &'a str)>
-    ensures { IfSome result (λ p. IsKnown config.now p.0 × (p.1 < 2 ^ 64) × (text.now ≡ (front.now
-        ++ ((account_behind_quote config.now p.0 ++ (codes "," ++ (decimal p.1 ++ codes "]"))) ++ codes "}"))
-        ++ p.2.now)) }
+    ensures { IfSome result (λ p. IsKnown config.now p.0 × (p.1 < 2 ^ 64) × (text.now ≡ front.now
+        ++ ((account_behind_quote config.now p.0 ++ (codes "," ++ (decimal p.1 ++ codes "]"))) ++ p.2.now))) }
 {
     let (place, rest) = parse_account_between(config, text, front, ",")?;
-    let (n, rest) = parse_long_between(rest, "", "]}")?;
+    let (n, rest) = parse_long_between(rest, "", "]")?;
     Some((place, n, rest))
-}
-
-/// An account's name and a number, in a list of two.
-#[inline(always)]
-pub fn parse_pair(text: &str) -> Option<(&str, u64, &str)>
-    ensures { IfSome result (λ p. (p.1 < 2 ^ 64) × (escape p.0.now ≡ p.0.now)
-        × (text.now ≡ p.0.now ++ (codes "\"," ++ (decimal p.1 ++ (codes "]" ++ p.2.now))))) }
-{
-    let (name, rest) = parse_string(text)?;
-    let (n, rest) = parse_number(parse_prefix(rest, ",")?)?;
-    Some((name, n, parse_prefix(rest, "]")?))
-}
-
-/// Two accounts' names and a number, in a list of three.
-#[inline(always)]
-pub fn parse_three(text: &str) -> Option<(&str, &str, u64, &str)>
-    ensures { IfSome result (λ p. (p.2 < 2 ^ 64) × (escape p.0.now ≡ p.0.now) × (escape p.1.now ≡ p.1.now)
-        × (text.now ≡ p.0.now ++ (codes "\",\"" ++ (p.1.now ++
-        (codes "\"," ++ (decimal p.2 ++ (codes "]" ++ p.3.now))))))) }
-{
-    let (first, rest) = parse_string(text)?;
-    let (second, n, rest) = parse_pair(parse_prefix(rest, ",\"")?)?;
-    Some((first, second, n, rest))
 }

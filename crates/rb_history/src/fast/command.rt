@@ -1,28 +1,28 @@
 //! Lines of commands as programs spell them: the site first or last. `None` says nothing of a line.
 //!
-//! Balances and deliveries are parsed in place, and any other command by one call, in which each kind returns at once:
-//! a large result is put into memory and read again, 60 to 140 instructions. What is inlined stays small, since a
-//! function that would grow very large isn't inlined, whatever it asks for. With deposits in place too a balance takes
-//! 5 % more, and a refusal 8 %.
+//! A large result is put into memory and read again, 60 to 140 instructions: so balances and deliveries are parsed in
+//! place, a request by one call with a small result, and any other event in its place. What is inlined stays small,
+//! since a function that would grow very large isn't inlined, whatever it asks for. With deposits in place too a
+//! balance takes 5 % more, and a refusal 8 %.
 ghost use Rattle.std.specs.Prelude.{◌≡◌, ◌++◌, Some, IfSome, codes, decimal};
+ghost use Rattle.rb_history.specs.Beginnings.{BeginsWithRequest};
 ghost use Rattle.rb_history.specs.Commands.{command_at};
-ghost use Rattle.rb_history.specs.Spelled.{EndsLine, IsLineOf, Spells, SpellsRequest, behind_site};
-ghost use Rattle.rb_history.specs.Spelled.{with_site};
+ghost use Rattle.rb_history.specs.SitedLines.{EndsLine, behind_site};
+ghost use Rattle.rb_site.specs.Worlds.{IsCommand, IsOwn};
+ghost use Rattle.rb_site.specs.declared.event.Event.TheVariants.{Balance, Submit};
+ghost use Rattle.rb_site.specs.declared.world_event.WorldEvent.TheVariants.{At, Deliver};
 
+use crate::fast::account::parse_account_behind;
 use crate::fast::blanks::without_blanks;
-use crate::fast::number::parse_byte;
-use crate::fast::request::{
-    parse_cancellation, parse_deposit, parse_interest, parse_transfer, parse_withdrawal,
+use crate::fast::event::{
+    parse_cancel, parse_deposit, parse_interest, parse_own, parse_transfer, parse_withdraw,
 };
+use crate::fast::number::{parse_byte, parse_word};
 use crate::fast::scan::parse_prefix;
-use crate::fast::site_command::{
-    parse_apply, parse_as_of, parse_balance, parse_batch, parse_delivery, parse_pass,
-    parse_statement,
-};
 use crate::keys::{behind_quote, spell};
-use crate::site_command::SiteCommand;
-use rb_money::Config;
+use rb_money::{Config, Place};
 use rb_scratch::Request;
+use rb_site::{Event, WorldEvent};
 use std::alloc::Global;
 
 /// The end of an object, and of its line.
@@ -62,42 +62,6 @@ fn parse_site(first: Option<u8>, text: &str) -> Option<u8>
     }
 }
 
-/// A command with its site, where its member is parsed.
-#[inline(always)]
-fn sited(
-    config: &Config,
-    first: Option<u8>,
-    text: &str,
-    parsed: Option<(SiteCommand, &str)>,
-) -> Option<(SiteCommand, u8)>
-    requires { IfSome parsed (λ p. Spells config.now p.0 text.now p.1.now) }
-    ensures { IfSome result (λ p. IsLineOf config.now first text.now p.0 p.1) }
-{
-    let Some((command, rest)) = parsed else {
-        return None;
-    };
-    let site = parse_site(first, rest)?;
-    Some((command, site))
-}
-
-/// The same of a request.
-#[inline(always)]
-fn sited_request(
-    config: &Config,
-    first: Option<u8>,
-    text: &str,
-    parsed: Option<(Request, &str)>,
-) -> Option<(SiteCommand, u8)>
-    requires { IfSome parsed (λ p. SpellsRequest config.now p.0 text.now p.1.now) }
-    ensures { IfSome result (λ p. IsLineOf config.now first text.now p.0 p.1) }
-{
-    let Some((request, rest)) = parsed else {
-        return None;
-    };
-    let site = parse_site(first, rest)?;
-    Some((SiteCommand::Submit(request), site))
-}
-
 /// The site as the first member, where it is, and the text from the next key on.
 #[inline(always)]
 fn parse_first_site(text: &str) -> Option<(Option<u8>, &str)>
@@ -110,81 +74,101 @@ fn parse_first_site(text: &str) -> Option<(Option<u8>, &str)>
     Some((Some(site), parse_prefix(rest, ",\"")?))
 }
 
-/// Any command, from the object's first key on. Each kind returns where it is parsed, since a result of several kinds
-/// would be put together from the parts of all. Of two keys with one first byte the more frequent is tried first.
-#[inline(never)]
-fn parse_any(alloc: Global, config: &Config, line: &str) -> Option<(SiteCommand, u8)>
-    ensures { IfSome result (λ p. command_at config.now (codes "{\"" ++ line.now) ≡ Some (with_site p.1 p.0)) }
+/// A balance with its site last, from its key on: the site and the account.
+#[inline(always)]
+pub fn parse_balance_at(config: &Config, text: &str) -> Option<(u8, Place)>
+    ensures { IfSome result (λ p. command_at config.now (codes "{\"" ++ text.now) ≡ Some (At p.0 (Balance p.1))) }
 {
-    let (first, text) = parse_first_site(line)?;
-    let key = *text.as_bytes().first()?;
-    if key == b'a' {
-        if let Some(apply) = sited(config, first, text, parse_apply(config, text)) {
-            return Some(apply);
-        }
-        return sited(config, first, text, parse_as_of(config, text));
-    }
-    if key == b'b' {
-        if let Some(balance) = sited(config, first, text, parse_balance(config, text)) {
-            return Some(balance);
-        }
-        return sited(config, first, text, parse_batch(alloc, config, text));
-    }
-    if key == b'c' {
-        return sited_request(config, first, text, parse_cancellation(config, text));
-    }
-    if key == b'd' {
-        if let Some(deposit) = sited_request(config, first, text, parse_deposit(config, text)) {
-            return Some(deposit);
-        }
-        return sited(config, first, text, parse_delivery(config, text));
-    }
-    if key == b'i' {
-        return sited_request(config, first, text, parse_interest(config, text));
-    }
-    if key == b'p' {
-        return sited(config, first, text, parse_pass(config, text));
-    }
-    if key == b's' {
-        return sited(config, first, text, parse_statement(config, text));
-    }
-    if key == b't' {
-        return sited_request(config, first, text, parse_transfer(config, text));
-    }
-    if key == b'w' {
-        return sited_request(config, first, text, parse_withdrawal(config, text));
-    }
-    None
+    // For a fact alone: its settings are those of a configuration.
+    let _sites = config.sites();
+    let (account, rest) = parse_account_behind(config, text, behind_quote!(balance ":\""))?;
+    let site = parse_last_site(rest)?;
+    Some((site, account))
 }
 
-/// A balance or a delivery with the site last, from its key on: small enough to be inlined into what reads a line.
+/// A delivery, from its key on: the site and the message's number.
 #[inline(always)]
-fn parse_short(config: &Config, text: &str) -> Option<(SiteCommand, u8)>
-    ensures { IfSome result (λ p. command_at config.now (codes "{\"" ++ text.now) ≡ Some (with_site p.1 p.0)) }
+pub fn parse_delivery(config: &Config, first: Option<u8>, text: &str) -> Option<(u8, u32)>
+    ensures { IfSome result
+        (λ p. command_at config.now (codes "{\"" ++ behind_site first text.now) ≡ Some (Deliver p.0 p.1)) }
 {
+    let (message, rest) = parse_word(parse_prefix(text, behind_quote!(deliver ":"))?)?;
+    let site = parse_site(first, rest)?;
+    Some((site, message))
+}
+
+/// A request with its site, if its member is parsed.
+#[inline(always)]
+fn sited(
+    config: &Config,
+    first: Option<u8>,
+    text: &str,
+    parsed: Option<(Request, &str)>,
+) -> Option<(u8, Request)>
+    requires { IfSome parsed (λ p. BeginsWithRequest config.now p.0 text.now p.1.now) }
+    ensures { IfSome result
+        (λ p. command_at config.now (codes "{\"" ++ behind_site first text.now) ≡ Some (At p.0 (Submit p.1))) }
+{
+    // For a fact alone: its settings are those of a configuration.
+    let _sites = config.sites();
+    let Some((request, rest)) = parsed else {
+        return None;
+    };
+    let site = parse_site(first, rest)?;
+    Some((site, request))
+}
+
+/// A request, from the object's first key on: the site and what is asked of it. Each kind returns where it is parsed,
+/// since a result of several kinds would be put together from the parts of all.
+#[inline(never)]
+pub fn parse_request_at(config: &Config, line: &str) -> Option<(u8, Request)>
+    ensures { IfSome result (λ p. command_at config.now (codes "{\"" ++ line.now) ≡ Some (At p.0 (Submit p.1))) }
+{
+    let (first, text) = parse_first_site(line)?;
     match text.as_bytes().first() {
-        Some(b'b') => sited(config, None, text, parse_balance(config, text)),
-        Some(b'd') => sited(config, None, text, parse_delivery(config, text)),
+        Some(b'd') => sited(config, first, text, parse_deposit(config, text)),
+        Some(b'w') => sited(config, first, text, parse_withdraw(config, text)),
+        Some(b'i') => sited(config, first, text, parse_interest(config, text)),
+        Some(b't') => sited(config, first, text, parse_transfer(config, text)),
+        Some(b'c') => sited(config, first, text, parse_cancel(config, text)),
         _ => None,
     }
 }
 
-/// The command of a line in the usual spelling, and its site. `None` says nothing of the line: it may have another.
-#[inline(always)]
-pub fn parse_command(alloc: Global, config: &Config, line: &str) -> Option<(SiteCommand, u8)>
-    ensures { IfSome result (λ p. command_at config.now line.now ≡ Some (with_site p.1 p.0)) }
+/// An event of a site's own, in its place, from the object's first key on: the site. The event may be any where there
+/// is none.
+fn parse_at(alloc: Global, config: &Config, line: &str, event: &mut Event) -> Option<u8>
+    ensures value { IfSome result (λ site. command_at config.now (codes "{\"" ++ line.now) ≡ Some (At site event.new)) }
+    ensures own { IfSome result (λ _. IsOwn event.new) }
 {
-    let text = parse_prefix(line, "{\"")?;
-    match parse_short(config, text) {
-        Some(command) => Some(command),
-        None => parse_any(alloc, config, text),
-    }
+    // For a fact alone: its settings are those of a configuration.
+    let _sites = config.sites();
+    let (first, text) = parse_first_site(line)?;
+    let rest = parse_own(alloc, config, text, event)?;
+    let site = parse_site(first, rest)?;
+    Some(site)
 }
 
-/// The command of a line with blanks between its tokens, and its site.
-pub fn parse_spaced(alloc: Global, config: &Config, line: &str) -> Option<(SiteCommand, u8)>
-    ensures { IfSome result (λ p. command_at config.now line.now ≡ Some (with_site p.1 p.0)) }
+/// Any command in the usual spelling.
+pub fn parse_any(alloc: Global, config: &Config, line: &str) -> Option<WorldEvent>
+    ensures value { IfSome result (λ c. command_at config.now line.now ≡ Some c) }
+    ensures command { IfSome result IsCommand }
 {
-    let text = without_blanks(alloc, line)?;
-    parse_command(alloc, config, text.as_str())
+    let text = parse_prefix(line, "{\"")?;
+    let mut event = Event::Pass(0);
+    if let Some(site) = parse_at(alloc, config, text, &mut event) {
+        return Some(WorldEvent::At(site, event));
+    }
+    let (first, text) = parse_first_site(text)?;
+    let (site, message) = parse_delivery(config, first, text)?;
+    Some(WorldEvent::Deliver(site, message))
+}
+
+/// The command of a line with blanks between its tokens.
+pub fn parse_spaced(alloc: Global, config: &Config, line: &str) -> Option<WorldEvent>
+    ensures value { IfSome result (λ c. command_at config.now line.now ≡ Some c) }
+    ensures command { IfSome result IsCommand }
+{
+    let joined = without_blanks(alloc, line)?;
+    parse_any(alloc, config, joined.as_str())
 }

@@ -1,15 +1,21 @@
-//! Events of a history's line, in one pass. `None` says nothing of a text.
-ghost use Rattle.std.specs.Prelude.{◌≡◌, IfSome, Some};
+//! Events, in one pass. `None` says nothing of a text.
+//!
+//! What commands and history lines both have is read by one reader, [`parse_own`], from the first letter of its key to
+//! the end of its value: a command has its site beside it, and an item of a batch, an event's line and an entry an
+//! object of its own. An event goes into its place, since a large result is put into memory and read again, 60 to 140
+//! instructions.
+ghost use Rattle.std.specs.Prelude.{◌≡◌, ◌++◌, IfSome, Some};
+ghost use Rattle.serde_json.specs.Written.{compact_text};
 ghost use Rattle.rb_history.specs.Entries.{event_of_line, request_json};
 ghost use Rattle.rb_history.specs.Fits.{IsRequest};
-ghost use Rattle.rb_history.specs.Beginnings.{BeginsWithEach, BeginsWithEvent, BeginsWithRequest};
+ghost use Rattle.rb_history.specs.Beginnings.{BeginsWithEach, BeginsWithEvent, BeginsWithOwn, BeginsWithRequest};
 
-use crate::fast::account::{parse_account_between, parse_asked};
-use crate::fast::name::parse_name_between;
-use crate::fast::number::{narrow, parse_byte_between, parse_word_between};
+use crate::fast::account::{parse_account_behind, parse_account_between, parse_asked};
+use crate::fast::name::parse_name_behind;
+use crate::fast::number::{narrow, parse_byte, parse_byte_between, parse_word_between};
 use crate::fast::scan::parse_prefix;
 use crate::fast::shadow::parse_received;
-use crate::keys::spell;
+use crate::keys::{behind_quote, spell};
 use rb_kit::List;
 use rb_money::Config;
 use rb_scratch::Request;
@@ -17,39 +23,44 @@ use rb_site::{Event, Message};
 use rb_token::TokenMessage;
 use std::alloc::Global;
 
-fn parse_deposit<'a>(config: &Config, text: &'a str) -> Option<(Request, &'a str)>
+#[inline(always)]
+pub fn parse_deposit<'a>(config: &Config, text: &'a str) -> Option<(Request, &'a str)>
     ensures { IfSome result (λ p. BeginsWithRequest config.now p.0 text.now p.1.now) }
 {
-    let (account, amount, rest) = parse_asked(config, text, spell!("{" deposit ":[\""))?;
+    let (account, amount, rest) = parse_asked(config, text, behind_quote!(deposit ":[\""))?;
     Some((Request::Deposit { account, amount }, rest))
 }
 
-fn parse_withdraw<'a>(config: &Config, text: &'a str) -> Option<(Request, &'a str)>
+#[inline(always)]
+pub fn parse_withdraw<'a>(config: &Config, text: &'a str) -> Option<(Request, &'a str)>
     ensures { IfSome result (λ p. BeginsWithRequest config.now p.0 text.now p.1.now) }
 {
-    let (account, amount, rest) = parse_asked(config, text, spell!("{" withdraw ":[\""))?;
+    let (account, amount, rest) = parse_asked(config, text, behind_quote!(withdraw ":[\""))?;
     Some((Request::Withdraw { account, amount }, rest))
 }
 
-fn parse_interest<'a>(config: &Config, text: &'a str) -> Option<(Request, &'a str)>
+#[inline(always)]
+pub fn parse_interest<'a>(config: &Config, text: &'a str) -> Option<(Request, &'a str)>
     ensures { IfSome result (λ p. BeginsWithRequest config.now p.0 text.now p.1.now) }
 {
-    let (account, n, rest) = parse_asked(config, text, spell!("{" interest ":[\""))?;
+    let (account, n, rest) = parse_asked(config, text, behind_quote!(interest ":[\""))?;
     let rate = narrow(n)?;
     Some((Request::Interest { account, rate }, rest))
 }
 
-fn parse_cancel<'a>(config: &Config, text: &'a str) -> Option<(Request, &'a str)>
+#[inline(always)]
+pub fn parse_cancel<'a>(config: &Config, text: &'a str) -> Option<(Request, &'a str)>
     ensures { IfSome result (λ p. BeginsWithRequest config.now p.0 text.now p.1.now) }
 {
-    let (target, rest) = parse_name_between(text, spell!("{" cancel ":\""), "}")?;
+    let (target, rest) = parse_name_behind(text, behind_quote!(cancel ":\""))?;
     Some((Request::Cancel { target }, rest))
 }
 
-fn parse_transfer<'a>(config: &Config, text: &'a str) -> Option<(Request, &'a str)>
+#[inline(always)]
+pub fn parse_transfer<'a>(config: &Config, text: &'a str) -> Option<(Request, &'a str)>
     ensures { IfSome result (λ p. BeginsWithRequest config.now p.0 text.now p.1.now) }
 {
-    let (from, rest) = parse_account_between(config, text, spell!("{" transfer ":[\""), ",\"")?;
+    let (from, rest) = parse_account_between(config, text, behind_quote!(transfer ":[\""), ",\"")?;
     let (to, amount, rest) = parse_asked(config, rest, "")?;
     Some((Request::Transfer { from, to, amount }, rest))
 }
@@ -58,7 +69,7 @@ fn parse_transfer<'a>(config: &Config, text: &'a str) -> Option<(Request, &'a st
 fn parse_request<'a>(config: &Config, text: &'a str) -> Option<(Request, &'a str)>
     ensures { IfSome result (λ p. BeginsWithRequest config.now p.0 text.now p.1.now) }
 {
-    match text.as_bytes().get(2) {
+    match text.as_bytes().first() {
         Some(b'd') => parse_deposit(config, text),
         Some(b'w') => parse_withdraw(config, text),
         Some(b'i') => parse_interest(config, text),
@@ -69,11 +80,21 @@ fn parse_request<'a>(config: &Config, text: &'a str) -> Option<(Request, &'a str
 
 #[inline(always)]
 fn parse_submit<'a>(config: &Config, text: &'a str, event: &mut Event) -> Option<&'a str>
-    ensures { IfSome result (λ rest. BeginsWithEvent config.now event.new text.now rest.now) }
+    ensures { IfSome result (λ rest. BeginsWithOwn config.now event.new text.now rest.now) }
 {
     let (request, rest) = parse_request(config, text)?;
     *event = Event::Submit(request);
     Some(rest)
+}
+
+/// A request in an object of its own.
+#[inline(always)]
+fn parse_item<'a>(config: &Config, text: &'a str) -> Option<(Request, &'a str)>
+    ensures { IfSome result (λ p. IsRequest config.now p.0
+        × (text.now ≡ compact_text (request_json config.now p.0) ++ p.1.now)) }
+{
+    let (request, rest) = parse_request(config, parse_prefix(text, "{\"")?)?;
+    Some((request, parse_prefix(rest, "}")?))
 }
 
 /// The requests of a list, and its closing bracket.
@@ -92,7 +113,7 @@ fn parse_requests<'a>(
         if let Some(rest) = parse_prefix(left, "]") {
             return Some((requests, rest));
         }
-        let (request, rest) = parse_request(config, parse_prefix(left, comma)?)?;
+        let (request, rest) = parse_item(config, parse_prefix(left, comma)?)?;
         if requests.push(request).is_err() {
             return None;
         }
@@ -102,94 +123,120 @@ fn parse_requests<'a>(
     None
 }
 
-fn parse_batch<'a>(alloc: Global, config: &Config, text: &'a str) -> Option<(Event, &'a str)>
-    ensures { IfSome result (λ p. BeginsWithEvent config.now p.0 text.now p.1.now) }
+#[inline(always)]
+fn parse_batch<'a>(
+    alloc: Global,
+    config: &Config,
+    text: &'a str,
+    event: &mut Event,
+) -> Option<&'a str>
+    ensures { IfSome result (λ rest. BeginsWithOwn config.now event.new text.now rest.now) }
 {
-    let (requests, rest) = parse_requests(
-        alloc,
-        config,
-        parse_prefix(text, spell!("{" batch ":["))?,
-    )?;
-    Some((Event::Batch(List::new(requests)), parse_prefix(rest, "}")?))
+    let list = parse_prefix(text, behind_quote!(batch ":["))?;
+    let (requests, rest) = parse_requests(alloc, config, list)?;
+    *event = Event::Batch(List::new(requests));
+    Some(rest)
 }
 
-fn parse_token<'a>(config: &Config, text: &'a str) -> Option<(Event, &'a str)>
-    ensures { IfSome result (λ p. BeginsWithEvent config.now p.0 text.now p.1.now) }
+#[inline(always)]
+fn parse_apply<'a>(config: &Config, text: &'a str, event: &mut Event) -> Option<&'a str>
+    ensures { IfSome result (λ rest. BeginsWithOwn config.now event.new text.now rest.now) }
+{
+    let (name, rest) = parse_name_behind(text, behind_quote!(apply ":\""))?;
+    *event = Event::Apply(name);
+    Some(rest)
+}
+
+#[inline(always)]
+fn parse_pass<'a>(config: &Config, text: &'a str, event: &mut Event) -> Option<&'a str>
+    ensures { IfSome result (λ rest. BeginsWithOwn config.now event.new text.now rest.now) }
+{
+    let (to, rest) = parse_byte(parse_prefix(text, behind_quote!(pass ":"))?)?;
+    *event = Event::Pass(to);
+    Some(rest)
+}
+
+#[inline(always)]
+pub fn parse_balance<'a>(config: &Config, text: &'a str, event: &mut Event) -> Option<&'a str>
+    ensures { IfSome result (λ rest. BeginsWithOwn config.now event.new text.now rest.now) }
+{
+    let (account, rest) = parse_account_behind(config, text, behind_quote!(balance ":\""))?;
+    *event = Event::Balance(account);
+    Some(rest)
+}
+
+#[inline(always)]
+fn parse_as_of<'a>(config: &Config, text: &'a str, event: &mut Event) -> Option<&'a str>
+    ensures { IfSome result (λ rest. BeginsWithOwn config.now event.new text.now rest.now) }
+{
+    let (account, n, rest) = parse_asked(config, text, behind_quote!(asof ":[\""))?;
+    let position = narrow(n)?;
+    *event = Event::AsOf(account, position);
+    Some(rest)
+}
+
+#[inline(always)]
+fn parse_statement<'a>(config: &Config, text: &'a str, event: &mut Event) -> Option<&'a str>
+    ensures { IfSome result (λ rest. BeginsWithOwn config.now event.new text.now rest.now) }
+{
+    let (account, rest) = parse_account_behind(config, text, behind_quote!(statement ":\""))?;
+    *event = Event::Statement(account);
+    Some(rest)
+}
+
+/// An event of a site's own, as the first letter and the third of its key say, in its place, and what follows its
+/// value. It may be any where there is none.
+pub fn parse_own<'a>(
+    alloc: Global,
+    config: &Config,
+    text: &'a str,
+    event: &mut Event,
+) -> Option<&'a str>
+    ensures { IfSome result (λ rest. BeginsWithOwn config.now event.new text.now rest.now) }
+{
+    let key = text.as_bytes();
+    match (key.first(), key.get(2)) {
+        (Some(b'a'), Some(b'p')) => parse_apply(config, text, event),
+        (Some(b'a'), _) => parse_as_of(config, text, event),
+        (Some(b'b'), Some(b'l')) => parse_balance(config, text, event),
+        (Some(b'b'), _) => parse_batch(alloc, config, text, event),
+        (Some(b'p'), _) => parse_pass(config, text, event),
+        (Some(b's'), _) => parse_statement(config, text, event),
+        _ => parse_submit(config, text, event),
+    }
+}
+
+/// A token that comes, as the one member of an object.
+#[inline(never)]
+fn parse_token<'a>(config: &Config, text: &'a str, event: &mut Event) -> Option<&'a str>
+    ensures { IfSome result (λ rest. BeginsWithEvent config.now event.new text.now rest.now) }
 {
     let (epoch, rest) = parse_word_between(text, spell!("{" token ":["), ",")?;
     let (to, rest) = parse_byte_between(rest, "", ",")?;
     let (red, rest) = parse_word_between(rest, "", "]}")?;
     let token = TokenMessage { epoch, to, red };
-    Some((Event::Receive(Message::Token(token)), rest))
+    *event = Event::Receive(Message::Token(token));
+    Some(rest)
 }
 
+/// An event of a site's own, as the one member of an object.
 #[inline(always)]
-fn parse_apply<'a>(config: &Config, text: &'a str, event: &mut Event) -> Option<&'a str>
+fn parse_object<'a>(
+    alloc: Global,
+    config: &Config,
+    text: &'a str,
+    event: &mut Event,
+) -> Option<&'a str>
     ensures { IfSome result (λ rest. BeginsWithEvent config.now event.new text.now rest.now) }
 {
-    let (name, rest) = parse_name_between(text, spell!("{" apply ":\""), "}")?;
-    *event = Event::Apply(name);
+    let inside = parse_prefix(text, "{\"")?;
+    let behind = parse_own(alloc, config, inside, event)?;
+    let rest = parse_prefix(behind, "}")?;
     Some(rest)
 }
 
-fn parse_pass<'a>(config: &Config, text: &'a str) -> Option<(Event, &'a str)>
-    ensures { IfSome result (λ p. BeginsWithEvent config.now p.0 text.now p.1.now) }
-{
-    let (to, rest) = parse_byte_between(text, spell!("{" pass ":"), "}")?;
-    Some((Event::Pass(to), rest))
-}
-
-#[inline(always)]
-fn parse_balance<'a>(config: &Config, text: &'a str, event: &mut Event) -> Option<&'a str>
-    ensures { IfSome result (λ rest. BeginsWithEvent config.now event.new text.now rest.now) }
-{
-    let (account, rest) = parse_account_between(config, text, spell!("{" balance ":\""), "}")?;
-    *event = Event::Balance(account);
-    Some(rest)
-}
-
-fn parse_as_of<'a>(config: &Config, text: &'a str) -> Option<(Event, &'a str)>
-    ensures { IfSome result (λ p. BeginsWithEvent config.now p.0 text.now p.1.now) }
-{
-    let (account, n, rest) = parse_asked(config, text, spell!("{" asof ":[\""))?;
-    let position = narrow(n)?;
-    Some((Event::AsOf(account, position), rest))
-}
-
-fn parse_statement<'a>(config: &Config, text: &'a str) -> Option<(Event, &'a str)>
-    ensures { IfSome result (λ p. BeginsWithEvent config.now p.0 text.now p.1.now) }
-{
-    let (account, rest) = parse_account_between(config, text, spell!("{" statement ":\""), "}")?;
-    Some((Event::Statement(account), rest))
-}
-
-/// An event that comes seldom, as the first letter of its key says.
-fn parse_rare<'a>(alloc: Global, config: &Config, text: &'a str) -> Option<(Event, &'a str)>
-    ensures { IfSome result (λ p. BeginsWithEvent config.now p.0 text.now p.1.now) }
-{
-    match text.as_bytes().get(2) {
-        Some(b's') => parse_statement(config, text),
-        Some(b'a') => parse_as_of(config, text),
-        Some(b'b') => parse_batch(alloc, config, text),
-        Some(b'p') => parse_pass(config, text),
-        _ => parse_token(config, text),
-    }
-}
-
-/// An event that comes seldom, in its place, and what follows it.
-#[inline(never)]
-fn put_rare<'a>(alloc: Global, config: &Config, text: &'a str, event: &mut Event) -> Option<&'a str>
-    ensures { IfSome result (λ rest. BeginsWithEvent config.now event.new text.now rest.now) }
-{
-    let Some((found, rest)) = parse_rare(alloc, config, text) else {
-        return None;
-    };
-    *event = found;
-    Some(rest)
-}
-
-/// An event, as the first letter and the fourth of its key say, in its place, and what follows it. These two tell all
-/// thirteen keys apart; the first and the third don't (`shadow`, `statement`). It may be any where there is none.
+/// An event, as the one member of an object, in its place, and what follows it. It may be any where there is none. The
+/// first letter and the fourth of its key tell a message that comes from an event of the site's own.
 pub fn parse_event<'a>(
     alloc: Global,
     config: &Config,
@@ -201,13 +248,8 @@ pub fn parse_event<'a>(
     let key = text.as_bytes();
     match (key.get(2), key.get(5)) {
         (Some(b's'), Some(b'd')) => parse_received(config, text, event),
-        (Some(b'a'), Some(b'l')) => parse_apply(config, text, event),
-        (Some(b'b'), Some(b'a')) => parse_balance(config, text, event),
-        (Some(b't'), Some(b'n')) => parse_submit(config, text, event),
-        (Some(b'd'), _) | (Some(b'w'), _) | (Some(b'i'), _) | (Some(b'c'), _) => {
-            parse_submit(config, text, event)
-        }
-        _ => put_rare(alloc, config, text, event),
+        (Some(b't'), Some(b'e')) => parse_token(config, text, event),
+        _ => parse_object(alloc, config, text, event),
     }
 }
 

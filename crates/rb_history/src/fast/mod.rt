@@ -11,8 +11,6 @@ pub mod name;
 pub mod number;
 pub mod refusal;
 pub mod reply;
-pub mod request;
 pub mod scan;
 pub mod shadow;
-pub mod site_command;
 pub mod statement;

@@ -35,6 +35,16 @@ pub fn parse_name(text: &str) -> Option<(OpName, &str)>
     Some((name, rest))
 }
 
+/// An operation's name behind a text that ends with its first quote.
+#[inline(always)]
+pub fn parse_name_behind<'a>(text: &'a str, front: &str) -> Option<(OpName, &'a str)>
+    ensures { IfSome result (λ p. IsName p.0
+        × (text.now ≡ front.now ++ (behind_quote (name_text p.0) ++ p.1.now))) }
+{
+    let (name, rest) = parse_name(parse_prefix(text, front)?)?;
+    Some((name, rest))
+}
+
 /// An operation's name between two texts, of which the first ends with its first quote.
 #[inline(always)]
 pub fn parse_name_between<'a>(text: &'a str, front: &str, back: &str) -> Option<(OpName, &'a str)>

@@ -4,21 +4,28 @@ ghost use Rattle.rb_site.specs.Worlds.{IsCommand};
 ghost use Rattle.rb_history.specs.Commands.{command_at};
 ghost use Rattle.rb_history.specs.Lines.{Gives};
 
-use crate::fast::command::{parse_command, parse_spaced};
+use crate::fast::command::{
+    parse_any, parse_balance_at, parse_delivery, parse_request_at, parse_spaced,
+};
+use crate::fast::scan::parse_prefix;
 use crate::fault::LineFault;
 use crate::read::command::command;
 use crate::read::value::read_value;
 use rb_money::Config;
-use rb_site::WorldEvent;
+use rb_site::{Event, WorldEvent};
 use std::alloc::Global;
 
-/// The command that a line is, read from a copy without blanks or by its JSON value.
+/// The command that a line is, read as it is, from a copy without blanks or by its JSON value.
+#[inline(never)]
 fn read_any_command(alloc: Global, config: &Config, line: &str) -> Result<WorldEvent, LineFault>
     ensures value { Gives result (command_at config.now line.now) }
     ensures command { IfOk result IsCommand }
 {
-    if let Some((command, site)) = parse_spaced(alloc, config, line) {
-        return Ok(command.at(site));
+    if let Some(command) = parse_any(alloc, config, line) {
+        return Ok(command);
+    }
+    if let Some(command) = parse_spaced(alloc, config, line) {
+        return Ok(command);
     }
     match read_value(alloc, line) {
         Ok(value) => command(alloc, config, &value),
@@ -33,8 +40,22 @@ pub fn read_command(alloc: Global, config: &Config, line: &str) -> Result<WorldE
     ensures value { Gives result (command_at config.now line.now) }
     ensures command { IfOk result IsCommand }
 {
-    match parse_command(alloc, config, line) {
-        Some((command, site)) => Ok(command.at(site)),
-        None => read_any_command(alloc, config, line),
+    let Some(text) = parse_prefix(line, "{\"") else {
+        return read_any_command(alloc, config, line);
+    };
+    let key = text.as_bytes().first();
+    if let Some(b'b') = key {
+        if let Some((site, account)) = parse_balance_at(config, text) {
+            return Ok(WorldEvent::At(site, Event::Balance(account)));
+        }
     }
+    if let Some(b'd') = key {
+        if let Some((site, message)) = parse_delivery(config, None, text) {
+            return Ok(WorldEvent::Deliver(site, message));
+        }
+    }
+    if let Some((site, request)) = parse_request_at(config, text) {
+        return Ok(WorldEvent::At(site, Event::Submit(request)));
+    }
+    read_any_command(alloc, config, line)
 }

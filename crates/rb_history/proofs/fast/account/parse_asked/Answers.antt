@@ -3,10 +3,10 @@ use Rattle.rb_history.specs.Beginnings.{account_behind_quote}
 use Rattle.rb_history.proofs.fast.account.parse_asked.Goals as goal
 
 asked_written : (text front account n more rest : List ℕ) → text ≡ (front ++ (account ++ codes ",")) ++ more
-    → more ≡ (n ++ codes "]}") ++ rest → text ≡ (front ++ ((account ++ (codes "," ++ (n ++ codes "]"))) ++ codes "}")) ++ rest
+    → more ≡ (n ++ codes "]") ++ rest → text ≡ front ++ ((account ++ (codes "," ++ (n ++ codes "]"))) ++ rest)
 asked_written text front account n more rest e f =
-    let whole : (front ++ (account ++ codes ",")) ++ ((n ++ codes "]}") ++ rest) ≡
-    (front ++ ((account ++ (codes "," ++ (n ++ codes "]"))) ++ codes "}")) ++ rest = simp append_assoc in
+    let whole : (front ++ (account ++ codes ",")) ++ ((n ++ codes "]") ++ rest)
+    ≡ front ++ ((account ++ (codes "," ++ (n ++ codes "]"))) ++ rest) = simp append_assoc in
     e ∙ ap (λ l. (front ++ (account ++ codes ",")) ++ l) f ∙ whole
 
 pub returns : goal.returns
