@@ -1,9 +1,10 @@
 -- The one member of an object, in its object, and beside a command's site.
-use Rattle.std.proofs.Common.{◌≡◌, ◌<◌, ◌≤◌, ◌^◌, ℕ, List, ◌++◌, Option, None, Some, codes, decimal, refl, sym, ap, subst, ◌∙◌, append_assoc}
+use Rattle.std.proofs.Common.{◌≡◌, ◌<◌, ◌^◌, ℕ, List, ◌++◌, Option, None, Some, codes, decimal, refl, sym, ap, subst, ◌∙◌}
+use Rattle.std.proofs.Common.{append_assoc}
 use Rattle.std.proofs.Common.{arith}
 use Rattle.std.specs.Prelude.{option_and_then, option_map}
 use Rattle.json.specs.Print.{escape_byte}
-use Rattle.serde_json.specs.Data.{Data, object, put, member, no_members}
+use Rattle.serde_json.specs.Data.{Data, object, put, no_members}
 use Rattle.serde_json.specs.Read.{of_json}
 use Rattle.serde_json.specs.Written.{compact_text, outline}
 use Rattle.rb_money.specs.Settings.{IsConfigured, Settings}
@@ -21,7 +22,6 @@ use Rattle.rb_history.specs.SitedLines.{EndsLine, behind_site}
 use Rattle.rb_history.specs.Values.{number_json, one_json}
 use Rattle.rb_history.proofs.EntryBack.{event_back}
 use Rattle.rb_history.proofs.EntryText.{IsText, event_text, number_text}
-use Rattle.rb_history.proofs.Sited.{IsCommandOf}
 use Rattle.rb_history.proofs.UsualLines.{Spells, any_line}
 
 -- a member between the brackets of its object is the object

@@ -9,8 +9,8 @@ use Rattle.rb_site.specs.declared.reply.Reply.TheVariants.{Made, Names, Held, Al
 use Rattle.rb_history.specs.Values.{name_at, number_below, size_of}
 use Rattle.rb_history.specs.Fields.{field, label_at, six_in, six_of}
 use Rattle.rb_history.specs.Fits.{Each, IsMoved, IsRefusal, IsReply, IsStatementRow}
-use Rattle.rb_history.specs.RepliesRead.{answer_of, made_parsed, moved_parsed, names_at, names_in, refusal_parsed, reply_parsed, row_at, rows_at}
-use Rattle.rb_history.specs.RepliesRead.{rows_in, short_of, simple_of, statement_parsed}
+use Rattle.rb_history.specs.RepliesRead.{answer_of, made_parsed, moved_parsed, names_at, names_in, refusal_parsed}
+use Rattle.rb_history.specs.RepliesRead.{reply_parsed, row_at, rows_at, rows_in, short_of, simple_of, statement_parsed}
 use Rattle.rb_history.proofs.FitsLaws.{IsLong, IsWord, fits_choice, fits_cons, fits_either, fits_field, fits_if, fits_made, fits_map}
 use Rattle.rb_history.proofs.FitsLaws.{fits_next, fits_then}
 use Rattle.rb_history.proofs.NumbersFit.{Fits, FitItems, FitsNumber, fits_array, fits_get, fits_signed}

@@ -1,4 +1,4 @@
-use Rattle.std.proofs.Common.{◌++◌, None, codes, refl, arith}
+use Rattle.std.proofs.Common.{None, codes, refl, arith}
 use Rattle.json.specs.Print.{escape_byte}
 use Rattle.rb_site.specs.declared.event.Event.TheVariants.{Balance}
 use Rattle.rb_history.specs.Entries.{account_json}
