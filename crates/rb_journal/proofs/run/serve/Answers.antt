@@ -172,6 +172,7 @@ batches-preserved-then-more g c =
       later = omega (arith, inv.later, group.later);
       follows = group_follows inv.follows inv.end (group.answered tt) c.answer_group.ensures.ended;
       any_moment = moments g (goal.at.batches-preserved-then-more g c).After-answer_group;
+      intact = then_intact inv.intact c.answer_group.ensures.intact;
     }
 
 pub batches-preserved : goal.batches-preserved
