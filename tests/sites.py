@@ -16,11 +16,13 @@ import os
 import random
 import re
 import resource
+import shlex
 import shutil
 import signal
 import subprocess
 import sys
 import tempfile
+import time
 
 from site_process import read, whole_lines
 
@@ -269,6 +271,61 @@ def asked_for(sites):
         yield "a link to no journal", fine and not os.path.exists(os.path.join(folder, "nowhere"))
 
 
+def named(sites):
+    """The journal is the file of that name, whichever standard streams are closed, and no other."""
+    given = BANK + b'{"deposit":["ann",500]}\n'
+    with tempfile.TemporaryDirectory() as folder:
+        journal, link = os.path.join(folder, "journal"), os.path.join(folder, "link")
+        words = " ".join(map(shlex.quote, sites.words(journal)))
+        run = subprocess.run(["sh", "-c", f"{words} >&-"], input=given, capture_output=True)
+        yield "a closed output", (run.stderr, run.returncode) == (b"rbbank: write failed\n", 3)
+        before = read(journal)
+        yield "... isn't the journal", whole_lines(before).count(b"\n") == 2 and b'"sends"' not in before
+        with open(journal, "ab") as same:
+            _, errors, status = sites.at(journal, BANK, output=same)
+        fine = errors.startswith("rbbank: journal failed") and status == 3
+        yield "the journal as output", fine and read(journal) == before
+        target = os.path.join(folder, "far", "target")
+        os.mkdir(os.path.dirname(target))
+        os.symlink(target, link)
+        fine = sites.at(link, BANK) == (b"", "", 0)
+        yield "a link as journal", fine and read(target) == before.split(b"\n")[0] + b"\n" + AT_REST
+    for name, change in {"removed": os.remove, "replaced": replaced}.items():
+        with tempfile.TemporaryDirectory() as folder:
+            journal = os.path.join(folder, "journal")
+            run = subprocess.Popen(sites.words(journal), stdin=subprocess.PIPE, stdout=subprocess.PIPE,
+                                   stderr=subprocess.PIPE)
+            run.stdin.write(given)
+            run.stdin.flush()
+            run.stdout.readline()
+            change(journal)
+            out, errors = run.communicate(b'{"deposit":["ann",1]}\n')
+            fine = out == b"" and errors.startswith(b"rbbank: journal failed") and run.returncode == 3
+            yield f"a journal that is {name}", fine
+
+
+def replaced(path):
+    """Gives the name to a copy of its file."""
+    shutil.copy(path, path + ".copy")
+    os.replace(path + ".copy", path)
+
+
+def not_ready(sites):
+    """An output that isn't ready is waited for, and no answer is lost."""
+    given = BANK + b'{"balance":"ann"}\n' * 3000
+    with tempfile.TemporaryDirectory() as folder:
+        here, there = os.pipe()
+        os.set_blocking(there, False)
+        run = subprocess.Popen(sites.words(os.path.join(folder, "journal")), stdin=subprocess.PIPE, stdout=there)
+        os.close(there)
+        run.stdin.write(given)
+        run.stdin.close()
+        time.sleep(1)
+        with os.fdopen(here, "rb") as reader:
+            out = reader.read()
+        yield "an output that isn't ready", run.wait() == 0 and out.count(b"\n") == 3000
+
+
 def used_twice(sites):
     """A second process on a journal is refused, and the first goes on. Once it has ended, another may begin."""
     with tempfile.TemporaryDirectory() as folder:
@@ -455,8 +512,9 @@ def of_the_page(sites):
     yield "the pipes of docs/RUNNING.md", run.stdout.decode() == out
 
 
-PARTS = [same_however_read, ready_at_once, torn, audited, asked_for, refused_journals, used_twice, failed, unwritten,
-         lines_at_fault, words_at_fault, many_sites, large_batch, large_answers, in_order, of_the_page]
+PARTS = [same_however_read, ready_at_once, torn, audited, asked_for, refused_journals, named, not_ready, used_twice,
+         failed, unwritten, lines_at_fault, words_at_fault, many_sites, large_batch, large_answers, in_order,
+         of_the_page]
 
 
 def results(program):

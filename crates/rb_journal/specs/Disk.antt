@@ -8,7 +8,7 @@ use Rattle.rb_journal.specs.declared.open_error.OpenError.{OpenError}
 use Rattle.rb_journal.specs.declared.open_error.OpenError.TheVariants.{NoFile, NotEmpty, Failed}
 
 -- the log of its calls
-abbrev pub disk_log : {P : Type 0} → Disk P → List NotedCall
+abbrev pub disk_log : {R P : Type 0} → Disk R P → List NotedCall
 disk_log disk = disk.log.events
 
 -- there is no file only if no new one was asked for, and it has bytes only if one was

@@ -1,5 +1,10 @@
 //! A file of the operating system, and an output. Each method makes its calls of the system, and then notes them as one
 //! with their answer.
+//!
+//! The premises, which the contracts of `Host` need and the system is trusted for: what was synced stays; a write of
+//! one byte is there or isn't; a write of the bytes that are there changes none of them; only this process writes the
+//! file, since it has the lock. And no standard stream is the file: `open_disk` puts the file above their descriptors,
+//! so that a closed one isn't the file, and refuses a file that is open at one of them.
 ghost use Rattle.std.specs.Prelude.{◌≡◌, ◌<◌, ◌≤◌, [], false, length, string_bytes, true, None, IfErr, IfOk, IfSome};
 ghost use Rattle.rb_journal.specs.Host.{Only};
 ghost use Rattle.rb_journal.specs.Calls.{content_of, output_of, leaves, left_since, faults_of};
@@ -7,17 +12,23 @@ ghost use Rattle.rb_journal.specs.CallLaws.{now_counts, now_alone};
 ghost use Rattle.rb_journal.specs.Disk.{IsAskedFor, disk_log};
 
 use crate::call_log::CallLog;
+use crate::named_file::{leads_to, open_above, read_locked, sync_folder, write_again};
 use crate::open_error::OpenError;
 use crate::{Host, HostError, calls};
 use std::fs::OpenOptions;
-use std::io::Read;
+use std::os::fd::{AsFd, AsRawFd};
 use std::os::unix::fs::FileExt;
 use std::rt::Files;
-use std::{fs, io};
+use std::time::{Clock, Duration};
+use std::{fs, io, thread};
+
+/// How long an output that isn't ready is waited for before it is tried again, in milliseconds.
+const NOT_READY: u64 = 1;
 
 /// A host with a file of the system and an output. It keeps a log of its calls.
 #[derive(Drop)]
-pub struct Disk<P> {
+pub struct Disk<R, P> {
+    rt: R,
     file: fs::File,
     /// The name that the file was opened by.
     pub path: String,
@@ -26,7 +37,7 @@ pub struct Disk<P> {
     log: CallLog,
 }
 
-impl<P> Disk<P> {
+impl<R, P> Disk<R, P> {
     /// The system's error of the file's last call, if that failed.
     pub fn error(&self) -> Option<io::Error> {
         self.failed
@@ -49,42 +60,25 @@ impl<P> Disk<P> {
     }
 }
 
-/// Opens the file of this name, or makes it, if a new one is asked for.
+/// Opens the file of this name, or makes it, if a new one is asked for; above the descriptors of the standard streams.
 fn open_file<R: Files<File = fs::File>>(rt: &R, path: &str, new: bool) -> io::Result<fs::File> {
-    OpenOptions::new()
-        .read(true)
-        .write(true)
-        .create(new)
-        .open(rt, path)
+    let mut how = OpenOptions::new();
+    how.read(true).write(true).create(new);
+    open_above(rt, &how, path)
 }
 
-/// Locks a file in this folder against other processes, and reads its bytes. What an earlier process wrote is on the
-/// disk before it is read.
-fn read_locked<R: Files<File = fs::File> + AllocGlobal>(
-    rt: &R,
-    folder: &str,
-    file: &mut fs::File,
-) -> io::Result<Vec<u8>> {
-    file.try_lock()?;
-    file.sync_all()?;
-    fs::File::open(rt, folder)?.sync_all()?;
-    let mut bytes = Vec::new(rt.alloc());
-    file.read_to_end(&mut bytes)?;
-    Ok(bytes)
-}
-
-/// Opens the file of this name, which is in this folder, locks it against other processes, and reads its bytes. If a
-/// new file is asked for, it is made, unless it is there and empty.
+/// Opens the file of this name, locks it against other processes, and reads its bytes, all of which are on the disk
+/// then, as is the file's name. If a new file is asked for, it is made, unless it is there and empty.
 ///
 /// Errors: `NoFile` if it isn't there, and no new one is asked for; `NotEmpty` if a new one is asked for, and it is
-/// there with bytes in it; else the system's, `WouldBlock` if another process has the file.
-pub fn open_disk<R: Files<File = fs::File> + AllocGlobal, P: Print + Drop>(
+/// there with bytes in it; else the system's, `WouldBlock` if another process has the file, or `InvalidInput` if a
+/// standard stream or the output is the file.
+pub fn open_disk<R: Files<File = fs::File> + Clock + AllocGlobal + Copy, P: Print + AsFd + Drop>(
     rt: &R,
-    folder: &str,
     path: &str,
     new: bool,
     out: P,
-) -> Result<(Disk<P>, Vec<u8>), OpenError>
+) -> Result<(Disk<R, P>, Vec<u8>), OpenError>
     ensures usable { IfOk result (λ r. faults_of (disk_log r.0) ≡ 0) }
     ensures content { IfOk result (λ r. content_of (disk_log r.0) ≡ r.1.items) }
     ensures durable { IfOk result (λ r. Only r.1.items (leaves (disk_log r.0))) }
@@ -103,35 +97,42 @@ pub fn open_disk<R: Files<File = fs::File> + AllocGlobal, P: Print + Drop>(
             return Err(OpenError::Failed(error));
         }
     };
-    let path = String::from_str(rt.alloc(), path)?;
-    let bytes = read_locked(rt, folder, &mut file)?;
+    let bytes = read_locked(rt, &mut file, out.as_fd().as_raw_fd())?;
     if new && !bytes.is_empty() {
         return Err(OpenError::NotEmpty);
     }
+    write_again(&file, &bytes)?;
+    sync_folder(rt, path)?;
     let log = calls::found(&bytes);
     let failed = None;
-    Ok((
-        Disk {
-            file,
-            path,
-            out,
-            failed,
-            log,
-        },
-        bytes,
-    ))
+    let disk = Disk {
+        rt: *rt,
+        file,
+        path: String::from_str(rt.alloc(), path)?,
+        out,
+        failed,
+        log,
+    };
+    Ok((disk, bytes))
 }
 
-fn put_out<P: Print>(out: &P, bytes: &[u8]) -> Option<usize>
+/// Puts out some of the bytes, and says how many: `None` if the output failed. One that isn't ready is waited for.
+fn put_out<C: Clock, P: Print>(clock: &C, out: &P, bytes: &[u8]) -> Option<usize>
     ensures { IfSome result (λ n. (0 < n) × (n ≤ length bytes.now)) }
 {
-    match out.write_some(bytes) {
-        Ok(n) if n > 0 => Some(n),
-        _ => None,
+    for _ in 0..u64::MAX {
+        match out.write_some(bytes) {
+            Ok(n) if n > 0 => return Some(n),
+            Err(error) if error.kind() == io::ErrorKind::WouldBlock => {
+                thread::sleep(clock, Duration::from_millis(NOT_READY));
+            }
+            _ => return None,
+        }
     }
+    None
 }
 
-impl<P: Print> Host for Disk<P> {
+impl<R: Files<File = fs::File> + Clock, P: Print> Host for Disk<R, P> {
     ghost is_usable = { λ h. faults_of h.log.events ≡ 0 };
 
     ghost content = { λ h. content_of h.log.events };
@@ -151,7 +152,15 @@ impl<P: Print> Host for Disk<P> {
     ghost only_now = { λ h c d left. now_alone h.log.events c d left };
 
     fn write_at(&mut self, at: usize, bytes: &[u8]) -> Result<(), HostError> {
-        let done = self.file.write_all_at(bytes, at as u64);
+        // The byte that opens a gate is written alone. The file has to be the one that the next start opens.
+        let there = match bytes.len() {
+            1 => leads_to(&self.rt, self.path.as_str(), &self.file),
+            _ => Ok(()),
+        };
+        let done = match there {
+            Ok(()) => self.file.write_all_at(bytes, at as u64),
+            Err(error) => Err(error),
+        };
         let ok = self.is_done(done);
         calls::wrote(&mut self.log, at, bytes, ok)
     }
@@ -173,7 +182,7 @@ impl<P: Print> Host for Disk<P> {
     }
 
     fn put_out(&mut self, bytes: &[u8]) -> Result<usize, HostError> {
-        let count = put_out(&self.out, bytes);
+        let count = put_out(&self.rt, &self.out, bytes);
         calls::output(&mut self.log, bytes, count)
     }
 }

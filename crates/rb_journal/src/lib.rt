@@ -19,6 +19,7 @@ mod group;
 mod host;
 mod journal;
 mod memory;
+mod named_file;
 mod no_answer;
 mod open_error;
 mod responder;

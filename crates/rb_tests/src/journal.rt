@@ -28,12 +28,13 @@ fn committed(
     }
 }
 
-// The same on a file of the system, which is opened and closed. Answers whether it could not be opened twice.
-fn committed_on_disk(rt: &HostRuntime, batch: &[u8]) -> Result<bool, Fail> {
-    let (host, bytes) = open_disk(rt, FOLDER, PATH, rt.stdout())?;
+// The same on a file of the system, a new one or not, which is opened and closed. Answers whether it could not be
+// opened twice.
+fn committed_on_disk(rt: &HostRuntime, new: bool, batch: &[u8]) -> Result<bool, Fail> {
+    let (host, bytes) = open_disk(rt, PATH, new, rt.stdout())?;
     match Journal::open(host, &bytes) {
         Ok(mut journal) => {
-            let refused = open_disk(rt, FOLDER, PATH, rt.stdout()).is_err();
+            let refused = open_disk(rt, PATH, false, rt.stdout()).is_err();
             if end_of_lines(batch) == batch.len() {
                 journal.commit_and_put_out(batch, b"kept\n")?;
             }
@@ -84,13 +85,17 @@ fn a_batch_of_two_lines_is_added_and_then_put_out(rt: HostRuntime) -> Result<(),
 fn a_file_of_the_system_keeps_its_lines(rt: HostRuntime) -> Result<(), Fail> {
     let _ = fs::remove_dir_all(&rt, FOLDER);
     fs::create_dir(&rt, FOLDER)?;
-    holds(&rt, "not opened twice", committed_on_disk(&rt, b"{a}\n")?);
+    holds(
+        &rt,
+        "not opened twice",
+        committed_on_disk(&rt, true, b"{a}\n")?,
+    );
     equal(&rt, fs::read(&rt, PATH)?.as_slice(), b"{a}\n ".as_slice());
     fs::write(&rt, PATH, b"{a}\n\0torn}\n ".as_slice())?;
     holds(
         &rt,
         "not opened twice",
-        committed_on_disk(&rt, b"{b}\n{c}\n")?,
+        committed_on_disk(&rt, false, b"{b}\n{c}\n")?,
     );
     equal(
         &rt,

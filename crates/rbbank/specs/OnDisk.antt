@@ -46,22 +46,22 @@ IsUnopened is_new (Err Journal) = Unit {0}
 IsUnopened is_new (Err OutOfMemory) = Unit {0}
 IsUnopened is_new _ = ⊥
 
-module _ {P : Type 0} where
+module _ {R P : Type 0} where
   -- the file that the disk has
-  abbrev pub file_of : Disk P → List ℕ
+  abbrev pub file_of : Disk R P → List ℕ
   file_of disk = content_of (disk_log disk)
 
   -- how many calls were made of it
-  abbrev pub moment_of : Disk P → ℕ
+  abbrev pub moment_of : Disk R P → ℕ
   moment_of disk = length (disk_log disk)
 
   -- what a crash may have left of it since a moment
-  abbrev pub crash_left_of : Disk P → ℕ → List ℕ → List ℕ → Type 0
+  abbrev pub crash_left_of : Disk R P → ℕ → List ℕ → List ℕ → Type 0
   crash_left_of disk = left_since (disk_log disk)
 
   -- the file of this name is just opened: no call failed, nothing was put out, and what it has is on the disk; a new one
   -- has nothing
-  pub record IsOpened (name : List ℕ) (is_new : Bool) (disk : Disk P) : Type 0 where
+  pub record IsOpened (name : List ℕ) (is_new : Bool) (disk : Disk R P) : Type 0 where
     pub path : string_bytes disk.path ≡ name
     pub new : is_new ≡ true → file_of disk ≡ []
     pub usable : faults_of (disk_log disk) ≡ 0
@@ -70,9 +70,9 @@ module _ {P : Type 0} where
 
   -- site `me` ran over the file of this name: it answered the lines behind the configuration, or stopped in the opening,
   -- as the promises of a site's run have it
-  pub record HasRunOn (me most : ℕ) (name : List ℕ) (is_new : Bool) (input left : Option (List ℕ)) (disk : Disk P)
+  pub record HasRunOn (me most : ℕ) (name : List ℕ) (is_new : Bool) (input left : Option (List ℕ)) (disk : Disk R P)
       (ended : Result ℕ SiteFault) : Type 0 where
-    pub start : Disk P
+    pub start : Disk R P
     pub opened : IsOpened name is_new start
     pub ended_as : RunsTo
         (λ end. AnswersBehind me most input left (recovered (file_of start)) [] (recovered (file_of disk)) (output_of (disk_log disk)) end
@@ -85,7 +85,7 @@ module _ {P : Type 0} where
         ⊎ IsFullBehind me input (recovered (file_of start))
 
   -- the file wasn't opened, and nothing was read; or the site ran over it
-  abbrev pub IsRunOn : ℕ → List ℕ → Bool → Option ℕ → Option (List ℕ) → Option (List ℕ) → Option (Disk P) → Result ℕ SiteFault → Type 0
+  abbrev pub IsRunOn : ℕ → List ℕ → Bool → Option ℕ → Option (List ℕ) → Option (List ℕ) → Option (Disk R P) → Result ℕ SiteFault → Type 0
   IsRunOn me name is_new resend input left None ended = (left ≡ input) × IsUnopened is_new ended
   IsRunOn me name is_new resend input left (Some disk) ended = HasRunOn me (most_of resend) name is_new input left disk ended
 

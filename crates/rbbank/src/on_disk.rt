@@ -19,18 +19,9 @@ use std::process::ExitCode;
 /// or why the run stopped; and the status that the program ends with.
 #[derive(Drop)]
 pub struct RanOnDisk {
-    pub disk: Option<Disk<Stdout>>,
+    pub disk: Option<Disk<HostRuntime, Stdout>>,
     pub ended: Result<u64, SiteFault>,
     pub code: ExitCode,
-}
-
-/// The folder of a file.
-fn folder_of(path: &str) -> &str {
-    match path.rsplit_once('/') {
-        Some(("", _)) => "/",
-        Some((folder, _)) => folder,
-        None => ".",
-    }
 }
 
 /// Why a journal isn't opened.
@@ -127,7 +118,7 @@ pub fn run_on_disk<S: Source>(
     ensures read { result.ended ≡ Err NotRead → (S.failed reader.new ≡ true) ⊎ (S.calls reader.new ≡ MOST_READS) }
     ensures calls { S.calls reader.new ≤ MOST_READS }
 {
-    match open_disk(rt, folder_of(journal), journal, is_new, rt.stdout()) {
+    match open_disk(rt, journal, is_new, rt.stdout()) {
         Ok((disk, bytes)) => {
             let Ran { host, ended } = run_site(
                 rt.alloc(),
