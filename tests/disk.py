@@ -1,7 +1,7 @@
 #!/usr/bin/env python3
 """Runs a site on a real file, and has each of its calls of the system fail, be cut short or be its last, in turn.
 
-usage: disk.py [--quiet] [--lost-pages] PROGRAM      (--quiet prints only what failed; it wants a C compiler, cc)
+usage: disk.py [--quiet] PROGRAM      (--quiet prints only what failed; it wants a C compiler, cc)
 
 A small library (fault_nth.c) is loaded before the C library. It counts each open, lock, read, write, sync and cut of
 the journal and of its folder, and each read of the input and write of the output, and writes all of them down. Some
@@ -17,18 +17,19 @@ their calls, in turn: is refused (EIO, ENOSPC), is done in part or whole and ref
   a start on it       goes on to the very journal, and the very answers, that there are without a fault; `rbbank audit`
                       takes the journal. It is started on the file as it is, on what was synced of it, and on that with
                       some of the writes that no sync followed, whole or in part
+  a sync that failed  may lose what it should have brought to the disk, though it can still be read: the next start
+                      writes it again before it reports anything that rests on it
   the lock            was taken before the file was read; a second process on it is refused
 
-By these the test tells the program from four that differ from it in `Disk` of crates/rb_journal/src/disk.rt, whose
-calls no clause can see. Each was built by `rt try` from a copy, and failed here (not run by the gate):
+By these the test tells the program from four that differ from it in disk.rt or named_file.rt of crates/rb_journal/src,
+whose calls no clause can see. Each was built by `rt try` from a copy, and failed here (not run by the gate):
 
   short write taken as whole       `self.file.write_at(bytes, at as u64).is_ok()` in `write_at`
-  failed read is a short journal   `let _ = file.read_to_end(&mut bytes);` in `open_disk`
+  failed read is a short journal   `let _ = file.read_to_end(&mut bytes);` in `read_locked`
   disk never syncs                 `sync` is always true, `cut` doesn't sync, `open_disk` neither
-  no lock                          `open_disk` without `file.try_lock()?`
+  no lock                          `read_locked` without `file.try_lock()?`
 
---lost-pages also takes it that a sync that failed loses what it should have brought to the disk, though it can still be
-read: the next start has to write it again before it reports anything that rests on it.
+The program from before a start wrote again what it read failed too.
 """
 import argparse
 import concurrent.futures
@@ -269,7 +270,7 @@ class Script:
 
     # ---- what has to hold
 
-    def look(self, nth, call, fault, pick, pages_lost):
+    def look(self, nth, call, fault, pick):
         """Runs a case, and looks at all that has to hold of it."""
         ran = self.program.run(self.me, self.before, self.parts, self.resend, nth, fault)
         # The call that it was: a read of the input may bring less than it did before.
@@ -286,7 +287,7 @@ class Script:
         for left in dict.fromkeys([ran.journal, disk.left(), *(disk.torn(pick) for _ in range(TORN))]):
             if left is not None or not told:
                 self.goes_on(left, self.reported(told))
-        if pages_lost and call.name in SYNCS and fault.error and not fault.done:
+        if call.name in SYNCS and fault.error and not fault.done:
             self.look_at_lost_pages(ran)
 
     def look_at_end(self, ran, call, fault):
@@ -423,7 +424,7 @@ def used_twice(program):
         return fine and same and line and rest.startswith(b'{"reply":{"balance":600}')
 
 
-def results(program, pages_lost):
+def results(program):
     """Each case, with what is wrong with it (None: nothing)."""
     yield "a second process", None if used_twice(program) else "it isn't refused"
     with concurrent.futures.ThreadPoolExecutor(os.cpu_count()) as pool:
@@ -432,7 +433,7 @@ def results(program, pages_lost):
                 nth, call, fault = case
                 name = f"{script.name}: call {nth}, {call.name} of {call.asked}: {fault.what}"
                 try:
-                    script.look(nth, call, fault, random.Random(nth), pages_lost)
+                    script.look(nth, call, fault, random.Random(nth))
                 except (Failed, OSError, ValueError, IndexError, subprocess.TimeoutExpired) as why:
                     return name, f"{why}"
                 return name, None
@@ -443,14 +444,13 @@ def main():
     reader = argparse.ArgumentParser(description=__doc__, formatter_class=argparse.RawDescriptionHelpFormatter)
     reader.add_argument("program", metavar="PROGRAM", help="a built rbbank")
     reader.add_argument("--quiet", action="store_true", help="print only what failed")
-    reader.add_argument("--lost-pages", action="store_true", help="a sync that failed loses what it should have kept")
     asked = reader.parse_args()
     if not os.access(asked.program, os.X_OK) or os.path.isdir(asked.program):
         reader.error(f"{asked.program}: no program")
     begun, count, wrong = time.monotonic(), Counter(), 0
     with tempfile.TemporaryDirectory(prefix="disk-") as folder:
         try:
-            for name, why in results(Program(asked.program, folder), asked.lost_pages):
+            for name, why in results(Program(asked.program, folder)):
                 count[name.split(":")[0]] += 1
                 wrong += why is not None
                 if why is not None:
