@@ -30,7 +30,7 @@ pub enum Words<'a> {
         seed: u32,
     },
     /// To run this site, 0 to `MOST_SITES` - 1, whose history is kept in this file, which is made if it is a new one.
-    /// The messages of its last `resend` entries, 0 to `MOST_HISTORY`, are written again first, or those of all entries.
+    /// The messages of its last `resend` entries, 0 to `MOST_HISTORY`, are written again first, or those of all.
     Site {
         me: u8,
         journal: &'a str,

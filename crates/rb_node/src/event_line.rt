@@ -171,13 +171,13 @@ impl Node {
     /// Answers the line of an event: its answer, `{"reply":R,"sends":[M..],"then":[A..]}`, is added to the answers with
     /// a line feed, and the lines of the entries that it recorded to the entries, each with a line feed. R is the
     /// reply, each M a message that was sent, as the event's line of the sites that it goes to, and each A the reply of
-    /// an application that followed: whatever is held and ready is applied, by home, of one home the blue ones before the
-    /// red ones, and of one colour by number, until nothing is ready or the history is full.
+    /// an application that followed: whatever is held and ready is applied, by home, of one home the blue ones before
+    /// the red ones, and of one colour by number, until nothing is ready or the history is full.
     ///
-    /// Errors: `BadLine` if the line is no event, and nothing has changed then; a line that isn't UTF-8 takes no memory,
-    /// and is always that. `OutOfMemory`, after which nothing more may be asked of the site: it may come with any other
-    /// line, as the JSON reader may want memory for it, and what is written may. Each leaves answers and entries as they
-    /// were.
+    /// Errors: `BadLine` if the line is no event, and nothing has changed then; a line that isn't UTF-8 takes no
+    /// memory, and is always that. `OutOfMemory`, after which nothing more may be asked of the site: it may come with
+    /// any other line, as the JSON reader may want memory for it, and what is written may. Each leaves answers and
+    /// entries as they were.
     pub fn answer(
         &mut self,
         line: &[u8],
