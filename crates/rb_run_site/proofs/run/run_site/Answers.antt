@@ -97,8 +97,8 @@ returns-in-Ok-clause-journal g c = λ failed.
     (opens g (goal.at.returns-in-Ok-clause-journal g c).After-run_opened) is.2 full))
     (c.run_opened.ensures.journal failed)
 
-pub returns-clause-ended : goal.returns-clause-ended
-returns-clause-ended g c =
+pub returns-in-Err-clause-ended : goal.returns-in-Err-clause-ended
+returns-in-Err-clause-ended g c =
     let host = g.H.Host in
     let was = c.args.host in
     let input = g.S.Source.remaining c.args.reader.now in
@@ -109,18 +109,18 @@ returns-clause-ended g c =
     (λ why. (was ≡ was) × IsOpeningCause c.args.me input left file why) c.in-Err.fault c.in-Err.ensures.only
     (refl, subst (λ f. IsOpeningCause c.args.me input left f c.in-Err.fault) c.deref.ensures.value c.in-Err.ensures.cause)
 
-pub returns-clause-any_moment : goal.returns-clause-any_moment
-returns-clause-any_moment g c =
+pub returns-in-Err-clause-any_moment : goal.returns-in-Err-clause-any_moment
+returns-in-Err-clause-any_moment g c =
     let host = g.H.Host in
     let input = g.S.Source.remaining c.args.reader.now in
     started host.moment host.left_since c.args.host
     (IsSiteRun c.args.me c.args.resend input (recovered c.args.bytes.items) (host.output c.args.host))
-    (λ f d left. inl (still g (goal.at.returns-clause-any_moment g c).After-open_site f d left))
+    (λ f d left. inl (still g (goal.at.returns-in-Err-clause-any_moment g c).After-open_site f d left))
 
-pub returns-clause-steps : goal.returns-clause-steps
-returns-clause-steps g c =
+pub returns-in-Err-clause-steps : goal.returns-in-Err-clause-steps
+returns-in-Err-clause-steps g c =
     let host = g.H.Host in
     let input = g.S.Source.remaining c.args.reader.now in
     started host.moment host.left_since c.args.host
     (IsRunOfSteps c.args.me c.args.resend input (recovered c.args.bytes.items) (host.output c.args.host))
-    (λ f d left. inl (still g (goal.at.returns-clause-steps g c).After-open_site f d left))
+    (λ f d left. inl (still g (goal.at.returns-in-Err-clause-steps g c).After-open_site f d left))
