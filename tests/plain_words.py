@@ -52,7 +52,8 @@ WORDS = [
     ("that there isn't", r"\b(?:that|which) there (?:isn't|aren't)\b", "that doesn't exist", 0, 2, 0, 0, None),
     (".. neither", rf"\bneither(?:{CLOSED})", "nor", 0, 1, 0, 2, None),
     ("What it .. is", r"(?:^|[.;:|] )(?:What|Who|Whoever) (?!if\b)\w+", "a noun", 0, 236, 56, 122, None),
-    ("a page has", r"(?:\.md|\b(?:page|table|file|folder|column)s?) (?:has|have)\b", "contains", 0, 8, 14, 1, None),
+    ("a page has", r"(?:\.md|\b(?:page|table|file|folder|column)s?) (?:has|have)\b(?! to\b)", "contains", 0, 8, 14, 1,
+     None),
 ]
 
 # each page, or all of a pattern, with the most words that it may have (None: any number), and the most that its
@@ -68,7 +69,7 @@ PAGES = {
     "docs/ARCHITECTURE.md": (1500, 17),
     "docs/CHANGING.md": (2500, 17),
     "docs/DECISIONS.md": (2000, 18),
-    "docs/FORMAT.md": (3400, 19),
+    "docs/FORMAT.md": (3500, 19),
     "docs/PROVED.md": (3500, 19),
     "docs/RUNNING.md": (1200, 16),
     "docs/TUTORIAL.md": (2100, 15),
