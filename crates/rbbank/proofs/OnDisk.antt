@@ -1,5 +1,5 @@
 -- A site over a file of the operating system: the run, or why none began.
-use Rattle.std.proofs.Common.{◌≡◌, Bool, Err, inl, inr}
+use Rattle.std.proofs.Common.{Bool, Err}
 use Rattle.std.specs.IoError.{error_kind}
 use Rattle.std.specs.declared.io.ErrorKind.{ErrorKind}
 use Rattle.std.specs.declared.io.ErrorKind.TheVariants.{WouldBlock, OutOfMemory as NoMemory}

@@ -15,8 +15,8 @@ use std::io;
 use std::io::Stdout;
 use std::process::ExitCode;
 
-/// The outcome of a site over a file: the file and standard output, if the file was opened; how many lines were answered,
-/// or why the run stopped; and the status that the program ends with.
+/// The outcome of a site over a file: the file and standard output, if the file was opened; how many lines were
+/// answered, or why the run stopped; and the status that the program ends with.
 #[derive(Drop)]
 pub struct RanOnDisk {
     pub disk: Option<Disk<HostRuntime, Stdout>>,
@@ -100,8 +100,8 @@ fn most_resent(resend: Option<u32>) -> usize
     }
 }
 
-/// Runs a site from this reader to standard output, over its journal on the disk, which is made if it is a new one. What
-/// the last `resend` entries of it sent is put out again, or what all of them sent.
+/// Runs a site from this reader to standard output, over its journal on the disk, which is made if it is a new one.
+/// What the last `resend` entries of it sent is put out again, or what all of them sent.
 pub fn run_on_disk<S: Source>(
     rt: &HostRuntime,
     reader: &mut S,
