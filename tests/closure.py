@@ -427,21 +427,24 @@ def known(things):
 
 
 def lemmas(things):
-    """Says which files of proofs/ but for those of proofs/Public are open to other crates, and which of these none
-    cites."""
+    """Says which files of proofs/ but for Public.antt, or those of proofs/Public, are open to other crates, and which
+    of these none cites."""
     wrong, cited = [], set()
     for crate in things.crates:
         for folder, kind in (("src", "rt"), ("specs", "antt"), ("proofs", "antt")):
             for file in files(crate, folder, kind):
-                found = re.findall(r"Rattle\.(\w+)\.proofs\.Public\.(\w+)", read("crates", crate, file))
-                cited.update(it for it in found if it[0] != crate)
+                found = re.findall(r"Rattle\.(\w+)\.proofs\.(Public(?:\.\w+)?)", read("crates", crate, file))
+                cited.update((it, path.replace(".", "/")) for it, path in found if it != crate)
     for crate in things.crates:
         for file in files(crate, "proofs", "antt"):
             if file == "proofs/Lib.antt":
                 opened = re.findall(r"(?m)^pub mod (?!Public$)(\w+)", read("crates", crate, file))
                 wrong += [f"crates/{crate}/proofs/{it}.antt: only the files of proofs/Public are open to other crates"
                           for it in opened]
-            if file.startswith("proofs/Public/") and (crate, os.path.basename(file)[:-5]) not in cited:
+            module = file[len("proofs/"):-len(".antt")]
+            if not module.startswith("Public") or "pub mod" in read("crates", crate, file):
+                continue
+            if (crate, module) not in cited:
                 wrong.append(f"crates/{crate}/{file}: no other crate cites it")
     return wrong
 

@@ -95,9 +95,7 @@ impl<E: Entries, R: Ledger> Closed<E, R> {
         let Ok((reports, given, missing)) = self.take_in(seats) else {
             return Err(GatherFault::OutOfMemory);
         };
-        if let Err(fault) = look_at_all(alloc, reports.as_slice(), given.as_slice(), missing) {
-            return Err(fault);
-        }
+        look_at_all(alloc, reports.as_slice(), given.as_slice(), missing)?;
         Ok(reports)
     }
 
@@ -167,9 +165,7 @@ fn look_at_all(
 {
     for k in 0..reports.len() {
         let report = &reports[k];
-        if let Err(fault) = look_at(alloc, report, k, seats, missing) {
-            return Err(fault);
-        }
+        look_at(alloc, report, k, seats, missing)?;
     }
     Ok(())
 }
@@ -215,9 +211,7 @@ fn first_fault(
     ensures first { IfErr result (IsFirst reports.now seats.now) }
 {
     for k in 0..found.len() {
-        if let Err(fault) = found[k] {
-            return Err(fault);
-        }
+        found[k]?;
     }
     Ok(())
 }

@@ -71,6 +71,7 @@ impl<E: Entries, R: Ledger, G: Gate + Drop> Branch<E, R, G> {
             };
             first = next;
         }
+        // The rounds of `forever` have no end.
         unreachable!()
     }
 

@@ -18,7 +18,7 @@ use Rattle.rb_ledger.specs.Checks.{refusal_of_sound}
 use Rattle.rb_ledger.specs.Valid.{IsValid}
 use Rattle.rb_ledger.proofs.Public.Legal.{IsValid-none, IsValid-push, taken_rightly}
 use Rattle.rb_ledger.proofs.Public.ValidClocks.{clock_is_clock}
-use Rattle.rb_inbox.proofs.Public.Holding.{held_cases, kept_among}
+use Rattle.rb_inbox.proofs.Public.{held_cases, kept_among}
 use Rattle.rb_scratch.specs.Batches.{batch_of}
 use Rattle.rb_scratch.specs.Requests.{Plan, made_of, operation_of}
 use Rattle.rb_scratch.specs.declared.request.Request.{Request}

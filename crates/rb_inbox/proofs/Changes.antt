@@ -11,7 +11,7 @@ use Rattle.rb_shadow.specs.declared.shadow.Shadow.{Shadow}
 use Rattle.rb_inbox.specs.Held.{Holding, IsNumbered, held_before, index_in_row, comes_before, with_held, without}
 use Rattle.rb_inbox.specs.Rows.{AreCounted, AreHeldRows, IsHeldRow, held_of}
 use Rattle.rb_inbox.proofs.Order.{found_within, holding, in_order-filter, in_order-with_held, insert-index, remove-index}
-use Rattle.rb_inbox.proofs.Public.Holding.{held_cases, kept_among}
+use Rattle.rb_inbox.proofs.Public.{held_cases, kept_among}
 use Rattle.rb_inbox.proofs.Rows.{find_in_row, held-change, held-length, held-more, is_of, putting, removing, row_at, row_is, rows-more}
 use Rattle.rb_inbox.proofs.Rows.{rows-set}
 

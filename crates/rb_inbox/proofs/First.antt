@@ -15,7 +15,7 @@ use Rattle.rb_inbox.specs.Held.{IsFirstOf, IsFirstReady, IsInOrder, IsNumbered, 
 use Rattle.rb_inbox.specs.Rows.{AreHeldRows, IsFirstBlue, IsHeldRow, NoBlue, earlier_home, held_of}
 use Rattle.rb_inbox.proofs.Changes.{row_within}
 use Rattle.rb_inbox.proofs.Order.{Among-more, later_there}
-use Rattle.rb_inbox.proofs.Public.Holding.{home_before}
+use Rattle.rb_inbox.proofs.Public.{home_before}
 use Rattle.rb_inbox.proofs.Readiness.{among_row, held_there}
 use Rattle.rb_inbox.proofs.Rows.{is_of, row_at, row_is}
 

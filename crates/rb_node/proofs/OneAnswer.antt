@@ -5,7 +5,7 @@ use Rattle.std.proofs.lemmas.List.{append_cancel_left}
 use Rattle.rb_money.specs.Settings.{Settings}
 use Rattle.rb_shadow.specs.Operations.{clock_of}
 use Rattle.rb_shadow.specs.declared.op_name.OpName.{OpName}
-use Rattle.rb_inbox.proofs.Public.Holding.{first_is_one}
+use Rattle.rb_inbox.proofs.Public.{first_is_one}
 use Rattle.rb_site.specs.declared.event.Event.{Event}
 use Rattle.rb_site.specs.declared.event.Event.TheVariants.{Apply}
 use Rattle.rb_site.specs.Events.{ModelSite, after_event, after_events, is_full, replies_to_events, reply_to, sent_at}

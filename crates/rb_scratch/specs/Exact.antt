@@ -2,7 +2,7 @@
 use Rattle.std.specs.Prelude.{◌≡◌, ◌↔◌, true, IsTrue}
 use Rattle.std.proofs.Common.{refl, sym, true≢false}
 use Rattle.std.proofs.lemmas.Bool.{and_from as both, and_parts as each}
-use Rattle.rb_kit.proofs.Public.Exact.{exact_if}
+use Rattle.rb_kit.proofs.Public.{exact_if}
 use Rattle.rb_money.proofs.Public.Tests.{number_same, number_sound}
 use Rattle.rb_shadow.specs.Exact.{names_exact, place_sound}
 use Rattle.rb_scratch.specs.contracts.request.RequestPartialEq.TheImpl.{ghosts as request_test}

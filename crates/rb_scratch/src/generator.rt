@@ -190,10 +190,7 @@ fn operation(ledger: &Ledger, me: u8, effect: Effect) -> Result<Shadow, Refusal>
         (operation_of me ledger.now.entries (plan_of_effect effect)).name
         < number_of (operation_of me ledger.now.entries (plan_of_effect effect)).name)) }
 {
-    let name = match name_after(ledger, me, effect.colour) {
-        Ok(name) => name,
-        Err(why) => return Err(why),
-    };
+    let name = name_after(ledger, me, effect.colour)?;
     Ok(Shadow {
         name,
         home: me,
@@ -214,9 +211,7 @@ fn permit_red(ledger: &Ledger, token: &TokenView, shadow: &Shadow) -> Result<(),
         (λ _. allowed_red ledger.now.settings ledger.now.entries known shadow.now ≡ Ok shadow.now)
         (λ why. allowed_red ledger.now.settings ledger.now.entries known shadow.now ≡ Err why) }
 {
-    if let Err(why) = token.may_red(ledger.clock()) {
-        return Err(why);
-    }
+    token.may_red(ledger.clock())?;
     if shadow.kind.target().is_none() {
         return Ok(());
     }
@@ -250,14 +245,9 @@ pub(crate) fn carry_out(
 {
     let sites = ledger.config().sites();
     prove!(token.me < sites);
-    let shadow = match operation(ledger, token.me, effect) {
-        Ok(shadow) => shadow,
-        Err(why) => return Err(why),
-    };
+    let shadow = operation(ledger, token.me, effect)?;
     if let Colour::Red = effect.colour {
-        if let Err(why) = permit_red(ledger, token, &shadow) {
-            return Err(why);
-        }
+        permit_red(ledger, token, &shadow)?;
     }
     Ok(shadow)
 }
@@ -281,9 +271,6 @@ pub fn generate(ledger: &Ledger, token: &TokenView, request: &Request) -> Result
         request.now) }
     ensures original { IfOk result (λ made. DoesOriginal ledger.now.settings ledger.now.entries request.now made) }
 {
-    let effect = match decide(ledger, request) {
-        Ok(effect) => effect,
-        Err(why) => return Err(why),
-    };
+    let effect = decide(ledger, request)?;
     carry_out(ledger, token, effect)
 }

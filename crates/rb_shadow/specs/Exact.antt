@@ -2,7 +2,7 @@
 use Rattle.std.specs.Prelude.{◌≡◌, ◌↔◌, true, refl, IsTrue, ◌==◌}
 use Rattle.std.proofs.Common.{sym, true≢false}
 use Rattle.std.proofs.lemmas.Bool.{and_from as both, and_parts as each}
-use Rattle.rb_kit.proofs.Public.Exact.{exact_if}
+use Rattle.rb_kit.proofs.Public.{exact_if}
 use Rattle.rb_money.proofs.Public.Tests.{number_same, number_sound, same_place}
 use Rattle.rb_money.specs.declared.place.Place.{Place}
 use Rattle.rb_shadow.specs.contracts.label.LabelPartialEq.TheImpl.{ghosts as label_test}

@@ -23,7 +23,7 @@ use Rattle.rb_shadow.specs.declared.shadow.Shadow.{Shadow}
 use Rattle.rb_ledger.proofs.Public.ValidClocks
 use Rattle.rb_ledger.specs.Checks.{refusal_of, refusal_of_sound}
 use Rattle.rb_ledger.specs.Valid.{IsValid}
-use Rattle.rb_inbox.proofs.Public.Holding.{held_cases, kept_among}
+use Rattle.rb_inbox.proofs.Public.{held_cases, kept_among}
 use Rattle.rb_shadow.proofs.Public.Lookups
 use Rattle.rb_inbox.specs.Held.{Holding, IsInConflict, IsReady, IsTooMany, IsWelcome, index_in_row, with_held, without}
 use Rattle.rb_scratch.specs.Requests.{made_of}

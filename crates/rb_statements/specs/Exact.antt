@@ -4,7 +4,7 @@ use Rattle.std.specs.Bool.{beq}
 use Rattle.std.proofs.Common.{refl, sym, true≢false}
 use Rattle.std.proofs.lemmas.Bool.Decides.{Decides-int_eq}
 use Rattle.std.proofs.lemmas.Bool.{and_from as both, and_parts as each}
-use Rattle.rb_kit.proofs.Public.Exact.{exact_if}
+use Rattle.rb_kit.proofs.Public.{exact_if}
 use Rattle.rb_money.proofs.Public.Tests.{number_same, number_sound}
 use Rattle.rb_shadow.specs.Exact.{labels_exact, names_exact}
 use Rattle.rb_statements.specs.contracts.row.RowPartialEq.TheImpl.{ghosts as row_test}

@@ -29,10 +29,7 @@ pub fn commands(
 {
     let mut events = Vec::new(alloc);
     for line in script.lines().skip(1).skip(past).take(most) {
-        let event = match read_command(alloc, config, line) {
-            Ok(event) => event,
-            Err(fault) => return Err(fault),
-        };
+        let event = read_command(alloc, config, line)?;
         match events.push(event) {
             Ok(()) => {}
             Err(_) => return Err(LineFault::OutOfMemory),

@@ -25,7 +25,7 @@ use Rattle.rb_ledger.proofs.Public.ValidClocks
 use Rattle.rb_token.specs.declared.message.TokenMessage.{TokenMessage}
 use Rattle.rb_token.specs.Token.{Token}
 use Rattle.rb_inbox.specs.Held.{with_held, without}
-use Rattle.rb_inbox.proofs.Public.Holding.{kept_among, held_cases}
+use Rattle.rb_inbox.proofs.Public.{kept_among, held_cases}
 use Rattle.rb_scratch.specs.Requests.{Plan, next_name, operation_of}
 use Rattle.rb_scratch.proofs.Public.Made.{IsAllowed, IsMadeAt}
 use Rattle.rb_scratch.proofs.Public.Fits

@@ -60,10 +60,7 @@ pub fn entry(alloc: Global, config: &Config, value: &Value) -> Result<(u8, Entry
     let Some(site) = site_of(config, value) else {
         return Err(LineFault::Bad);
     };
-    let event = match event_of(alloc, config, value) {
-        Ok(event) => event,
-        Err(fault) => return Err(fault),
-    };
+    let event = event_of(alloc, config, value)?;
     let reply = reply_of(alloc, value)?;
     Ok((site, Entry { event, reply }))
 }

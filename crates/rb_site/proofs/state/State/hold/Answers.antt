@@ -2,7 +2,7 @@
 use Rattle.std.proofs.Common.{◌∙◌, ◌≤◌, Ok, Err, sym, ap, subst}
 use Rattle.rb_money.specs.Settings.{Settings}
 use Rattle.rb_money.specs.declared.limits.TheConstants.{MOST_SITES}
-use Rattle.rb_inbox.proofs.Public.Holding.{sound_numbered}
+use Rattle.rb_inbox.proofs.Public.{sound_numbered}
 use Rattle.rb_inbox.specs.Held.{Holding}
 use Rattle.rb_ledger.specs.Valid.{IsValid}
 use Rattle.rb_shadow.specs.Operations.{clock_of}
