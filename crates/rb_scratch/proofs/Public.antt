@@ -1,5 +1,6 @@
 -- What other crates cite.
 pub mod Batches
+pub mod Errors
 pub mod Fits
 pub mod Made
 pub mod Makes

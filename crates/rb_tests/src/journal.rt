@@ -1,6 +1,8 @@
 //! Lines on the disk: what a torn end leaves, batches, a file of the system.
 use crate::checks::{equal, holds};
-use rb_journal::{HostError, Journal, LineBatch, Memory, end_of_lines, is_line, open_disk};
+use rb_journal::{
+    HostError, Journal, LineBatch, Memory, damaged_line, end_of_lines, is_line, open_disk,
+};
 use std::alloc::{AllocError, Global};
 use std::fs;
 use std::test::Fail;
@@ -69,6 +71,24 @@ fn torn_tails_are_dropped(rt: HostRuntime) -> Result<(), Fail> {
         equal(&rt, journal.host.bytes(), b"{a}\n ".as_slice());
         let again = committed(alloc, journal.host.bytes(), b"", b"")?;
         equal(&rt, again.end, 4);
+    }
+    Ok(())
+}
+
+#[test]
+fn damaged_lines_are_found(rt: HostRuntime) -> Result<(), Fail> {
+    for (bytes, line) in [
+        (b"".as_slice(), None),
+        (b" ", None),
+        (b"{a}\n ", None),
+        (b"{a}\n ?\n?", None),
+        (b"{a}\n\0?", None),
+        (b"{a}\n{b", None),
+        (b"?a}\n{b}\n ", Some(1)),
+        (b"{a}\n?b}\n{c}\n ", Some(2)),
+        (b"{a}\n{b}\n\n", Some(3)),
+    ] {
+        equal(&rt, damaged_line(bytes), line);
     }
     Ok(())
 }

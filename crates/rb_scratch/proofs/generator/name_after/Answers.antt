@@ -1,23 +1,14 @@
-use Rattle.std.proofs.Common.{◌≡◌, ◌+◌, ◌<◌, Ok, Err, subst, ap, sym, ◌∙◌, arith}
-use Rattle.std.specs.Prelude.{Result, MatchResult}
-use Rattle.std.specs.Result.{IsErrAnd}
+use Rattle.std.proofs.Common.{◌+◌, ◌<◌, subst, ap, sym, ◌∙◌, arith}
 use Rattle.rb_money.specs.Settings.{Settings}
 use Rattle.rb_money.specs.declared.limits.Limits.{Limits}
-use Rattle.rb_money.specs.declared.refusal.Refusal.{Refusal}
-use Rattle.rb_shadow.specs.declared.op_name.OpName.{OpName}
 use Rattle.rb_shadow.specs.declared.op_name.OpName.TheVariants.{Blue, Red}
 use Rattle.rb_shadow.specs.declared.colour.Colour.TheVariants.{Blue as BlueColour, Red as RedColour}
 use Rattle.rb_shadow.specs.Operations.{number_of}
 use Rattle.rb_shadow.specs.Sound.{limit_of}
 use Rattle.rb_scratch.specs.Requests.{next_name}
 use Rattle.rb_scratch.proofs.Counts
+use Rattle.rb_scratch.proofs.Public.Errors.{passed_on}
 use Rattle.rb_scratch.proofs.generator.name_after.Goals as goal
-
--- what holds of the one error that there can be
-refused : (r : Result OpName Refusal) (P : OpName → Type 0) (Q : Refusal → Type 0) (why : Refusal) → IsErrAnd r (λ y. y ≡ why) → Q why →
-    MatchResult r P Q
-refused (Ok x) P Q why h q = absurd h
-refused (Err y) P Q why h q = subst Q (sym h) q
 
 pub returns-in_err-n-in-Blue : goal.returns-in_err-n-in-Blue
 returns-in_err-n-in-Blue c =
@@ -30,7 +21,7 @@ returns-in_err-n-in-Blue c =
       ap (λ (l : Limits). l.blue) limits,
       Counts.counts_blue c.args.ledger.now.entries _ c.args.me (c.entries-counts.ensures ∙ c.clock.ensures) c.requires,
     ) in
-    refused c.from_residual.result _ _ c.in_err-n-in-Blue.field-0.0 c.from_residual.ensures.1 (
+    passed_on c.from_residual.result _ _ c.in_err-n-in-Blue.field-0.0 c.from_residual.ensures.1 (
       c.in_err-n-in-Blue.ensures.0,
       subst (λ k. limit_of c.args.ledger.now.settings.limits (next_name c.args.me c.args.ledger.now.entries k)
           < number_of (next_name c.args.me c.args.ledger.now.entries k)) (sym c.in-Blue.is) over,
@@ -56,7 +47,7 @@ returns-in_err-n-in-Red c =
       ap (λ (l : Limits). l.red) limits,
       Counts.counts_red c.args.ledger.now.entries _ (c.entries-counts.ensures ∙ c.clock.ensures),
     ) in
-    refused c.from_residual-in_err-n-in-Red.result _ _ c.in_err-n-in-Red.field-0.0 c.from_residual-in_err-n-in-Red.ensures.1 (
+    passed_on c.from_residual-in_err-n-in-Red.result _ _ c.in_err-n-in-Red.field-0.0 c.from_residual-in_err-n-in-Red.ensures.1 (
       c.in_err-n-in-Red.ensures.0,
       subst (λ k. limit_of c.args.ledger.now.settings.limits (next_name c.args.me c.args.ledger.now.entries k)
           < number_of (next_name c.args.me c.args.ledger.now.entries k)) (sym c.in-Red.is) over,
