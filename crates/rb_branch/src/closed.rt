@@ -211,7 +211,9 @@ fn first_fault(
     ensures first { IfErr result (IsFirst reports.now seats.now) }
 {
     for k in 0..found.len() {
-        found[k]?;
+        if let Err(fault) = found[k] {
+            return Err(fault);
+        }
     }
     Ok(())
 }
