@@ -2,3 +2,4 @@
 pub mod Appended
 pub mod Each
 pub mod Listed
+pub mod Questions

@@ -25,3 +25,4 @@ pub mod OneLine
 pub mod Messages
 pub mod Sites
 pub mod OnLines
+pub mod Questions

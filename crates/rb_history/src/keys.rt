@@ -38,7 +38,10 @@ macro_rules! word {
     (deliver [$($done:literal)*] $($rest:tt)*) => { $crate::keys::spell!(@ [$($done)* "deliver"] $($rest)*) };
     (shadow [$($done:literal)*] $($rest:tt)*) => { $crate::keys::spell!(@ [$($done)* "shadow"] $($rest)*) };
     (token [$($done:literal)*] $($rest:tt)*) => { $crate::keys::spell!(@ [$($done)* "token"] $($rest)*) };
-    // Lines of commands and of entries.
+    // Questions.
+    (about [$($done:literal)*] $($rest:tt)*) => { $crate::keys::spell!(@ [$($done)* "about"] $($rest)*) };
+    (resend [$($done:literal)*] $($rest:tt)*) => { $crate::keys::spell!(@ [$($done)* "resend"] $($rest)*) };
+    // Lines of commands and of entries, and the question about a site.
     (site [$($done:literal)*] $($rest:tt)*) => { $crate::keys::spell!(@ [$($done)* "site"] $($rest)*) };
     (event [$($done:literal)*] $($rest:tt)*) => { $crate::keys::spell!(@ [$($done)* "event"] $($rest)*) };
     (reply [$($done:literal)*] $($rest:tt)*) => { $crate::keys::spell!(@ [$($done)* "reply"] $($rest)*) };

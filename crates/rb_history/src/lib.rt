@@ -13,6 +13,7 @@ mod fault;
 mod keys;
 mod lines;
 mod on_line;
+mod question;
 mod read;
 mod refusals;
 pub mod write;
@@ -23,6 +24,7 @@ ghost use Rattle.rb_history.specs.Fits.{EntriesAreRead, EventsAreRead, ReadEntri
 ghost use Rattle.rb_history.specs.Laws.{ReadConfigsAreConfigured};
 ghost use Rattle.rb_history.specs.Messages.{MessagesAreRead};
 ghost use Rattle.rb_history.specs.OneLine.{ConfigsAreLines, EntriesAreLines};
+ghost use Rattle.rb_history.specs.Questions.{QuestionsAreNoEvents};
 ghost use Rattle.rb_history.specs.Sites.{HeldNamesFitLines, ReadEventsFit, RepliesFitLines};
 
 pub use fault::LineFault;
@@ -31,11 +33,13 @@ pub use lines::entry::{read_entry, read_line};
 pub use lines::event::read_event;
 pub use lines::migrated::append_migrated;
 pub use on_line::{open_command, open_config};
+pub use question::{Question, read_question};
 pub use read::config::read_config;
 pub use write::config::write_config;
 pub use write::entry::{append_line, write_line};
 pub use write::event::append_event;
 pub use write::reply::{append_reply, append_value, write_reply};
+pub use write::shadow::append_deps;
 pub use write::verdict::{order_line, stuck_line, wrong_reply_line};
 
 /// Each command is read from its JSON object.
@@ -81,6 +85,11 @@ pub fn read_entries_fit()
 /// Each event that is read from a line by itself is one that `events_are_read` speaks of.
 pub fn read_events_fit()
     ensures { ReadEventsFit }
+{}
+
+/// No line is both a question and an event.
+pub fn questions_are_no_events()
+    ensures { QuestionsAreNoEvents }
 {}
 
 /// Whatever its events, each reply of a site fits a line: its numbers fit their types, and it isn't *out of memory*. So

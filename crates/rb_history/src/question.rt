@@ -1,0 +1,67 @@
+//! Questions that a site is asked beside events.
+ghost use Rattle.std.specs.Prelude.{◌≡◌, ◌+◌, option_map};
+ghost use Rattle.serde_json.specs.View.{view};
+ghost use Rattle.rb_money.specs.declared.limits.TheConstants.{MOST_HISTORY};
+ghost use Rattle.rb_history.specs.declared.question.Question.TheVariants.{Resend};
+ghost use Rattle.rb_history.specs.Lines.{Gives};
+ghost use Rattle.rb_history.specs.Questions.{about_at, question_of, question_of_line};
+ghost use Rattle.rb_history.specs.Values.{number_below};
+
+use crate::fault::LineFault;
+use crate::keys::key;
+use crate::read::value::{read_value, size};
+use rb_money::MOST_HISTORY;
+use serde_json::Value;
+use std::alloc::Global;
+
+/// A question that a site is asked beside events.
+#[derive(Clone, Copy, Debug, PartialEq, Eq)]
+pub enum Question {
+    /// About the site: how much it applied and holds.
+    About,
+    /// For the messages of the last entries, once more: of this number of entries, 0 to [`MOST_HISTORY`].
+    Resend { entries: u32 },
+}
+
+/// A question about the site, from its word.
+fn about(value: &Value) -> Option<Question>
+    ensures { result ≡ about_at (view value.now) }
+{
+    match value.as_str() {
+        Some(word) if word == key!(site) => Some(Question::About),
+        _ => None,
+    }
+}
+
+/// A question for the messages of the last entries, from their number.
+fn resend(value: &Value) -> Option<Question>
+    ensures { result ≡ option_map Resend (number_below (MOST_HISTORY + 1) (view value.now)) }
+{
+    match value.as_u64() {
+        Some(n) if n <= MOST_HISTORY as u64 => Some(Question::Resend { entries: n as u32 }),
+        _ => None,
+    }
+}
+
+/// A question, from an object of one member.
+fn asked(value: &Value) -> Option<Question>
+    ensures { result ≡ question_of (view value.now) }
+{
+    if size(value) != 1 {
+        return None;
+    }
+    if let Some(what) = value.get(key!(about)) {
+        return about(what);
+    }
+    resend(value.get(key!(resend))?)
+}
+
+/// The question that a line is: `Bad` where it is none, `OutOfMemory` where there was no memory to read it.
+pub fn read_question(alloc: Global, line: &str) -> Result<Question, LineFault>
+    ensures { Gives result (question_of_line line.now) }
+{
+    match read_value(alloc, line) {
+        Ok(value) => asked(&value).ok_or(LineFault::Bad),
+        Err(fault) => Err(fault),
+    }
+}
