@@ -1,19 +1,18 @@
 -- Turns one after another, and lines that are taken off what waits.
-use Rattle.std.proofs.Common.{◌≡◌, ◌<◌, ◌≤◌, ◌+◌, ◌-◌, ◌⊎◌, ℕ, Bool, true, false, cond, not}
+use Rattle.std.proofs.Common.{◌≡◌, ◌<◌, ◌≤◌, ◌+◌, ◌-◌, ◌⊎◌, ◌&&◌, ℕ, Bool, true, false, cond, not, rules}
 use Rattle.std.proofs.Common.{List, [], ◌∷◌, ◌++◌, length, take, drop, inl, inr, refl, sym}
 use Rattle.std.proofs.Common.{ap, ◌∙◌, arith, subst, append_assoc, append-nil, length-append}
 use Rattle.std.proofs.Math.Seq.{take-append_seam}
 use Rattle.std.proofs.lemmas.List.{append_cancel_left, map-append}
 use Rattle.std.proofs.lemmas.List.Concat.{flat_map-append}
-use Rattle.std.proofs.lemmas.List.Elements.{filter-append}
 use Rattle.std.specs.List.{concat}
-use Rattle.rb_lines.specs.Lines.{is_blank, line_len, lines_of, whole_lines}
+use Rattle.rb_lines.specs.Lines.{is_blank, is_long, line_len, lines_of, whole_lines}
 use Rattle.rb_lines.proofs.Public.LongLines.{len_is, first}
 use Rattle.rb_lines.proofs.Public.Walks.{Walks, after_line}
-use Rattle.rb_lines.specs.declared.limits.TheConstants.{MOST_BATCHED}
+use Rattle.rb_lines.specs.declared.limits.TheConstants.{LINE_LIMIT, MOST_BATCHED}
 use Rattle.rb_journal.specs.Lines.{IsBatch, recovered}
-use Rattle.rb_journal.specs.Turns.{Answers, AreFew, AreTurns, IsOneBatch, IsTurn, Turn, lines_added, lines_answered, not_blank}
-use Rattle.rb_journal.specs.Turns.{state_after, texts}
+use Rattle.rb_journal.specs.Turns.{Answers, AreFew, AreTurns, IsOneBatch, IsTurn, Turn, is_skipped, lines_added, lines_answered}
+use Rattle.rb_journal.specs.Turns.{state_after, texts, to_answer}
 use Rattle.rb_journal.specs.Steps.{Advances, AdvancesByBatch, IsTaken, Point}
 
 -- turns, and then turns in the state that they left
@@ -43,13 +42,42 @@ texts_then {S} text now new xs ys a b =
     b ∙ ap (λ l. l ++ texts ys) a ∙ append_assoc text (texts xs) (texts ys)
     ∙ ap (λ l. text ++ l) (sym (flat_map-append (λ (t : Turn S). t.text) xs ys))
 
+-- a line that isn't blank is answered
+pub some_answered : (l : List ℕ) → is_blank l ≡ false → is_skipped l ≡ false
+some_answered l some = ap (λ b. b && not (is_long l)) some
+
+neither : (b : Bool) → (b && false) ≡ false
+neither true = refl
+neither false = refl
+
+-- and so is one that is too long
+pub long_answered : (l : List ℕ) → is_long l ≡ true → is_skipped l ≡ false
+long_answered l long = ap (λ b. is_blank l && not b) long ∙ neither (is_blank l)
+
+-- another is skipped
+pub blank_skipped : (l : List ℕ) → is_blank l ≡ true → length l ≤ LINE_LIMIT → is_skipped l ≡ true
+blank_skipped l blank short =
+    let fits : is_long l ≡ false = search rules in
+    ap (λ b. b && not (is_long l)) blank ∙ ap (λ b. not b) fits
+
+onto : (b : Bool) (x : ℕ × List ℕ) (xs ys : List (ℕ × List ℕ)) → cond b (xs ++ ys) (x ∷ (xs ++ ys)) ≡ cond b xs (x ∷ xs) ++ ys
+onto true x xs ys = refl
+onto false x xs ys = refl
+
+-- the lines to answer of some lines, and then of others
+pub to_answer_then : (n m : ℕ) (xs ys : List (List ℕ)) → m ≡ n + length xs → to_answer n (xs ++ ys) ≡ to_answer n xs ++ to_answer m ys
+to_answer_then n m [] ys is = let same : n ≡ m = omega (arith, is) in ap (λ k. to_answer k ys) same
+to_answer_then n m (x ∷ xs) ys is =
+    let more = to_answer_then (n + 1) m xs ys (omega (arith, is)) in
+    ap (λ l. cond (is_skipped x) l ((n, x) ∷ l)) more ∙ onto (is_skipped x) (n, x) (to_answer (n + 1) xs) (to_answer m ys)
+
 -- the lines that turns answer, behind those that others answered
-pub answered_then : {S : Type 0} (xs ys : List (Turn S)) (before behind : List (List ℕ)) → lines_answered xs ≡ not_blank before
-    → lines_answered ys ≡ not_blank behind
-    → lines_answered (xs ++ ys) ≡ not_blank (before ++ behind)
-answered_then {S} xs ys before behind a b =
-    map-append (λ (t : Turn S). t.line) xs ys ∙ ap (λ ls. ls ++ lines_answered ys) a ∙ ap (λ ls. not_blank before ++ ls) b
-    ∙ sym (filter-append (λ line. not (is_blank line)) before behind)
+pub answered_then : {S : Type 0} (n m : ℕ) (xs ys : List (Turn S)) (before behind : List (List ℕ)) → m ≡ n + length before
+    → lines_answered xs ≡ to_answer n before → lines_answered ys ≡ to_answer m behind
+    → lines_answered (xs ++ ys) ≡ to_answer n (before ++ behind)
+answered_then {S} n m xs ys before behind is a b =
+    map-append (λ (t : Turn S). (t.number, t.line)) xs ys ∙ ap (λ ls. ls ++ lines_answered ys) a ∙ ap (λ ls. to_answer n before ++ ls) b
+    ∙ sym (to_answer_then n m before behind is)
 
 -- ---- lines that are taken
 
@@ -78,7 +106,7 @@ whole_one p tail e n len (inr last) going = absurd (cc (going, last.2))
 pub start : (p rest : List ℕ) (e : Bool) → Walks (p ++ rest) [] p rest e
 start p rest e = record { got = p; lines = refl; bytes = refl; whole = λ going tail. refl }
 
-one_taken : (p : List ℕ) (e : Bool) (n : ℕ) → n ≡ line_len p → n ≤ length p → IsFirst p e n → IsTaken p e (take n p ∷ []) (drop (n + 1) p)
+pub one_taken : (p : List ℕ) (e : Bool) (n : ℕ) → n ≡ line_len p → n ≤ length p → IsFirst p e n → IsTaken p e (take n p ∷ []) (drop (n + 1) p)
 one_taken p e n len fits at_front = record {
   lines = λ rest end. (after_line (p ++ rest) [] p rest e n (start p rest e) len fits at_front end).lines;
   whole = λ going tail. whole_one p tail e n len at_front going;
@@ -113,18 +141,18 @@ steps_then answers e p q r a b = record {
   text_is = texts_then p.text q.text r.text a.turns b.turns a.text_is b.text_is;
   count_is = omega (arith, a.count_is, b.count_is, length-append a.turns b.turns);
   number_is = omega (arith, a.number_is, b.number_is, length-append a.taken b.taken);
-  answered = answered_then a.turns b.turns a.taken b.taken a.answered b.answered;
+  answered = answered_then p.number q.number a.turns b.turns a.taken b.taken a.number_is a.answered b.answered;
   taken_is = taken_then p.pending q.pending r.pending e a.taken b.taken a.taken_is b.taken_is;
 }
 
 -- a blank line is skipped
 pub skips : {S : Type 0} (answers : Answers S) (e : Bool) (p q : Point S) (n : ℕ) → n ≡ line_len p.pending → n ≤ length p.pending
     → IsFirst p.pending e n
-    → is_blank (take n p.pending) ≡ true
+    → is_skipped (take n p.pending) ≡ true
     → q.state ≡ p.state → q.lines ≡ p.lines → q.text ≡ p.text → q.pending ≡ drop (n + 1) p.pending → q.number ≡ p.number + 1
     → q.count ≡ p.count
     → Advances answers e p q
-skips answers e p q n len fits at_front blank state lines text left number count = record {
+skips answers e p q n len fits at_front skipped state lines text left number count = record {
   turns = [];
   taken = take n p.pending ∷ [];
   are = tt;
@@ -133,7 +161,7 @@ skips answers e p q n len fits at_front blank state lines text left number count
   text_is = text ∙ sym (append-nil p.text);
   count_is = omega (arith, count);
   number_is = omega (arith, number);
-  answered = sym (ap (λ b. cond (not b) (take n p.pending ∷ []) []) blank);
+  answered = sym (ap (λ b. cond b [] ((p.number, take n p.pending) ∷ [])) skipped);
   taken_is = subst (λ l. IsTaken p.pending e (take n p.pending ∷ []) l) (sym left) (one_taken p.pending e n len fits at_front);
 }
 
@@ -141,13 +169,13 @@ skips answers e p q n len fits at_front blank state lines text left number count
 pub answers_one : {S : Type 0} (answers : Answers S) (e : Bool) (p q : Point S) (n : ℕ) (new : S)
     (lines_new batch batch_new : List (List ℕ))
     (text_new : List ℕ)
-    → n ≡ line_len p.pending → n ≤ length p.pending → IsFirst p.pending e n → is_blank (take n p.pending) ≡ false
-    → IsTurn answers p.state new p.lines lines_new batch batch_new (take n p.pending) p.text text_new
+    → n ≡ line_len p.pending → n ≤ length p.pending → IsFirst p.pending e n → is_skipped (take n p.pending) ≡ false
+    → IsTurn answers p.state new p.lines lines_new batch batch_new p.number (take n p.pending) p.text text_new
     → q.state ≡ new → q.lines ≡ lines_new → q.text ≡ text_new → q.pending ≡ drop (n + 1) p.pending → q.number ≡ p.number + 1
     → q.count ≡ p.count + 1
     → Advances answers e p q
 answers_one answers e p q n new lines_new batch batch_new text_new len fits at_front some turn state lines text left number count = record {
-  turns = record { line = take n p.pending; added = turn.added; text = turn.words; after = new } ∷ [];
+  turns = record { number = p.number; line = take n p.pending; added = turn.added; text = turn.words; after = new } ∷ [];
   taken = take n p.pending ∷ [];
   are = (turn.answered, tt);
   state_is = state;
@@ -155,15 +183,16 @@ answers_one answers e p q n new lines_new batch batch_new text_new len fits at_f
   text_is = text ∙ turn.text_is ∙ ap (λ l. p.text ++ l) (sym (append-nil turn.words));
   count_is = omega (arith, count);
   number_is = omega (arith, number);
-  answered = sym (ap (λ b. cond (not b) (take n p.pending ∷ []) []) some);
+  answered = sym (ap (λ b. cond b [] ((p.number, take n p.pending) ∷ [])) some);
   taken_is = subst (λ l. IsTaken p.pending e (take n p.pending ∷ []) l) (sym left) (one_taken p.pending e n len fits at_front);
 }
 
 -- what a line adds to the journal's lines is in the batch too
 pub batch_more : {S : Type 0} (answers : Answers S) (old new : S) (lines lines_new batch batch_new before : List (List ℕ))
-    (line text text_new : List ℕ) → IsTurn answers old new lines lines_new batch batch_new line text text_new
+    (number : ℕ) (line text text_new : List ℕ)
+    → IsTurn answers old new lines lines_new batch batch_new number line text text_new
     → lines ≡ before ++ batch → lines_new ≡ before ++ batch_new
-batch_more answers old new lines lines_new batch batch_new before line text text_new turn is =
+batch_more answers old new lines lines_new batch batch_new before number line text text_new turn is =
     turn.lines_are ∙ ap (λ ls. ls ++ turn.added) is ∙ append_assoc before batch turn.added ∙ ap (λ ls. before ++ ls) (sym turn.batch_is)
 
 -- ---- one batch
@@ -179,6 +208,10 @@ one_more : {S : Type 0} (xs ys : List (Turn S)) → IsOneBatch xs → AreFew xs 
 one_more xs [] one few short = subst IsOneBatch (sym (append-nil xs)) one
 one_more xs (y ∷ []) one few short = subst AreFew (sym (all_but_last xs y)) few
 one_more xs (y ∷ z ∷ ys) one few short = absurd (omega (arith, short))
+
+-- one turn alone is a batch
+pub alone : {S : Type 0} (turns : List (Turn S)) → length turns ≤ 1 → IsOneBatch turns
+alone turns short = one_more [] turns (omega arith, omega arith) (omega arith, omega arith) short
 
 -- before the first line
 pub none_yet : {S : Type 0} (answers : Answers S) (e : Bool) (p : Point S) → AdvancesByBatch answers e p p

@@ -1,30 +1,29 @@
 -- How far a run has come: its turns so far, and the lines of its input that they answer.
-use Rattle.std.proofs.Common.{◌≡◌, ◌≤◌, ◌+◌, ◌^◌, ℕ, Bool, true, false, not, List}
+use Rattle.std.proofs.Common.{◌≡◌, ◌≤◌, ◌+◌, ◌^◌, ℕ, Bool, true, false, List}
 use Rattle.std.proofs.Common.{[], ◌∷◌, ◌++◌, length, take, Option, Some, None, refl, sym}
 use Rattle.std.proofs.Common.{ap, ◌∙◌, arith, subst, suc, append_assoc, append-nil, length-append}
 use Rattle.std.specs.Prelude.{IfSome}
 use Rattle.std.proofs.lemmas.List.{map-append}
 use Rattle.std.proofs.lemmas.List.Concat.{flat_map-append}
-use Rattle.std.proofs.lemmas.List.Elements.{filter-append}
 use Rattle.std.specs.List.{concat}
-use Rattle.std.specs.Io.KnownBytes.{IsAtEnd}
+use Rattle.std.specs.Io.KnownBytes.{Consumes, IsAtEnd}
 use Rattle.rb_journal.specs.Host.{AddsPrefix}
 use Rattle.rb_journal.specs.Lines.{recovered}
 use Rattle.rb_lines.specs.Buffers.{Reads}
-use Rattle.rb_lines.specs.Lines.{is_blank, lines_of, whole_lines}
+use Rattle.rb_lines.specs.Lines.{lines_of, whole_lines}
 use Rattle.rb_lines.proofs.Public.Walks.{Walks, after_read}
 use Rattle.rb_journal.specs.Ends.{IsFull}
 use Rattle.rb_journal.specs.Run.{AreFirst, IsRunOfBatches, IsRunOfTurns, served_input}
 use Rattle.rb_journal.specs.Steps.{Advances, IsTaken, Point}
-use Rattle.rb_journal.specs.Turns.{Answers, AreTurns, Turn, lines_added, lines_answered, not_blank, state_after, texts}
-use Rattle.rb_journal.proofs.Advance.{added_then, answered_then, start, state_then, texts_then, turns_then}
+use Rattle.rb_journal.specs.Turns.{Answers, AreTurns, Turn, lines_added, lines_answered, state_after, texts, to_answer}
+use Rattle.rb_journal.proofs.Advance.{added_then, answered_then, start, state_then, texts_then, to_answer_then, turns_then}
 
 -- of these bytes some lines were taken, and the turns answer them; the next has this number
 pub record Walked {S : Type 0} (all : List ℕ) (turns : List (Turn S)) (first : ℕ) (rest pending : List ℕ) (e : Bool) (number : ℕ)
     : Type 0 where
   pub done : List (List ℕ)
   pub walks : Walks all done pending rest e
-  pub answered : lines_answered turns ≡ not_blank done
+  pub answered : lines_answered turns ≡ to_answer first done
   pub number_is : number ≡ first + length done
 
 -- the same of an input that may be known
@@ -65,7 +64,7 @@ follows_start {S} answers at rest e none = record {
 walked_then : {S : Type 0} (input : Option (List ℕ)) (xs ys : List (Turn S))
     (first : ℕ) (rest : Option (List ℕ)) (p q : List ℕ) (e : Bool) (m n : ℕ)
     (taken : List (List ℕ)) → WalkedKnown input xs first rest p e m
-    → IsTaken p e taken q → (e ≡ true → IsAtEnd rest) → lines_answered ys ≡ not_blank taken → n ≡ m + length taken
+    → IsTaken p e taken q → (e ≡ true → IsAtEnd rest) → lines_answered ys ≡ to_answer m taken → n ≡ m + length taken
     → WalkedKnown input (xs ++ ys) first rest q e n
 walked_then None xs ys first rest p q e m n taken w is end answered number = tt
 walked_then (Some all) xs ys first None p q e m n taken w is end answered number = absurd w
@@ -78,7 +77,7 @@ walked_then (Some all) xs ys first (Some r) p q e m n taken w is end answered nu
     whole = λ going tail. w.walks.whole going tail ∙ ap (λ ls. w.done ++ ls) (is.whole going tail)
         ∙ sym (append_assoc w.done taken (whole_lines (q ++ tail)));
   };
-  answered = answered_then xs ys w.done taken w.answered answered;
+  answered = answered_then first m xs ys w.done taken w.number_is w.answered answered;
   number_is = omega (arith, number, w.number_is, length-append w.done taken);
 }
 
@@ -159,24 +158,52 @@ prefix_on {S} output now d xs ys is some = (
 
 first_on : {S : Type 0} (input : Option (List ℕ)) (xs ys : List (Turn S))
     (first : ℕ) (rest : Option (List ℕ)) (p : List ℕ) (e : Bool) (n : ℕ)
-    → WalkedKnown input xs first rest p e n → AreFirst ys (p ++ rest_of rest)
-    → IfSome input (AreFirst (xs ++ ys))
+    → WalkedKnown input xs first rest p e n → IfSome (served_input p rest) (AreFirst n ys)
+    → IfSome input (AreFirst first (xs ++ ys))
 first_on {S} None xs ys first rest p e n w are = tt
 first_on {S} (Some all) xs ys first None p e n w are = absurd w
 first_on {S} (Some all) xs ys first (Some r) p e n w are = (
   are.0,
-  ap not_blank w.walks.lines ∙ filter-append (λ line. not (is_blank line)) w.done (lines_of (p ++ r))
-      ∙ ap (λ ls. ls ++ not_blank (lines_of (p ++ r))) (sym w.answered) ∙ ap (λ ls. lines_answered xs ++ ls) are.1
+  ap (to_answer first) w.walks.lines ∙ to_answer_then first n w.done (lines_of (p ++ r)) w.number_is
+      ∙ ap (λ ls. ls ++ to_answer n (lines_of (p ++ r))) (sym w.answered) ∙ ap (λ ls. lines_answered xs ++ ls) are.1
       ∙ sym (append_assoc (lines_answered xs) (lines_answered ys) are.0)
-      ∙ ap (λ ls. ls ++ are.0) (sym (map-append (λ (t : Turn S). t.line) xs ys)),
+      ∙ ap (λ ls. ls ++ are.0) (sym (map-append (λ (t : Turn S). (t.number, t.line)) xs ys)),
 )
+
+-- what is said of an input whose rest may be unknown holds if it holds of the known rest
+pub as_served : {S : Type 0} (n : ℕ) (ys : List (Turn S)) (p : List ℕ) (rest : Option (List ℕ)) → AreFirst n ys (p ++ rest_of rest)
+    → IfSome (served_input p rest) (AreFirst n ys)
+as_served n ys p None are = tt
+as_served n ys p (Some r) are = are
+
+-- what is said of a run over one input holds over another, if it holds of its order
+pub read_over : {S : Type 0} (answers : Answers S) (n : ℕ) (input other : Option (List ℕ)) (begin : S) (lines : List (List ℕ))
+    (output c d : List ℕ) → ((turns : List (Turn S)) → IfSome input (AreFirst n turns) → IfSome other (AreFirst n turns))
+    → IsRunOfBatches answers n input begin lines output c d → IsRunOfBatches answers n other begin lines output c d
+read_over answers n input other begin lines output c d same run = record {
+  done = run.done;
+  batch = run.batch;
+  are = run.are;
+  in_order = same (run.done ++ run.batch) run.in_order;
+  lines_are = run.lines_are;
+  output_is = run.output_is;
+  one_batch = run.one_batch;
+}
+
+-- what was read is behind what waited
+pub served_before : {S : Type 0} (n : ℕ) (ys : List (Turn S)) (p more : List ℕ) (had has : Option (List ℕ)) → Consumes had has more
+    → AreFirst n ys ((p ++ more) ++ rest_of has) → IfSome (served_input p had) (AreFirst n ys)
+served_before n ys p more None has read are = tt
+served_before n ys p more (Some x) None read are = absurd read
+served_before n ys p more (Some x) (Some y) read are =
+    subst (AreFirst n ys) (append_assoc p more y ∙ ap (λ l. p ++ l) (sym read)) are
 
 -- what a crash leaves of a run that goes on is a run from the beginning
 pub run_on : {S : Type 0} (answers : Answers S) (input : Option (List ℕ)) (begin : S) (lines : List (List ℕ))
     (output : List ℕ) (first : ℕ) (p : Point S) (rest : Option (List ℕ)) (e : Bool) (c d : List ℕ)
     → Follows answers input begin lines output first p rest e
-    → IsRunOfBatches answers (Some (p.pending ++ rest_of rest)) p.state p.lines p.text c d
-    → IsRunOfBatches answers input begin lines output c d
+    → IsRunOfBatches answers p.number (served_input p.pending rest) p.state p.lines p.text c d
+    → IsRunOfBatches answers first input begin lines output c d
 run_on answers input begin lines output first p rest e c d f run =
     let more = run.done ++ run.batch in
     let same : f.turns ++ more ≡ (f.turns ++ run.done) ++ run.batch = sym (append_assoc f.turns run.done run.batch) in
@@ -185,7 +212,7 @@ run_on answers input begin lines output first p rest e c d f run =
       batch = run.batch;
       are = subst (λ ts. AreTurns answers begin ts) same
           (turns_then answers begin f.turns more f.are (subst (λ s. AreTurns answers s more) f.state_is run.are));
-      in_order = subst (λ ts. IfSome input (AreFirst ts)) same
+      in_order = subst (λ ts. IfSome input (AreFirst first ts)) same
           (first_on input f.turns more first rest p.pending e p.number f.walked run.in_order);
       lines_are = added_then lines p.lines _ f.turns more f.lines_are run.lines_are ∙ ap (λ ts. lines ++ lines_added ts) same;
       output_is = subst (λ (l : List ℕ). AddsPrefix l (texts run.batch) d)
@@ -194,9 +221,10 @@ run_on answers input begin lines output first p rest e c d f run =
     }
 
 -- what batches leave is what their turns leave
-pub are_turns : {S : Type 0} (answers : Answers S) (input : Option (List ℕ)) (begin : S) (lines : List (List ℕ)) (output c d : List ℕ)
-    → IsRunOfBatches answers input begin lines output c d → IsRunOfTurns answers input begin lines output c d
-are_turns answers input begin lines output c d run = record {
+pub are_turns : {S : Type 0} (answers : Answers S) (first : ℕ) (input : Option (List ℕ)) (begin : S) (lines : List (List ℕ))
+    (output c d : List ℕ)
+    → IsRunOfBatches answers first input begin lines output c d → IsRunOfTurns answers first input begin lines output c d
+are_turns answers first input begin lines output c d run = record {
   turns = run.done ++ run.batch;
   are = run.are;
   in_order = run.in_order;
@@ -204,18 +232,19 @@ are_turns answers input begin lines output c d run = record {
   output_is = prefix_on output (output ++ texts run.done) d run.done run.batch refl run.output_is;
 }
 
-first_none : (S : Type 0) (input : Option (List ℕ)) → IfSome input (AreFirst {S = S} [])
-first_none S None = tt
-first_none S (Some all) = (not_blank (lines_of all), refl)
+pub first_none : (S : Type 0) (first : ℕ) (input : Option (List ℕ)) → IfSome input (AreFirst {S = S} first [])
+first_none S first None = tt
+first_none S first (Some all) = (to_answer first (lines_of all), refl)
 
 -- before the first turn
-pub run_start : {S : Type 0} (answers : Answers S) (input : Option (List ℕ)) (begin : S) (lines : List (List ℕ)) (output c d : List ℕ)
-    → recovered c ≡ lines → d ≡ output → IsRunOfBatches answers input begin lines output c d
-run_start {S} answers input begin lines output c d are was = record {
+pub run_start : {S : Type 0} (answers : Answers S) (first : ℕ) (input : Option (List ℕ)) (begin : S) (lines : List (List ℕ))
+    (output c d : List ℕ)
+    → recovered c ≡ lines → d ≡ output → IsRunOfBatches answers first input begin lines output c d
+run_start {S} answers first input begin lines output c d are was = record {
   done = [];
   batch = [];
   are = tt;
-  in_order = first_none S input;
+  in_order = first_none S first input;
   lines_are = are ∙ sym (append-nil lines);
   output_is = (0, was ∙ sym (append-nil output) ∙ sym (append-nil (output ++ [])));
   one_batch = (omega arith, omega arith);
@@ -225,7 +254,7 @@ run_start {S} answers input begin lines output c d are was = record {
 pub full_on : {S : Type 0} (answers : Answers S) (input : Option (List ℕ)) (begin : S) (lines : List (List ℕ))
     (output : List ℕ) (first : ℕ) (p : Point S) (rest : Option (List ℕ)) (e : Bool)
     → Follows answers input begin lines output first p rest e
-    → IsFull answers (Some (p.pending ++ rest_of rest)) p.state p.lines → IsFull answers input begin lines
+    → IsFull answers p.number (served_input p.pending rest) p.state p.lines → IsFull answers first input begin lines
 full_on answers input begin lines output first p rest e f full = record {
   turns = f.turns ++ full.turns;
   are = turns_then answers begin f.turns full.turns f.are (subst (λ s. AreTurns answers s full.turns) f.state_is full.are);

@@ -10,4 +10,5 @@ mod Advance
 mod Runs
 mod Follow
 mod Groups
+mod Dropping
 mod Ending

@@ -1,42 +1,43 @@
 -- What a commit of turns may leave, and what a full file means.
-use Rattle.std.proofs.Common.{◌≡◌, ◌≤◌, ◌+◌, ◌^◌, ◌⊎◌, ℕ, Bool, true, not, List, [], ◌∷◌, ◌++◌, length, take, Some, inl, inr, refl, sym}
+use Rattle.std.proofs.Common.{◌≡◌, ◌≤◌, ◌+◌, ◌^◌, ◌⊎◌, ℕ, Bool, true, List, [], ◌∷◌, ◌++◌, length, take, Some, inl, inr, refl, sym}
 use Rattle.std.proofs.Common.{ap, ◌∙◌, arith, subst, append_assoc, append-nil, length-append}
-use Rattle.std.proofs.lemmas.List.Elements.{filter-append}
 use Rattle.std.specs.List.{concat}
 use Rattle.rb_journal.specs.Journal.{IsDurable}
 use Rattle.rb_journal.specs.Lines.{IsBatch, recovered}
 use Rattle.rb_journal.specs.declared.host.HostError.{HostError}
 use Rattle.rb_journal.specs.declared.host.HostError.TheVariants.{Memory, DiskFailed, OutputFailed, Full}
-use Rattle.rb_lines.specs.Lines.{is_blank, lines_of}
+use Rattle.rb_lines.specs.Lines.{lines_of}
 use Rattle.rb_journal.specs.Ends.{IsFull}
 use Rattle.rb_journal.specs.Faults.{fault_of_host}
 use Rattle.rb_journal.specs.Run.{AreFirst, IsRunOfBatches}
 use Rattle.rb_journal.specs.Steps.{Advances, AdvancesByBatch, IsTaken, Point}
-use Rattle.rb_journal.specs.Turns.{Answers, Turn, lines_added, lines_answered, not_blank, texts}
+use Rattle.rb_journal.specs.Turns.{Answers, Turn, lines_added, lines_answered, texts, to_answer}
 use Rattle.rb_journal.specs.declared.fault.ServeFault.TheVariants.{Journal}
+use Rattle.rb_journal.proofs.Advance.{to_answer_then}
 
 -- where lines were taken, the turns that answer them are first
-pub first_of_taken : {S : Type 0} (turns : List (Turn S)) (p q : List ℕ) (e : Bool) (taken : List (List ℕ)) (rest : List ℕ)
+pub first_of_taken : {S : Type 0} (first : ℕ) (turns : List (Turn S)) (p q : List ℕ) (e : Bool) (taken : List (List ℕ)) (rest : List ℕ)
     → IsTaken p e taken q
-    → (e ≡ true → rest ≡ []) → lines_answered turns ≡ not_blank taken
-    → AreFirst turns (p ++ rest)
-first_of_taken turns p q e taken rest is end answered = (
-  not_blank (lines_of (q ++ rest)),
-  ap not_blank (is.lines rest end) ∙ filter-append (λ line. not (is_blank line)) taken (lines_of (q ++ rest))
-      ∙ ap (λ ls. ls ++ not_blank (lines_of (q ++ rest))) (sym answered),
-)
+    → (e ≡ true → rest ≡ []) → lines_answered turns ≡ to_answer first taken
+    → AreFirst first turns (p ++ rest)
+first_of_taken first turns p q e taken rest is end answered =
+    let left = to_answer (first + length taken) (lines_of (q ++ rest)) in (
+      left,
+      ap (to_answer first) (is.lines rest end) ∙ to_answer_then first (first + length taken) taken (lines_of (q ++ rest)) refl
+          ∙ ap (λ ls. ls ++ left) (sym answered),
+    )
 
 -- at each moment of a commit there are the turns before it, or those of the batch too
 pub durable_is_run : {S : Type 0} (answers : Answers S) (e : Bool) (p q : Point S) (rest batch output reply c d : List ℕ)
     → AdvancesByBatch answers e p q
     → (e ≡ true → rest ≡ []) → q.lines ≡ p.lines ++ recovered batch → p.text ≡ [] → q.text ≡ reply
     → IsDurable p.lines (recovered batch) output reply c d
-    → IsRunOfBatches answers (Some (p.pending ++ rest)) p.state p.lines output c d
+    → IsRunOfBatches answers p.number (Some (p.pending ++ rest)) p.state p.lines output c d
 durable_is_run answers e p q rest batch output reply c d (a, one) end lines none text (inl at) = record {
   done = [];
   batch = [];
   are = tt;
-  in_order = (not_blank (lines_of (p.pending ++ rest)), refl);
+  in_order = (to_answer p.number (lines_of (p.pending ++ rest)), refl);
   lines_are = at.0 ∙ sym (append-nil p.lines);
   output_is = (0, at.1 ∙ sym (append-nil output) ∙ sym (append-nil (output ++ [])));
   one_batch = (omega arith, omega arith);
@@ -45,7 +46,7 @@ durable_is_run answers e p q rest batch output reply c d (a, one) end lines none
   done = [];
   batch = a.turns;
   are = a.are;
-  in_order = first_of_taken a.turns p.pending q.pending e a.taken rest a.taken_is end a.answered;
+  in_order = first_of_taken p.number a.turns p.pending q.pending e a.taken rest a.taken_is end a.answered;
   lines_are = at.0 ∙ sym lines ∙ a.lines_are;
   output_is = (
     at.1.0,
@@ -63,11 +64,11 @@ concat_then (x ∷ xs) ys = ap (λ l. x ++ l) (concat_then xs ys) ∙ sym (appen
 pub is_full : {S : Type 0} (answers : Answers S) (e : Bool) (p q : Point S) (rest batch : List ℕ) (end : ℕ) → Advances answers e p q
     → (e ≡ true → rest ≡ []) → q.lines ≡ p.lines ++ recovered batch → IsBatch batch → end ≡ length (concat p.lines)
     → 2 ^ 60 ≤ end + length batch
-    → IsFull answers (Some (p.pending ++ rest)) p.state p.lines
+    → IsFull answers p.number (Some (p.pending ++ rest)) p.state p.lines
 is_full answers e p q rest batch end a over lines whole at long = record {
   turns = a.turns;
   are = a.are;
-  in_order = first_of_taken a.turns p.pending q.pending e a.taken rest a.taken_is over a.answered;
+  in_order = first_of_taken p.number a.turns p.pending q.pending e a.taken rest a.taken_is over a.answered;
   long =
       let same : p.lines ++ recovered batch ≡ p.lines ++ lines_added a.turns = sym lines ∙ a.lines_are in
       let all : length (concat (p.lines ++ recovered batch)) ≡ end + length batch =

@@ -1,13 +1,12 @@
 -- Some lines of a run: what waits before and after them, and why no more were answered.
-use Rattle.std.specs.Prelude.{◌≡◌, ℕ, ◌+◌, ◌<◌, Bool, true, false, List, [], ◌++◌, length, take}
+use Rattle.std.specs.Prelude.{◌≡◌, ℕ, ◌+◌, ◌<◌, ◌⊎◌, Bool, true, false, List, [], ◌++◌, length, drop, Option}
+use Rattle.std.specs.Io.KnownBytes.{Consumes}
 use Rattle.rb_lines.specs.Buffers.{IsWholeLine}
-use Rattle.rb_lines.specs.Lines.{is_blank, line_len, lines_of, whole_lines}
+use Rattle.rb_lines.specs.Lines.{line_len, lines_of, whole_lines}
 use Rattle.rb_lines.specs.declared.buffers.Buffers.{Buffers}
 use Rattle.rb_lines.specs.declared.limits.TheConstants.{LINE_LIMIT}
-use Rattle.rb_journal.specs.Turns.{Answers, AreTurns, HasNoAnswer, IsOneBatch, Turn, lines_added, lines_answered}
-use Rattle.rb_journal.specs.Turns.{not_blank, state_after, texts}
-use Rattle.rb_journal.specs.declared.fault.ServeFault.{ServeFault}
-use Rattle.rb_journal.specs.declared.fault.ServeFault.TheVariants.{BadLine, LongLine, Read, Write, Journal, OutOfMemory}
+use Rattle.rb_journal.specs.Turns.{Answers, AreTurns, IsOneBatch, Turn, lines_added, lines_answered, state_after, texts}
+use Rattle.rb_journal.specs.Turns.{to_answer}
 use Rattle.rb_journal.specs.declared.waiting.Waiting.{Waiting}
 use Rattle.rb_journal.specs.declared.waiting.Waiting.TheVariants.{Line, Long, Nothing}
 use Rattle.rb_journal.specs.declared.work.Work.{Work}
@@ -22,12 +21,12 @@ pub record Point (S : Type 0) : Type 0 where
   pub number : ℕ
   pub count : ℕ
 
-abbrev pub point_of : {S : Type 0} → S → List (List ℕ) → List ℕ → Work → Buffers → Point S
-point_of state lines text work buffers = record {
+abbrev pub point_of : {S : Type 0} → S → List (List ℕ) → List ℕ → Work → List ℕ → Point S
+point_of state lines text work pending = record {
   state = state;
   lines = lines;
   text = text;
-  pending = buffers.pending;
+  pending = pending;
   number = work.number;
   count = work.count;
 }
@@ -38,7 +37,7 @@ pub record IsTaken (pending : List ℕ) (ended : Bool) (taken : List (List ℕ))
       lines_of (pending ++ rest) ≡ taken ++ lines_of (left ++ rest)
   pub whole : ended ≡ false → (tail : List ℕ) → whole_lines (pending ++ tail) ≡ taken ++ whole_lines (left ++ tail)
 
--- some lines were taken, and each that isn't blank was answered
+-- some lines were taken, and each that isn't skipped was answered
 pub record Advances {S : Type 0} (answers : Answers S) (ended : Bool) (old new : Point S) : Type 0 where
   pub turns : List (Turn S)
   pub taken : List (List ℕ)
@@ -48,7 +47,7 @@ pub record Advances {S : Type 0} (answers : Answers S) (ended : Bool) (old new :
   pub text_is : new.text ≡ old.text ++ texts turns
   pub count_is : new.count ≡ old.count + length turns
   pub number_is : new.number ≡ old.number + length taken
-  pub answered : lines_answered turns ≡ not_blank taken
+  pub answered : lines_answered turns ≡ to_answer old.number taken
   pub taken_is : IsTaken old.pending ended taken new.pending
 
 -- and the turns that answer them are one batch
@@ -61,21 +60,18 @@ IsWaiting b (Line n) = IsWholeLine b n
 IsWaiting b Long = LINE_LIMIT < line_len b.pending
 IsWaiting b Nothing = (line_len b.pending ≡ length b.pending) × (b.ended ≡ true → b.pending ≡ [])
 
--- whether a whole line waits at the front, which wasn't answered since the batch is full
-abbrev pub LineStillWaits : Buffers → Bool → Type 0
-LineStillWaits b true = (n : ℕ) × IsWaiting b (Line n)
-LineStillWaits b false = IsWaiting b Nothing
+-- the line at the front of what waited and of what was read behind it was dropped, with its line feed, if it has one;
+-- if it hasn't, the input has ended
+pub record DropsLine (old new : Buffers) (had has : Option (List ℕ)) : Type 0 where
+  pub more : List ℕ
+  pub read : Consumes had has more
+  pub whole : (line_len (old.pending ++ more) < length (old.pending ++ more))
+      ⊎ ((line_len (old.pending ++ more) ≡ length (old.pending ++ more)) × (new.ended ≡ true))
+  pub left : new.pending ≡ drop (line_len (old.pending ++ more) + 1) (old.pending ++ more)
 
--- the line at the front has no answer
-abbrev pub IsBadLine : {S : Type 0} → Answers S → S → Buffers → Type 0
-IsBadLine answers s b = (n : ℕ) × IsWholeLine b n × (is_blank (take n b.pending) ≡ false)
-    × HasNoAnswer answers s (take n b.pending)
-
--- why no more of the lines that wait were answered; of running out of memory, and of what failed, nothing is said here
-abbrev pub StopsAt : {S : Type 0} → Answers S → S → ℕ → Buffers → ServeFault → Type 0
-StopsAt answers s number b (BadLine k) = (k ≡ number) × IsBadLine answers s b
-StopsAt answers s number b (LongLine k) = (k ≡ number) × IsWaiting b Long
-StopsAt answers s number b OutOfMemory = Unit {0}
-StopsAt answers s number b Write = Unit {0}
-StopsAt answers s number b Journal = Unit {0}
-StopsAt answers s number b Read = ⊥
+-- what waited and what was read behind it is the front of one line, and the input hasn't ended
+pub record ReadsOn (old new : Buffers) (had has : Option (List ℕ)) : Type 0 where
+  pub more : List ℕ
+  pub read : Consumes had has more
+  pub one : line_len (old.pending ++ more) ≡ length (old.pending ++ more)
+  pub going : new.ended ≡ false

@@ -1,18 +1,16 @@
 //! Why serving stops.
 ghost use Rattle.std.specs.Prelude.{◌≡◌};
 ghost use Rattle.rb_journal.specs.Faults.{fault_of_host};
+ghost use Rattle.rb_journal.specs.declared.fault.ServeFault.TheVariants.{OutOfMemory};
 
 use crate::host::HostError;
+use std::alloc::AllocError;
 use std::fmt;
 use thiserror::Error;
 
-/// Why serving stops before the end of its input. Lines are numbered by the caller, and blank ones count.
+/// Why serving stops before the end of its input.
 #[derive(Clone, Copy, Debug, PartialEq, Eq, Error)]
 pub enum ServeFault {
-    /// A line has no answer.
-    BadLine { line: u64 },
-    /// A line has more than `LINE_LIMIT` bytes before its line feed.
-    LongLine { line: u64 },
     /// A read failed, or more than `MOST_READS` were needed.
     Read,
     /// The output failed.
@@ -32,13 +30,19 @@ impl fmt::Display for ServeFault {
 
     fn fmt<W: fmt::Write>(&self, f: &mut fmt::Formatter<W>) -> fmt::Result {
         match self {
-            ServeFault::BadLine { line } => write!(f, "line {line}: bad line"),
-            ServeFault::LongLine { line } => write!(f, "line {line}: line too long"),
             ServeFault::Read => f.write_str("read failed"),
             ServeFault::Write => f.write_str("write failed"),
             ServeFault::Journal => f.write_str("journal failed"),
             ServeFault::OutOfMemory => f.write_str("out of memory"),
         }
+    }
+}
+
+impl From<AllocError> for ServeFault {
+    ghost from_gives = { λ _ fault. fault ≡ OutOfMemory };
+
+    fn from(_: AllocError) -> ServeFault {
+        ServeFault::OutOfMemory
     }
 }
 

@@ -2,31 +2,32 @@
 //! are answered, committed together, and then their answers are put out. Where they come to more than a batch may, the
 //! next batch goes on with the rest of them, so that no number of lines takes more memory than one batch.
 ghost use Rattle.std.specs.Prelude.{◌≡◌, ◌+◌, ◌^◌, ◌<◌, ◌≤◌, ◌⊎◌, ◌++◌, List, ℕ, [], true, Some, Ok, Err, length};
-ghost use Rattle.std.specs.Prelude.{MatchResult};
+ghost use Rattle.std.specs.Prelude.{IfOk, OnOk};
 ghost use Rattle.rb_journal.specs.Host.{LeavesOnly};
 ghost use Rattle.rb_journal.specs.Lines.{IsIntact, recovered};
 ghost use Rattle.rb_journal.specs.Journal.{IsSettled};
-ghost use Rattle.rb_journal.specs.Ends.{EndsAtRest, IsFull};
+ghost use Rattle.rb_journal.specs.Ends.{IsFull};
 ghost use Rattle.rb_journal.specs.Run.{IsRunOfBatches};
-ghost use Rattle.rb_journal.specs.Steps.{Advances, LineStillWaits, StopsAt, point_of};
-ghost use Rattle.rb_journal.specs.declared.fault.ServeFault.TheVariants.{Journal as JournalFailed, Write};
+ghost use Rattle.rb_journal.specs.Steps.{Advances, IsWaiting, point_of};
+ghost use Rattle.rb_journal.specs.declared.fault.ServeFault.TheVariants.{Journal as JournalFailed, Read, Write};
+ghost use Rattle.rb_journal.specs.declared.waiting.Waiting.TheVariants.{Line};
 
 use crate::fault::ServeFault;
 use crate::host::Host;
 use crate::journal::Journal;
 use crate::responder::JournaledResponder;
-use crate::waiting::answer_waiting;
+use crate::waiting::{Waiting, answer_waiting};
 use crate::work::Work;
 use rb_lines::Buffers;
 
-/// Answers lines that wait whole, one batch of them, commits what they add, and then puts out their text; says whether
-/// a line still waits. At a fault of a line those before it are committed and put out too.
+/// Answers lines that wait whole, one batch of them, commits what they add, and then puts out their text; says what
+/// waits behind them. Where there is no memory for a line, those before it are committed and put out too.
 pub fn answer_group<R: JournaledResponder, H: Host>(
     responder: &mut R,
     journal: &mut Journal<H>,
     buffers: &mut Buffers,
     work: &mut Work,
-) -> Result<bool, ServeFault>
+) -> Result<Waiting, ServeFault>
     requires settled { IsSettled H.is_usable H.content H.may_leave journal.old }
     requires same { R.lines (R.state responder.old) ≡ recovered (H.content journal.old.host) }
     requires batch { work.old.batch.bytes.items ≡ [] }
@@ -34,33 +35,33 @@ pub fn answer_group<R: JournaledResponder, H: Host>(
     requires number { work.old.number + length buffers.old.pending < 2 ^ 64 }
     requires count { work.old.count ≤ work.old.number }
 
-    ensures settled { EndsAtRest result → IsSettled H.is_usable H.content H.may_leave journal.new }
-    ensures same { EndsAtRest result → R.lines (R.state responder.new) ≡ recovered (H.content journal.new.host) }
-    ensures answered { EndsAtRest result → Advances R.answers buffers.old.ended
+    ensures settled { OnOk result (IsSettled H.is_usable H.content H.may_leave journal.new) }
+    ensures same { OnOk result (R.lines (R.state responder.new) ≡ recovered (H.content journal.new.host)) }
+    ensures answered { OnOk result (Advances R.answers buffers.old.ended
         (point_of (R.state responder.old) (recovered (H.content journal.old.host)) (H.output journal.old.host) work.old
-        buffers.old)
+        buffers.old.pending)
         (point_of (R.state responder.new) (recovered (H.content journal.new.host)) (H.output journal.new.host) work.new
-        buffers.new) }
-    ensures stop { MatchResult result (LineStillWaits buffers.new)
-        (StopsAt R.answers (R.state responder.new) work.new.number buffers.new) }
-    ensures fewer { result ≡ Ok true → length buffers.new.pending < length buffers.old.pending }
+        buffers.new.pending)) }
+    ensures waiting { IfOk result (IsWaiting buffers.new) }
+    ensures fewer { (n : ℕ) → result ≡ Ok (Line n) → length buffers.new.pending < length buffers.old.pending }
 
     // A crash leaves a run over these lines, whatever is read behind them, and only one batch isn't put out yet.
     ensures any_moment { (rest : List ℕ) → (buffers.old.ended ≡ true → rest ≡ [])
         → LeavesOnly H.moment H.left_since journal.old.host journal.new.host
-        (IsRunOfBatches R.answers (Some (buffers.old.pending ++ rest)) (R.state responder.old)
+        (IsRunOfBatches R.answers work.old.number (Some (buffers.old.pending ++ rest)) (R.state responder.old)
         (recovered (H.content journal.old.host)) (H.output journal.old.host)) }
     ensures intact { LeavesOnly H.moment H.left_since journal.old.host journal.new.host (λ c _. IsIntact c) }
 
+    ensures not_read { result ≡ Err Read → ⊥ }
     ensures later { H.faults journal.old.host ≤ H.faults journal.new.host }
     ensures write { result ≡ Err Write → H.faults journal.old.host < H.faults journal.new.host }
     ensures journal { result ≡ Err JournalFailed → (H.faults journal.old.host < H.faults journal.new.host)
         ⊎ ((rest : List ℕ) → (buffers.old.ended ≡ true → rest ≡ [])
-        → IsFull R.answers (Some (buffers.old.pending ++ rest)) (R.state responder.old)
+        → IsFull R.answers work.old.number (Some (buffers.old.pending ++ rest)) (R.state responder.old)
         (recovered (H.content journal.old.host))) }
 
-    ensures batch { EndsAtRest result → work.new.batch.bytes.items ≡ [] }
-    ensures buffered { EndsAtRest result → buffers.new.buffered.items ≡ [] }
+    ensures batch { OnOk result (work.new.batch.bytes.items ≡ []) }
+    ensures buffered { OnOk result (buffers.new.buffered.items ≡ []) }
     ensures reads { buffers.new.reads ≡ buffers.old.reads }
     ensures ended { buffers.new.ended ≡ buffers.old.ended }
     ensures number { work.new.number + length buffers.new.pending ≤ work.old.number + length buffers.old.pending }
@@ -70,5 +71,5 @@ pub fn answer_group<R: JournaledResponder, H: Host>(
     journal.commit_and_put_out(&work.batch.bytes, &buffers.buffered)?;
     work.batch.clear();
     buffers.buffered.clear();
-    answered
+    Ok(answered?)
 }

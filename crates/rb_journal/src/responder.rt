@@ -1,12 +1,12 @@
 //! What answers lines, and keeps its state in a journal.
-ghost use Rattle.std.specs.Prelude.{◌≡◌, ◌≤◌, ℕ, List, false, length, OnOk, OnErr, IsErrOf};
-ghost use Rattle.rb_lines.specs.Lines.{is_blank};
+ghost use Rattle.std.specs.Prelude.{◌≡◌, ◌≤◌, ℕ, List, [], false, true, length, OnOk, OnErr};
+ghost use Rattle.rb_lines.specs.Lines.{is_blank, is_long};
 ghost use Rattle.rb_lines.specs.declared.limits.TheConstants.{LINE_LIMIT, MOST_BATCHED};
 ghost use Rattle.rb_journal.specs.Lines.{recovered};
-ghost use Rattle.rb_journal.specs.Turns.{HasNoAnswer, IsTurn};
+ghost use Rattle.rb_journal.specs.Turns.{IsTurn};
 
 use crate::batch::LineBatch;
-use crate::no_answer::NoAnswer;
+use std::alloc::AllocError;
 
 /// What answers lines, one after another. Its state is the run of a journal's lines.
 pub trait JournaledResponder {
@@ -19,18 +19,19 @@ pub trait JournaledResponder {
     /// The journal's lines that a responder in that state is the run of, each with its line feed.
     ghost lines: { State → List (List ℕ) };
 
-    /// In the first state, the input line may be answered by adding these lines, with this text, and then the state is
-    /// the second.
-    ghost answers: { State → List ℕ → List (List ℕ) → List ℕ → State → Type 0 };
+    /// In the first state, the input line of this number may be answered by adding these lines, with this text, and
+    /// then the state is the second.
+    ghost answers: { State → ℕ → List ℕ → List (List ℕ) → List ℕ → State → Type 0 };
 
-    /// Takes one line, which isn't blank and not too long: adds its lines to the batch, and its answer to the text.
-    /// After an `Err` neither has changed. `Bad`: the responder hasn't either. `OutOfMemory`: ask nothing more of it.
+    /// Takes the line of this number in the input, which isn't blank and not too long: adds its lines to the batch, and
+    /// its answer to the text. `Err` means out of memory: neither has changed, and nothing more may be asked of it.
     fn answer_line(
         &mut self,
         line: &[u8],
+        number: u64,
         batch: &mut LineBatch,
         text: &mut Vec<u8>,
-    ) -> Result<(), NoAnswer>
+    ) -> Result<(), AllocError>
         requires some { is_blank line.now ≡ false }
         requires short { length line.now ≤ LINE_LIMIT }
         // Of what was answered before it, up to this much waits for the disk: memory is taken for that and one answer.
@@ -38,10 +39,18 @@ pub trait JournaledResponder {
         requires short_text { length text.old.items ≤ MOST_BATCHED }
         ensures answered { OnOk result (IsTurn answers (state self.old) (state self.new)
             (lines (state self.old)) (lines (state self.new))
-            (recovered batch.old.bytes.items) (recovered batch.new.bytes.items) line.now
+            (recovered batch.old.bytes.items) (recovered batch.new.bytes.items) number line.now
             text.old.items text.new.items) }
-        ensures bad { IsErrOf result NoAnswer.Bad → HasNoAnswer answers (state self.old) line.now }
-        ensures same { IsErrOf result NoAnswer.Bad → state self.new ≡ state self.old }
         ensures batch_err { OnErr result (batch.new.bytes.items ≡ batch.old.bytes.items) }
+        ensures text_err { OnErr result (text.new.items ≡ text.old.items) };
+
+    /// Takes the line of this number in the input, which is too long, and whose bytes weren't kept: adds its answer to
+    /// the text, and no line to the journal. `Err` means out of memory: the text has not changed, and nothing more may
+    /// be asked of it.
+    fn answer_long(&mut self, number: u64, text: &mut Vec<u8>) -> Result<(), AllocError>
+        // It is the answer to the line, whichever bytes it has.
+        ensures answered { OnOk result ((line : List ℕ) → is_long line ≡ true →
+            IsTurn answers (state self.old) (state self.new) (lines (state self.old)) (lines (state self.new))
+            [] [] number line text.old.items text.new.items) }
         ensures text_err { OnErr result (text.new.items ≡ text.old.items) };
 }

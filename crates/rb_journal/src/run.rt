@@ -16,19 +16,24 @@ use crate::fault::ServeFault;
 use crate::group::answer_group;
 use crate::host::Host;
 use crate::journal::Journal;
+use crate::long::answer_long_line;
+use crate::read_on::read_on;
 use crate::responder::JournaledResponder;
+use crate::waiting::Waiting;
 use crate::work::Work;
-use rb_lines::{Buffers, NoLine, Source};
+use rb_lines::{Buffers, Source};
 use std::alloc::Global;
 
 /// Answers each line of what waits in `buffers` and of what the reader still gives, and says how many were answered;
-/// `number` is that of the first of them. Blank lines are counted and not answered, and a last line without a line
-/// feed is a line.
+/// `number` is that of the first of them. Blank lines are counted and not answered, unless they are too long, and a
+/// last line without a line feed is a line.
 ///
 /// The whole lines of one read are answered, their entries are committed together, and their text is put out; then
 /// comes the next read. Once the entries or the texts have more than `MOST_BATCHED` bytes, they are committed and put
-/// out before the next line is answered. At a fault of a line this is done for those before it, and then the fault is
-/// returned.
+/// out before the next line is answered.
+///
+/// Before a line that is too long, what was answered is committed and put out. The bytes of that line are dropped as
+/// they are read, up to its line feed or the end of the input, and then its answer is put out.
 pub fn serve<R: JournaledResponder, H: Host, S: Source>(
     alloc: Global,
     responder: &mut R,
@@ -44,7 +49,7 @@ pub fn serve<R: JournaledResponder, H: Host, S: Source>(
     requires buffered { buffers.old.buffered.items ≡ [] }
     requires number { number + length buffers.old.pending < 2 ^ 63 }
 
-    // If nothing has failed but a line or a read, the journal is at rest, and the responder is the run of its lines.
+    // If nothing has failed but a read, the journal is at rest, and the responder is the run of its lines.
     ensures settled { EndsAtRest result → IsSettled H.is_usable H.content H.may_leave journal.new }
     ensures same { EndsAtRest result → R.lines (R.state responder.new) ≡ recovered (H.content journal.new.host) }
 
@@ -52,46 +57,44 @@ pub fn serve<R: JournaledResponder, H: Host, S: Source>(
     ensures text { EndsAtRest result → (turns : List (Turn R.State))
         × IsPutOut R.answers (R.state responder.old) (recovered (H.content journal.old.host))
         (H.output journal.old.host) turns (recovered (H.content journal.new.host)) (H.output journal.new.host)
-        × EndsAs R.answers (R.state responder.old) turns number
-        (served_input buffers.old.pending (S.remaining reader.old)) (S.remaining reader.new) result }
+        × EndsAs number turns (served_input buffers.old.pending (S.remaining reader.old)) (S.remaining reader.new)
+        result }
 
     // A crash at any moment leaves a file and an output of a run: nothing is put out that it takes back, and no line
     // of the journal is skipped or there in part.
     ensures any_moment { LeavesOnly H.moment H.left_since journal.old.host journal.new.host
-        (IsRunOfTurns R.answers (served_input buffers.old.pending (S.remaining reader.old)) (R.state responder.old)
-        (recovered (H.content journal.old.host)) (H.output journal.old.host)) }
+        (IsRunOfTurns R.answers number (served_input buffers.old.pending (S.remaining reader.old))
+        (R.state responder.old) (recovered (H.content journal.old.host)) (H.output journal.old.host)) }
     ensures intact { LeavesOnly H.moment H.left_since journal.old.host journal.new.host (λ c _. IsIntact c) }
 
     // At each moment what is in the file and isn't put out yet is one batch, and a batch is bounded. While a line is
     // answered no more waits for the disk, which is a condition of `answer_line`.
     ensures batches { LeavesOnly H.moment H.left_since journal.old.host journal.new.host
-        (IsRunOfBatches R.answers (served_input buffers.old.pending (S.remaining reader.old)) (R.state responder.old)
-        (recovered (H.content journal.old.host)) (H.output journal.old.host)) }
+        (IsRunOfBatches R.answers number (served_input buffers.old.pending (S.remaining reader.old))
+        (R.state responder.old) (recovered (H.content journal.old.host)) (H.output journal.old.host)) }
 
     // Each other fault comes only for its cause.
     ensures read { result ≡ Err Read → (S.failed reader.new ≡ true) ⊎ (S.calls reader.new ≡ MOST_READS) }
     ensures write { result ≡ Err Write → H.faults journal.old.host < H.faults journal.new.host }
     ensures journal { result ≡ Err JournalFailed → (H.faults journal.old.host < H.faults journal.new.host)
-        ⊎ IsFull R.answers (served_input buffers.old.pending (S.remaining reader.old)) (R.state responder.old)
+        ⊎ IsFull R.answers number (served_input buffers.old.pending (S.remaining reader.old)) (R.state responder.old)
         (recovered (H.content journal.old.host)) }
     // At most `MOST_READS` reads are made, whatever is answered.
     ensures calls { S.calls reader.new ≤ MOST_READS }
 {
     let mut work = Work::new(alloc, number);
     'batches: loop {
-        let more = answer_group(responder, journal, buffers, &mut work)?;
-        if more {
-            continue 'batches;
+        match answer_group(responder, journal, buffers, &mut work)? {
+            Waiting::Line(_) => continue 'batches,
+            Waiting::Long => {
+                answer_long_line(responder, journal, buffers, &mut work, reader)?;
+                continue 'batches;
+            }
+            Waiting::Nothing => {}
         }
         if buffers.ended {
             return Ok(work.count);
         }
-        match buffers.read_more(reader) {
-            Ok(()) => {}
-            Err(NoLine::Read) => return Err(ServeFault::Read),
-            Err(NoLine::OutOfMemory) => return Err(ServeFault::OutOfMemory),
-            // Reading more gives no other reason.
-            Err(NoLine::TooLong | NoLine::Write) => unreachable!(),
-        }
+        read_on(buffers, reader)?;
     }
 }

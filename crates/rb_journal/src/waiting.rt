@@ -1,19 +1,18 @@
 //! The lines that wait, answered one after another.
-ghost use Rattle.std.specs.Prelude.{◌≡◌, ◌≢◌, ◌+◌, ◌^◌, ◌<◌, ◌≤◌, ◌++◌, List, ℕ, [], true, Ok, Err, length, OnOk};
-ghost use Rattle.std.specs.Prelude.{OnErr, IfErr, MatchResult};
+ghost use Rattle.std.specs.Prelude.{◌≡◌, ◌+◌, ◌^◌, ◌<◌, ◌≤◌, ◌++◌, List, ℕ, [], Ok, length, IfOk, OnOk, OnErr};
 ghost use Rattle.rb_journal.specs.Lines.{recovered};
 ghost use Rattle.rb_lines.specs.Buffers.{IsWholeLine};
 ghost use Rattle.rb_lines.specs.declared.limits.TheConstants.{MOST_BATCHED};
-ghost use Rattle.rb_journal.specs.Steps.{Advances, AdvancesByBatch, IsWaiting, LineStillWaits, StopsAt, point_of};
-ghost use Rattle.rb_journal.specs.declared.fault.ServeFault.TheVariants.{Journal, OutOfMemory, Write};
+ghost use Rattle.rb_journal.specs.Steps.{Advances, AdvancesByBatch, IsWaiting, point_of};
+ghost use Rattle.rb_journal.specs.declared.waiting.Waiting.TheVariants.{Line};
 
-use crate::fault::ServeFault;
-use crate::no_answer::NoAnswer;
 use crate::responder::JournaledResponder;
 use crate::work::Work;
 use rb_lines::{Buffers, LINE_LIMIT, MOST_BATCHED, is_blank};
+use std::alloc::AllocError;
 
 /// What is at the front of the bytes that wait.
+#[derive(Clone, Copy)]
 pub enum Waiting {
     /// A line of this number of bytes, with its line feed or at the end of the input.
     Line(usize),
@@ -38,13 +37,13 @@ fn next_waiting(buffers: &mut Buffers) -> Waiting
     Waiting::Nothing
 }
 
-/// Answers the line at the front, of this number of bytes, or skips it if it is blank.
+/// Answers the line at the front, of this number of bytes, or skips it if it is blank. `Err` means out of memory.
 fn answer_next<R: JournaledResponder>(
     responder: &mut R,
     buffers: &mut Buffers,
     work: &mut Work,
     n: usize,
-) -> Result<(), ServeFault>
+) -> Result<(), AllocError>
     requires line { IsWholeLine buffers.old n }
     requires few_entries { length work.old.batch.bytes.items ≤ MOST_BATCHED }
     requires short_text { length buffers.old.buffered.items ≤ MOST_BATCHED }
@@ -52,21 +51,18 @@ fn answer_next<R: JournaledResponder>(
     requires count { work.old.count ≤ work.old.number }
     ensures answered { OnOk result (Advances R.answers buffers.old.ended
         (point_of (R.state responder.old) (R.lines (R.state responder.old)) buffers.old.buffered.items work.old
-        buffers.old)
+        buffers.old.pending)
         (point_of (R.state responder.new) (R.lines (R.state responder.new)) buffers.new.buffered.items work.new
-        buffers.new)) }
+        buffers.new.pending)) }
     // What is added is added to the batch.
     ensures batch { OnOk result ((before : List (List ℕ))
         → R.lines (R.state responder.old) ≡ before ++ recovered work.old.batch.bytes.items
         → R.lines (R.state responder.new) ≡ before ++ recovered work.new.batch.bytes.items) }
-    ensures responder { OnErr result (result ≢ Err OutOfMemory → R.state responder.new ≡ R.state responder.old) }
     ensures same { OnErr result ((state : R.State) (lines : List (List ℕ)) →
-        point_of state (lines ++ recovered work.new.batch.bytes.items) buffers.new.buffered.items work.new buffers.new
+        point_of state (lines ++ recovered work.new.batch.bytes.items) buffers.new.buffered.items work.new
+        buffers.new.pending
         ≡ point_of state (lines ++ recovered work.old.batch.bytes.items) buffers.old.buffered.items work.old
-        buffers.old) }
-    ensures stop { IfErr result (StopsAt R.answers (R.state responder.new) work.new.number buffers.new) }
-    ensures not_write { result ≡ Err Write → ⊥ }
-    ensures not_journal { result ≡ Err Journal → ⊥ }
+        buffers.old.pending) }
     ensures reads { buffers.new.reads ≡ buffers.old.reads }
     ensures ended { buffers.new.ended ≡ buffers.old.ended }
     ensures number { OnOk result ((work.new.number ≡ work.old.number + 1)
@@ -76,11 +72,7 @@ fn answer_next<R: JournaledResponder>(
 {
     let line = &buffers.pending.as_slice()[..n];
     if !is_blank(line) {
-        match responder.answer_line(line, &mut work.batch, &mut buffers.buffered) {
-            Ok(()) => {}
-            Err(NoAnswer::Bad) => return Err(ServeFault::BadLine { line: work.number }),
-            Err(NoAnswer::OutOfMemory) => return Err(ServeFault::OutOfMemory),
-        }
+        responder.answer_line(line, work.number, &mut work.batch, &mut buffers.buffered)?;
         work.count += 1;
     }
     buffers.skip_line(n);
@@ -88,13 +80,14 @@ fn answer_next<R: JournaledResponder>(
     Ok(())
 }
 
-/// Answers lines that wait whole, one batch of them, and says whether a line still waits: the batch ends before it once
-/// its entries or its texts have more than `MOST_BATCHED` bytes.
+/// Answers lines that wait whole, one batch of them, and says what waits behind them: a line, if the batch ended before
+/// it, which it does once its entries or its texts have more than `MOST_BATCHED` bytes; or a line that is too long.
+/// `Err` means out of memory.
 pub fn answer_waiting<R: JournaledResponder>(
     responder: &mut R,
     buffers: &mut Buffers,
     work: &mut Work,
-) -> Result<bool, ServeFault>
+) -> Result<Waiting, AllocError>
     requires batch { work.old.batch.bytes.items ≡ [] }
     requires buffered { buffers.old.buffered.items ≡ [] }
     requires number { work.old.number + length buffers.old.pending < 2 ^ 64 }
@@ -102,16 +95,13 @@ pub fn answer_waiting<R: JournaledResponder>(
     // Of a responder without memory nothing is said: then there is the state before the line that it didn't answer.
     ensures answered { (state : R.State) × AdvancesByBatch R.answers buffers.old.ended
         (point_of (R.state responder.old) (R.lines (R.state responder.old)) buffers.old.buffered.items work.old
-        buffers.old)
+        buffers.old.pending)
         (point_of state (R.lines (R.state responder.old) ++ recovered work.new.batch.bytes.items)
-        buffers.new.buffered.items work.new buffers.new) × (result ≢ Err OutOfMemory → R.state responder.new ≡ state) }
-    ensures responder { result ≢ Err OutOfMemory → R.lines (R.state responder.new)
-        ≡ R.lines (R.state responder.old) ++ recovered work.new.batch.bytes.items }
-    ensures stop { MatchResult result (LineStillWaits buffers.new)
-        (StopsAt R.answers (R.state responder.new) work.new.number buffers.new) }
-    ensures fewer { result ≡ Ok true → length buffers.new.pending < length buffers.old.pending }
-    ensures not_write { result ≡ Err Write → ⊥ }
-    ensures not_journal { result ≡ Err Journal → ⊥ }
+        buffers.new.buffered.items work.new buffers.new.pending) × OnOk result (R.state responder.new ≡ state) }
+    ensures responder { OnOk result (R.lines (R.state responder.new)
+        ≡ R.lines (R.state responder.old) ++ recovered work.new.batch.bytes.items) }
+    ensures waiting { IfOk result (IsWaiting buffers.new) }
+    ensures fewer { (n : ℕ) → result ≡ Ok (Line n) → length buffers.new.pending < length buffers.old.pending }
     ensures reads { buffers.new.reads ≡ buffers.old.reads }
     ensures ended { buffers.new.ended ≡ buffers.old.ended }
     ensures number { work.new.number + length buffers.new.pending ≤ work.old.number + length buffers.old.pending }
@@ -120,11 +110,11 @@ pub fn answer_waiting<R: JournaledResponder>(
     'lines: loop {
         let n = match next_waiting(buffers) {
             Waiting::Line(n) => n,
-            Waiting::Long => return Err(ServeFault::LongLine { line: work.number }),
-            Waiting::Nothing => return Ok(false),
+            Waiting::Long => return Ok(Waiting::Long),
+            Waiting::Nothing => return Ok(Waiting::Nothing),
         };
         if work.batch.bytes.len() > MOST_BATCHED || buffers.buffered.len() > MOST_BATCHED {
-            return Ok(true);
+            return Ok(Waiting::Line(n));
         }
         answer_next(responder, buffers, work, n)?;
     }

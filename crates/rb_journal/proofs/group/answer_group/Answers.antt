@@ -16,25 +16,25 @@ use Rattle.rb_journal.proofs.group.answer_group.Goals as goal
 -- the lines are answered, and what they add waits in the batch
 steps : (g : Over) (c : After-answer_waiting-answered g) → AdvancesByBatch g.R.JournaledResponder.answers c.args.buffers.now.ended
     (point_of (g.R.JournaledResponder.state c.args.responder.now) (recovered (g.H.Host.content c.args.journal.now.host))
-    c.args.buffers.now.buffered.items c.args.work.now c.args.buffers.now)
+    c.args.buffers.now.buffered.items c.args.work.now c.args.buffers.now.pending)
     (point_of c.answer_waiting-answered.ensures.answered.0
     (recovered (g.H.Host.content c.args.journal.now.host)
     ++ recovered c.answer_waiting-answered.new.work.batch.bytes.items)
     c.answer_waiting-answered.new.buffers.buffered.items c.answer_waiting-answered.new.work
-    c.answer_waiting-answered.new.buffers)
+    c.answer_waiting-answered.new.buffers.pending)
 steps g c =
     let now = c.answer_waiting-answered.new in
     let old = c.args.buffers.now in
     let begin = g.R.JournaledResponder.state c.args.responder.now in
     let last = c.answer_waiting-answered.ensures.answered.0 in
-    subst (λ ls. AdvancesByBatch g.R.JournaledResponder.answers old.ended (point_of begin ls old.buffered.items c.args.work.now old)
-    (point_of last (ls ++ recovered now.work.batch.bytes.items) now.buffers.buffered.items now.work now.buffers))
+    subst (λ ls. AdvancesByBatch g.R.JournaledResponder.answers old.ended (point_of begin ls old.buffered.items c.args.work.now old.pending)
+    (point_of last (ls ++ recovered now.work.batch.bytes.items) now.buffers.buffered.items now.work now.buffers.pending))
     c.requires.same c.answer_waiting-answered.ensures.answered.1
 
 -- a crash leaves a run over the lines
 run : (g : Over) (c : After-commit_and_put_out g) (rest : List ℕ) → (c.args.buffers.now.ended ≡ true → rest ≡ [])
     → LeavesOnly g.H.Host.moment g.H.Host.left_since c.args.journal.now.host c.commit_and_put_out.new.self.host
-    (IsRunOfBatches g.R.JournaledResponder.answers (Some (c.args.buffers.now.pending ++ rest))
+    (IsRunOfBatches g.R.JournaledResponder.answers c.args.work.now.number (Some (c.args.buffers.now.pending ++ rest))
     (g.R.JournaledResponder.state c.args.responder.now)
     (recovered (g.H.Host.content c.args.journal.now.host)) (g.H.Host.output c.args.journal.now.host))
 run g c rest end =
@@ -48,6 +48,10 @@ run g c rest end =
 pub returns-in_err-commit_and_put_out-clause-any_moment : goal.returns-in_err-commit_and_put_out-clause-any_moment
 returns-in_err-commit_and_put_out-clause-any_moment g c =
     run g (goal.at.returns-in_err-commit_and_put_out-clause-any_moment g c).After-commit_and_put_out
+
+pub returns-in_err-answered-clause-any_moment : goal.returns-in_err-answered-clause-any_moment
+returns-in_err-answered-clause-any_moment g c =
+    run g (goal.at.returns-in_err-answered-clause-any_moment g c).After-commit_and_put_out
 
 pub returns-clause-any_moment : goal.returns-clause-any_moment
 returns-clause-any_moment g c = run g (goal.at.returns-clause-any_moment g c).After-commit_and_put_out

@@ -1,5 +1,5 @@
 -- What is written again is within the bytes.
-use Rattle.std.proofs.Common.{ℕ, ◌-◌, ◌≤◌, length}
+use Rattle.std.proofs.Common.{◌-◌, ◌≤◌, length}
 use Rattle.rb_journal.proofs.named_file.write_again.Given as goal
 
 abbrev pub invariant-loop-at : goal.invariant-loop-at

@@ -30,9 +30,9 @@ invariant-batches g l =
       later : host.faults l.fn.journal.host ≤ host.faults l.journal.host;
       follows : Follows answers input begin lines output l.fn.number
           (point_of (g.R.JournaledResponder.state l.responder) (recovered (host.content l.journal.host))
-          (host.output l.journal.host) l.work l.buffers)
+          (host.output l.journal.host) l.work l.buffers.pending)
           (g.S.Source.remaining l.reader) l.buffers.ended;
-      any_moment : LeavesOnly host.moment host.left_since l.fn.journal.host l.journal.host (IsRunOfBatches answers input begin lines output);
+      any_moment : LeavesOnly host.moment host.left_since l.fn.journal.host l.journal.host (IsRunOfBatches answers l.fn.number input begin lines output);
       intact : LeavesOnly host.moment host.left_since l.fn.journal.host l.journal.host (λ f d. IsIntact f);
     }
 

@@ -1,10 +1,9 @@
 -- One line more.
-use Rattle.std.proofs.Common.{rules, arith, ◌≡◌, ◌<◌, ◌++◌, ◌∙◌, [], Result, Err, length, ap, sym, subst, append-nil, inl, inr, refl}
+use Rattle.std.proofs.Common.{rules, arith, ◌<◌, ◌++◌, ◌∙◌, [], length, ap, sym, subst, append-nil, inl, inr, refl}
 use Rattle.rb_journal.specs.Lines.{recovered}
 use Rattle.rb_lines.specs.declared.buffers.Buffers.{Buffers}
 use Rattle.rb_journal.specs.Steps.{Advances, AdvancesByBatch, Point, point_of}
 use Rattle.rb_journal.proofs.Advance.{batch_then, few_so_far, none_yet}
-use Rattle.rb_journal.specs.declared.fault.ServeFault.{ServeFault}
 use Rattle.rb_journal.proofs.waiting.answer_waiting.Given.{Over}
 use Rattle.rb_journal.proofs.waiting.answer_waiting.Goals.{After-next_waiting}
 use Rattle.rb_journal.proofs.waiting.answer_waiting.Goals as goal
@@ -15,7 +14,7 @@ lines-init g c =
     let lines = g.R.JournaledResponder.lines state in
     record {
       answered = none_yet g.R.JournaledResponder.answers c.args.buffers.now.ended
-          (point_of state lines c.args.buffers.now.buffered.items c.args.work.now c.args.buffers.now);
+          (point_of state lines c.args.buffers.now.buffered.items c.args.work.now c.args.buffers.now.pending);
       batch = sym (append-nil lines) ∙ ap (λ l. lines ++ recovered l) (sym c.requires.batch);
       reads = search rules;
       ended = search rules;
@@ -35,14 +34,14 @@ lines-preserved g c =
     let first = state c.args.responder.now in
     let now = state c.lines.responder in
     let new = state c.answer_next.new.responder in
-    let start = point_of first (lines first) c.args.buffers.now.buffered.items c.args.work.now c.args.buffers.now in
-    let mid = point_of now (lines now) c.lines.buffers.buffered.items c.lines.work c.lines.buffers in
+    let start = point_of first (lines first) c.args.buffers.now.buffered.items c.args.work.now c.args.buffers.now.pending in
+    let mid = point_of now (lines now) c.lines.buffers.buffered.items c.lines.work c.lines.buffers.pending in
     let end = point_of new (lines new) c.answer_next.new.buffers.buffered.items c.answer_next.new.work
-    c.answer_next.new.buffers in
+    c.answer_next.new.buffers.pending in
     let next : Advances g.R.JournaledResponder.answers c.args.buffers.now.ended mid end =
     subst (λ e. Advances g.R.JournaledResponder.answers e mid end) inv.ended
     (subst (λ (b : Buffers). Advances g.R.JournaledResponder.answers b.ended
-    (point_of now (lines now) b.buffered.items c.lines.work b) end) same step.answered) in
+    (point_of now (lines now) b.buffered.items c.lines.work b.pending) end) same step.answered) in
     let few = few_so_far g.R.JournaledResponder.answers c.args.buffers.now.ended start mid c.lines.work.batch.bytes.items inv.answered.0
     inv.batch c.lines.work.batch.whole c.requires.buffered (search rules) (search rules) in
     let fewer : length c.answer_next.new.buffers.pending < length c.args.buffers.now.pending =
@@ -58,45 +57,41 @@ lines-preserved g c =
       begun = inr fewer;
     }
 
--- a fault is the same whatever else a call returns
-same_fault : {T : Type 0} (f g : ServeFault) → ◌≡◌ {A = Result T ServeFault} (Err f) (Err g) → f ≡ g
-same_fault f g is = cc is
-
 -- what was answered before the next line
 so_far : (g : Over) (c : After-next_waiting g) → AdvancesByBatch g.R.JournaledResponder.answers c.args.buffers.now.ended
     (point_of (g.R.JournaledResponder.state c.args.responder.now)
     (g.R.JournaledResponder.lines (g.R.JournaledResponder.state c.args.responder.now))
-    c.args.buffers.now.buffered.items c.args.work.now c.args.buffers.now)
+    c.args.buffers.now.buffered.items c.args.work.now c.args.buffers.now.pending)
     (point_of (g.R.JournaledResponder.state c.lines.responder)
     (g.R.JournaledResponder.lines (g.R.JournaledResponder.state c.args.responder.now)
     ++ recovered c.lines.work.batch.bytes.items)
-    c.next_waiting.new.buffers.buffered.items c.lines.work c.next_waiting.new.buffers)
+    c.next_waiting.new.buffers.buffered.items c.lines.work c.next_waiting.new.buffers.pending)
 so_far g c =
     let inv = c.lines.invariant in
     let state = g.R.JournaledResponder.state in
     let lines = g.R.JournaledResponder.lines (state c.args.responder.now) in
     let last = state c.lines.responder in
-    let start = point_of (state c.args.responder.now) lines c.args.buffers.now.buffered.items c.args.work.now c.args.buffers.now in
+    let start = point_of (state c.args.responder.now) lines c.args.buffers.now.buffered.items c.args.work.now c.args.buffers.now.pending in
     let e = c.args.buffers.now.ended in
     let work = c.lines.work in
     subst (λ (b : Buffers). AdvancesByBatch g.R.JournaledResponder.answers e start
-    (point_of last (lines ++ recovered work.batch.bytes.items) b.buffered.items work b)) (sym c.next_waiting.ensures.same)
+    (point_of last (lines ++ recovered work.batch.bytes.items) b.buffered.items work b.pending)) (sym c.next_waiting.ensures.same)
     (subst (λ ls. AdvancesByBatch g.R.JournaledResponder.answers e start
-    (point_of last ls c.lines.buffers.buffered.items work c.lines.buffers)) inv.batch inv.answered)
+    (point_of last ls c.lines.buffers.buffered.items work c.lines.buffers.pending)) inv.batch inv.answered)
 
 pub returns-in-Long-clause-answered : goal.returns-in-Long-clause-answered
 returns-in-Long-clause-answered g c =
-    (g.R.JournaledResponder.state c.lines.responder, so_far g (goal.at.returns-in-Long-clause-answered g c).After-next_waiting, λ other. refl)
+    (g.R.JournaledResponder.state c.lines.responder, so_far g (goal.at.returns-in-Long-clause-answered g c).After-next_waiting, refl)
 
 pub returns-in-Nothing-clause-answered : goal.returns-in-Nothing-clause-answered
 returns-in-Nothing-clause-answered g c =
-    (g.R.JournaledResponder.state c.lines.responder, so_far g (goal.at.returns-in-Nothing-clause-answered g c).After-next_waiting, λ other. refl)
+    (g.R.JournaledResponder.state c.lines.responder, so_far g (goal.at.returns-in-Nothing-clause-answered g c).After-next_waiting, refl)
 
 pub returns-then-len-gt-MOST_BATCHED-clause-answered : goal.returns-then-len-gt-MOST_BATCHED-clause-answered
 returns-then-len-gt-MOST_BATCHED-clause-answered g c = (
   g.R.JournaledResponder.state c.lines.responder,
   so_far g (goal.at.returns-then-len-gt-MOST_BATCHED-clause-answered g c).After-next_waiting,
-  λ other. refl,
+  refl,
 )
 
 -- what was answered before the line that isn't
@@ -106,22 +101,12 @@ returns-in_err-answer_next-clause-answered g c =
     let lines = g.R.JournaledResponder.lines (state c.args.responder.now) in
     let last = state c.lines.responder in
     let step = c.in_err-answer_next.ensures in
-    let start = point_of (state c.args.responder.now) lines c.args.buffers.now.buffered.items c.args.work.now c.args.buffers.now in
-    let passed : c.from_residual.result ≡ Err c.in_err-answer_next.field-0.0 = search rules in (
+    let start = point_of (state c.args.responder.now) lines c.args.buffers.now.buffered.items c.args.work.now c.args.buffers.now.pending in (
       last,
       subst (AdvancesByBatch g.R.JournaledResponder.answers c.args.buffers.now.ended start) (sym (step.same last lines))
           (so_far g (goal.at.returns-in_err-answer_next-clause-answered g c).After-next_waiting),
-      λ other. step.responder (λ no_memory. other (passed ∙ ap Err (same_fault _ _ no_memory))),
+      search rules,
     )
-
-pub returns-in_err-answer_next-clause-responder : goal.returns-in_err-answer_next-clause-responder
-returns-in_err-answer_next-clause-responder g c = λ other.
-    let state = g.R.JournaledResponder.state in
-    let lines = g.R.JournaledResponder.lines (state c.args.responder.now) in
-    let step = c.in_err-answer_next.ensures in
-    let passed : c.from_residual.result ≡ Err c.in_err-answer_next.field-0.0 = search rules in
-    ap g.R.JournaledResponder.lines (step.responder (λ no_memory. other (passed ∙ ap Err (same_fault _ _ no_memory)))) ∙ c.lines.invariant.batch
-    ∙ ap (λ (p : Point g.R.JournaledResponder.State). p.lines) (sym (step.same (state c.lines.responder) lines))
 
 pub returns-in_err-answer_next-clause-number : goal.returns-in_err-answer_next-clause-number
 returns-in_err-answer_next-clause-number g c =

@@ -1,0 +1,141 @@
+-- A line that is too long, and is dropped as it comes.
+use Rattle.std.proofs.Common.{◌≡◌, ◌<◌, ◌≤◌, ◌+◌, ◌==◌, ◌⊎◌, ℕ, suc, zero, Bool, true, false, List, [], ◌∷◌, ◌++◌, length, take, drop}
+use Rattle.std.proofs.Common.{Option, Some, None, inl, inr, refl, sym, ap, ◌∙◌, arith, append_assoc, append-nil, length-append, rules}
+use Rattle.std.proofs.lemmas.List.{length-take}
+use Rattle.std.specs.Io.KnownBytes.{Consumes, Keeps}
+use Rattle.rb_lines.specs.Buffers.{Reads}
+use Rattle.rb_lines.specs.Lines.{is_long, line_len}
+use Rattle.rb_lines.specs.declared.limits.TheConstants.{LINE_LIMIT}
+use Rattle.rb_lines.specs.declared.buffers.Buffers.{Buffers}
+use Rattle.rb_lines.proofs.Public.LongLines.{len, len_is}
+use Rattle.rb_journal.specs.Steps.{DropsLine}
+use Rattle.rb_journal.proofs.Advance.{IsFirst}
+
+-- ---- the length of a line whose front has no line feed
+
+front_step : (t : Bool) (b : ℕ) (xs ys : List ℕ) → (b == 10) ≡ t → len (b ∷ xs) ≡ length (b ∷ xs)
+    → (len xs ≡ length xs → len (xs ++ ys) ≡ length xs + len ys) → len ((b ∷ xs) ++ ys) ≡ length (b ∷ xs) + len ys
+front_step true b xs ys is none more = let zero_is : 0 ≡ length (b ∷ xs) = rw is at none in absurd (omega (arith, zero_is))
+front_step false b xs ys is none more =
+    let one : 1 + len xs ≡ length (b ∷ xs) = rw is at none in
+    let rest = more (omega (arith, one)) in
+    rw is (omega (arith, rest))
+
+front_len : (xs ys : List ℕ) → len xs ≡ length xs → len (xs ++ ys) ≡ length xs + len ys
+front_len [] ys none = omega arith
+front_len (b ∷ xs) ys none = front_step (b == 10) b xs ys refl none (front_len xs ys)
+
+-- of bytes without a line feed, and then others, the first line is the former and the first line of the latter
+pub line_behind : (xs ys : List ℕ) → line_len xs ≡ length xs → line_len (xs ++ ys) ≡ length xs + line_len ys
+line_behind xs ys none =
+    sym (len_is (xs ++ ys)) ∙ front_len xs ys (len_is xs ∙ none) ∙ ap (λ n. length xs + n) (len_is ys)
+
+longer_step : (t : Bool) (b : ℕ) (xs ys : List ℕ) → (b == 10) ≡ t → len xs ≤ len (xs ++ ys) → len (b ∷ xs) ≤ len ((b ∷ xs) ++ ys)
+longer_step true b xs ys is more = rw is (omega arith)
+longer_step false b xs ys is more = rw is (omega (arith, more))
+
+longer : (xs ys : List ℕ) → len xs ≤ len (xs ++ ys)
+longer [] ys = omega arith
+longer (b ∷ xs) ys = longer_step (b == 10) b xs ys refl (longer xs ys)
+
+-- with more behind it the first line is no shorter
+pub no_shorter : (xs ys : List ℕ) → line_len xs ≤ line_len (xs ++ ys)
+no_shorter xs ys = omega (arith, longer xs ys, len_is xs, len_is (xs ++ ys))
+
+drop_past : (xs ys : List ℕ) (n m : ℕ) → m ≡ length xs + n → drop m (xs ++ ys) ≡ drop n ys
+drop_past [] ys n m is = let same : m ≡ n = omega (arith, is) in ap (λ k. drop k ys) same
+drop_past (x ∷ xs) ys n zero is = absurd (omega (arith, is))
+drop_past (x ∷ xs) ys n (suc m) is = drop_past xs ys n m (omega (arith, is))
+
+first_either : (p : List ℕ) (e : Bool) → (line_len p < length p) ⊎ ((line_len p ≡ length p) × (e ≡ true)) → 0 < line_len p
+    → IsFirst p e (line_len p)
+first_either p e (inl more) some = inl more
+first_either p e (inr last) some = inr (last.0, some, last.1)
+
+fits_either : (p : List ℕ) (e : Bool) → (line_len p < length p) ⊎ ((line_len p ≡ length p) × (e ≡ true)) → line_len p ≤ length p
+fits_either p e (inl more) = omega (arith, more)
+fits_either p e (inr last) = omega (arith, last.0)
+
+-- ---- what was dropped so far
+
+consumes_none : (had : Option (List ℕ)) → Consumes had had []
+consumes_none None = tt
+consumes_none (Some xs) = refl
+
+consumes_then : (had mid has : Option (List ℕ)) (a b : List ℕ) → Consumes had mid a → Consumes mid has b → Consumes had has (a ++ b)
+consumes_then None mid has a b x y = tt
+consumes_then (Some xs) None has a b x y = absurd x
+consumes_then (Some xs) (Some ys) None a b x y = absurd y
+consumes_then (Some xs) (Some ys) (Some zs) a b x y = x ∙ ap (λ l. a ++ l) y ∙ sym (append_assoc a b zs)
+
+consumes_kept : (had mid has : Option (List ℕ)) (a : List ℕ) → Consumes had mid a → Keeps mid has → Consumes had has a
+consumes_kept None mid has a x y = tt
+consumes_kept (Some xs) None has a x y = absurd x
+consumes_kept (Some xs) (Some ys) None a x y = absurd y
+consumes_kept (Some xs) (Some ys) (Some zs) a x y = x ∙ ap (λ l. a ++ l) (sym y)
+
+-- of what waited and what was read behind it, the bytes that are gone have no line feed, and these wait now
+pub record Dropped (old now : List ℕ) (had has : Option (List ℕ)) : Type 0 where
+  pub more : List ℕ
+  pub gone : List ℕ
+  pub read : Consumes had has more
+  pub all : old ++ more ≡ gone ++ now
+  pub one : line_len gone ≡ length gone
+
+pub none_dropped : (p : List ℕ) (had : Option (List ℕ)) → (d : Dropped p p had had) × (length d.gone ≡ 0)
+none_dropped p had = (record { more = []; gone = []; read = consumes_none had; all = append-nil p; one = refl }, refl)
+
+-- what waits has no line feed: it is dropped, and more is read
+pub dropped_more : (old p p' : List ℕ) (had mid has : Option (List ℕ)) → (d : Dropped old p had mid) → line_len p ≡ length p
+    → Reads [] p' mid has → (e : Dropped old p' had has) × (length e.gone ≡ length d.gone + length p)
+dropped_more old p p' had mid has d none (m, is, read) = (
+  record {
+    more = d.more ++ m;
+    gone = d.gone ++ p;
+    read = consumes_then had mid has d.more m d.read read;
+    all = sym (append_assoc old d.more m) ∙ ap (λ l. l ++ m) d.all ∙ ap (λ l. (d.gone ++ p) ++ l) (sym is);
+    one = line_behind d.gone p d.one ∙ ap (λ n. length d.gone + n) none ∙ sym (length-append d.gone p);
+  },
+  length-append d.gone p,
+)
+
+-- the length of the first line of all that was dropped and that waits
+pub all_length : (old p : List ℕ) (had has : Option (List ℕ)) → (d : Dropped old p had has)
+    → (line_len (old ++ d.more) ≡ length d.gone + line_len p) × (length (old ++ d.more) ≡ length d.gone + length p)
+all_length old p had has d =
+    (ap line_len d.all ∙ line_behind d.gone p d.one, ap length d.all ∙ length-append d.gone p)
+
+-- what is behind that line
+pub behind_all : (old p : List ℕ) (had has : Option (List ℕ)) → (d : Dropped old p had has)
+    → drop (line_len p + 1) p ≡ drop (line_len (old ++ d.more) + 1) (old ++ d.more)
+behind_all old p had has d =
+    let at : line_len (old ++ d.more) + 1 ≡ length d.gone + (line_len p + 1) = omega (arith, (all_length old p had has d).0) in
+    sym (ap (λ l. drop (line_len (old ++ d.more) + 1) l) d.all ∙ drop_past d.gone p (line_len p + 1) (line_len (old ++ d.more) + 1) at)
+
+-- the read failed: all that came is the front of one line
+pub stopped_in_line : (old p : List ℕ) (had mid has : Option (List ℕ)) → (d : Dropped old p had mid) → line_len p ≡ length p
+    → Keeps mid has → Consumes had has d.more × (line_len (old ++ d.more) ≡ length (old ++ d.more))
+stopped_in_line old p had mid has d none kept =
+    let lengths = all_length old p had mid d in
+    (consumes_kept had mid has d.more d.read kept, lengths.0 ∙ ap (λ n. length d.gone + n) none ∙ sym lengths.1)
+
+-- ---- the line that was dropped
+
+-- it is at the front of what waited and was read, with its line feed, or at the end
+pub dropped_first : (old new : Buffers) (had has : Option (List ℕ)) → (d : DropsLine old new had has) → LINE_LIMIT < line_len old.pending
+    → IsFirst (old.pending ++ d.more) new.ended (line_len (old.pending ++ d.more))
+dropped_first old new had has d long = first_either (old.pending ++ d.more) new.ended d.whole
+    (omega (arith, long, no_shorter old.pending d.more))
+
+pub dropped_fits : (old new : Buffers) (had has : Option (List ℕ)) → (d : DropsLine old new had has)
+    → line_len (old.pending ++ d.more) ≤ length (old.pending ++ d.more)
+dropped_fits old new had has d = fits_either (old.pending ++ d.more) new.ended d.whole
+
+-- it is too long
+pub dropped_long : (old new : Buffers) (had has : Option (List ℕ)) → (d : DropsLine old new had has) → LINE_LIMIT < line_len old.pending
+    → is_long (take (line_len (old.pending ++ d.more)) (old.pending ++ d.more)) ≡ true
+dropped_long old new had has d long =
+    let all = old.pending ++ d.more in
+    let longer : LINE_LIMIT < length (take (line_len all) all) =
+    omega (arith, long, no_shorter old.pending d.more, dropped_fits old new had has d, length-take (line_len all) all) in
+    search rules

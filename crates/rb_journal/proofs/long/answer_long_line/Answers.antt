@@ -1,0 +1,157 @@
+-- A line that is too long is answered.
+use Rattle.std.proofs.Common.{arith, ◌≡◌, ◌+◌, ◌++◌, ◌∙◌, ℕ, List, [], take, ap, sym}
+use Rattle.std.proofs.Common.{append-nil, refl}
+use Rattle.rb_lines.specs.Lines.{line_len}
+use Rattle.rb_journal.specs.Host.{LeavesOnly}
+use Rattle.rb_journal.specs.Lines.{recovered}
+use Rattle.rb_journal.specs.Run.{IsRunOfBatches, served_input}
+use Rattle.rb_journal.specs.Steps.{Advances, Point}
+use Rattle.rb_journal.specs.Turns.{IsTurn}
+use Rattle.rb_journal.proofs.Advance.{alone, answers_one, long_answered}
+use Rattle.rb_journal.proofs.Dropping.{dropped_first, dropped_fits, dropped_long}
+use Rattle.rb_journal.proofs.Follow.{no_rest, read_over, rest_of, run_start, served_before}
+use Rattle.rb_journal.proofs.Public.Moments.{started, weaker}
+use Rattle.rb_journal.proofs.Runs.{durable_is_run}
+use Rattle.rb_journal.proofs.long.answer_long_line.Given.{Over}
+use Rattle.rb_journal.proofs.long.answer_long_line.Goals.{After-commit_and_put_out, After-drop_line}
+use Rattle.rb_journal.proofs.long.answer_long_line.Goals as goal
+
+-- what waited, and what was read of the line
+all : (g : Over) (c : After-commit_and_put_out g) → List ℕ
+all g c = c.args.buffers.now.pending ++ c.in_ok-drop_line.ensures.dropped.more
+
+-- the line
+line : (g : Over) (c : After-commit_and_put_out g) → List ℕ
+line g c = take (line_len (all g c)) (all g c)
+
+-- the responder took it
+turn : (g : Over) (c : After-commit_and_put_out g) → IsTurn g.R.JournaledResponder.answers
+    (g.R.JournaledResponder.state c.args.responder.now) (g.R.JournaledResponder.state c.answer_long.new.self)
+    (g.R.JournaledResponder.lines (g.R.JournaledResponder.state c.args.responder.now))
+    (g.R.JournaledResponder.lines (g.R.JournaledResponder.state c.answer_long.new.self))
+    [] [] c.args.work.now.number (line g c) c.drop_line.new.buffers.buffered.items c.answer_long.new.text.items
+unfolding all line
+turn g c = c.in_ok-answer_long.ensures.answered (line g c)
+    (dropped_long _ _ _ _ c.in_ok-drop_line.ensures.dropped c.requires.long)
+
+-- before it is answered, with this text
+before : (g : Over) (c : After-commit_and_put_out g) → List ℕ → Point g.R.JournaledResponder.State
+before g c text = record {
+  state = g.R.JournaledResponder.state c.args.responder.now;
+  lines = recovered (g.H.Host.content c.args.journal.now.host);
+  text = text;
+  pending = all g c;
+  number = c.args.work.now.number;
+  count = c.args.work.now.count;
+}
+
+-- and afterwards
+after : (g : Over) (c : After-commit_and_put_out g) → List ℕ → Point g.R.JournaledResponder.State
+after g c text = record {
+  state = g.R.JournaledResponder.state c.answer_long.new.self;
+  lines = recovered (g.H.Host.content c.args.journal.now.host);
+  text = text ++ c.answer_long.new.text.items;
+  pending = c.drop_line.new.buffers.pending;
+  number = c.args.work.now.number + 1;
+  count = c.args.work.now.count + 1;
+}
+
+-- its answer is one step, and adds no line
+step : (g : Over) (c : After-commit_and_put_out g) (text : List ℕ)
+    → Advances g.R.JournaledResponder.answers c.drop_line.new.buffers.ended (before g c text) (after g c text)
+unfolding all line before after
+step g c text =
+    let t = turn g c in
+    let dropped = c.in_ok-drop_line.ensures.dropped in
+    let lines = recovered (g.H.Host.content c.args.journal.now.host) in
+    let none : [] ≡ t.added = t.batch_is in
+    let words : c.answer_long.new.text.items ≡ t.words = t.text_is ∙ ap (λ l. l ++ t.words) c.drop_line.ensures.buffered in
+    answers_one g.R.JournaledResponder.answers c.drop_line.new.buffers.ended (before g c text) (after g c text) (line_len (all g c))
+    (g.R.JournaledResponder.state c.answer_long.new.self) lines [] [] (text ++ c.answer_long.new.text.items) refl
+    (dropped_fits _ _ _ _ dropped) (dropped_first _ _ _ _ dropped c.requires.long)
+    (long_answered (line g c) (dropped_long _ _ _ _ dropped c.requires.long))
+    (record {
+      added = t.added;
+      words = t.words;
+      answered = t.answered;
+      lines_are = sym (append-nil lines) ∙ ap (λ ls. lines ++ ls) none;
+      batch_is = t.batch_is;
+      text_is = ap (λ l. text ++ l) words;
+    })
+    refl refl refl dropped.left refl refl
+
+-- the responder's lines are those of the journal
+same_lines : (g : Over) (c : After-commit_and_put_out g)
+    → g.R.JournaledResponder.lines (g.R.JournaledResponder.state c.answer_long.new.self)
+    ≡ recovered (g.H.Host.content c.args.journal.now.host)
+same_lines g c =
+    let t = turn g c in
+    let lines = recovered (g.H.Host.content c.args.journal.now.host) in
+    t.lines_are ∙ ap (λ ls. ls ++ t.added) c.requires.same ∙ ap (λ ls. lines ++ ls) (sym t.batch_is) ∙ append-nil lines
+
+pub returns-clause-same : goal.returns-clause-same
+returns-clause-same g c = λ _.
+    let lines = recovered (g.H.Host.content c.args.journal.now.host) in
+    same_lines g (goal.at.returns-clause-same g c).After-commit_and_put_out
+    ∙ sym (c.in_ok-commit_and_put_out.ensures.lines ∙ append-nil lines)
+
+pub returns-clause-answered : goal.returns-clause-answered
+unfolding all before after
+returns-clause-answered g c =
+    let output = g.H.Host.output c.args.journal.now.host in
+    let lines = recovered (g.H.Host.content c.args.journal.now.host) in
+    let p = (goal.at.returns-clause-answered g c).After-commit_and_put_out in
+    let dropped = c.in_ok-drop_line.ensures.dropped in
+    let kept : recovered (g.H.Host.content c.commit_and_put_out.new.self.host) ≡ lines =
+    c.in_ok-commit_and_put_out.ensures.lines ∙ append-nil lines in
+    let said : g.H.Host.output c.commit_and_put_out.new.self.host ≡ output ++ c.answer_long.new.text.items =
+    c.in_ok-commit_and_put_out.ensures.output ∙ ap (λ l. output ++ l) c.deref.ensures.value in
+    (dropped.more, dropped.read, rw (kept, said) (step g p output))
+
+-- a crash leaves a prefix of the answer put out
+moments : (g : Over) (c : After-commit_and_put_out g) → LeavesOnly g.H.Host.moment g.H.Host.left_since c.args.journal.now.host
+    c.commit_and_put_out.new.self.host
+    (IsRunOfBatches g.R.JournaledResponder.answers c.args.work.now.number
+    (served_input c.args.buffers.now.pending (g.S.Source.remaining c.args.reader.now))
+    (g.R.JournaledResponder.state c.args.responder.now)
+    (recovered (g.H.Host.content c.args.journal.now.host)) (g.H.Host.output c.args.journal.now.host))
+unfolding all before after
+moments g c =
+    let lines = recovered (g.H.Host.content c.args.journal.now.host) in
+    let dropped = c.in_ok-drop_line.ensures.dropped in
+    let has = g.S.Source.remaining c.drop_line.new.reader in
+    let s = step g c [] in
+    weaker g.H.Host.moment g.H.Host.left_since _ _ _ _ c.commit_and_put_out.ensures.any_moment
+    (λ f d kept. read_over g.R.JournaledResponder.answers c.args.work.now.number _ _ _ lines _ f d
+    (λ ts are. served_before c.args.work.now.number ts c.args.buffers.now.pending dropped.more
+    (g.S.Source.remaining c.args.reader.now) has dropped.read are)
+    (durable_is_run g.R.JournaledResponder.answers c.drop_line.new.buffers.ended (before g c []) (after g c []) (rest_of has) [] _
+    c.deref.result.now f d (s, alone s.turns (omega (arith, s.count_is))) (λ ended. no_rest has (c.in_ok-drop_line.ensures.end ended)) (sym (append-nil lines))
+    refl (sym c.deref.ensures.value) kept))
+
+pub returns-in_err-commit_and_put_out-clause-any_moment : goal.returns-in_err-commit_and_put_out-clause-any_moment
+returns-in_err-commit_and_put_out-clause-any_moment g c =
+    moments g (goal.at.returns-in_err-commit_and_put_out-clause-any_moment g c).After-commit_and_put_out
+
+pub returns-clause-any_moment : goal.returns-clause-any_moment
+returns-clause-any_moment g c = moments g (goal.at.returns-clause-any_moment g c).After-commit_and_put_out
+
+-- before that the journal is as it was
+at_start : (g : Over) (c : After-drop_line g) → LeavesOnly g.H.Host.moment g.H.Host.left_since c.args.journal.now.host
+    c.args.journal.now.host
+    (IsRunOfBatches g.R.JournaledResponder.answers c.args.work.now.number
+    (served_input c.args.buffers.now.pending (g.S.Source.remaining c.args.reader.now))
+    (g.R.JournaledResponder.state c.args.responder.now)
+    (recovered (g.H.Host.content c.args.journal.now.host)) (g.H.Host.output c.args.journal.now.host))
+at_start g c =
+    let host = g.H.Host in
+    let was = c.args.journal.now.host in
+    started host.moment host.left_since was _ (λ f d left. let now = g.met.H.Host.only_now was f d left in
+    run_start g.R.JournaledResponder.answers c.args.work.now.number _ (g.R.JournaledResponder.state c.args.responder.now)
+    (recovered (host.content was)) (host.output was) f d (ap recovered (c.requires.settled.durable f now.0)) now.1)
+
+pub returns-in_err-drop_line-clause-any_moment : goal.returns-in_err-drop_line-clause-any_moment
+returns-in_err-drop_line-clause-any_moment g c = at_start g (goal.at.returns-in_err-drop_line-clause-any_moment g c).After-drop_line
+
+pub returns-in_err-answer_long-clause-any_moment : goal.returns-in_err-answer_long-clause-any_moment
+returns-in_err-answer_long-clause-any_moment g c = at_start g (goal.at.returns-in_err-answer_long-clause-any_moment g c).After-drop_line

@@ -1,0 +1,109 @@
+-- The line is dropped, or more of it.
+use Rattle.std.proofs.Common.{rules, arith, ◌≡◌, ◌∙◌, ◌+◌, ◌*◌, [], length, drop, ap, inl, inr}
+use Rattle.std.proofs.Common.{subst, Err}
+use Rattle.std.proofs.lemmas.List.{length-drop}
+use Rattle.std.proofs.Math.ListN.{drop_of_length-le}
+use Rattle.rb_lines.specs.Buffers.{Reads}
+use Rattle.rb_lines.specs.Lines.{line_len}
+use Rattle.rb_lines.specs.declared.limits.TheConstants.{READ_SIZE}
+use Rattle.rb_journal.specs.declared.fault.ServeFault.TheVariants.{Read}
+use Rattle.rb_journal.proofs.Dropping.{all_length, behind_all, dropped_more, no_shorter, none_dropped, stopped_in_line}
+use Rattle.rb_journal.proofs.long.drop_line.Goals.{then-whole-via-then-whole, then-whole-via-else-whole+then-buffers}
+use Rattle.rb_journal.proofs.long.drop_line.Goals as goal
+
+pub reads-init : goal.reads-init
+reads-init g c =
+    let none = none_dropped c.args.buffers.now.pending (g.S.Source.remaining c.args.reader.now) in
+    record {
+      counted = c.requires.counted;
+      buffered = c.requires.nothing_buffered;
+      end = c.requires.end;
+      begun = λ going. going;
+      fewer = omega arith;
+      dropped = (none.0, omega (arith, none.1));
+    }
+
+pub returns-then-whole-clause-dropped : goal.returns-then-whole-clause-dropped
+returns-then-whole-clause-dropped g c =
+    let old = c.args.buffers.now.pending in
+    let p = c.reads.buffers.pending in
+    let had = g.S.Source.remaining c.args.reader.now in
+    let has = g.S.Source.remaining c.reads.reader in
+    let d = c.reads.invariant.dropped.0 in
+    let lengths = all_length old p had has d in
+    let n : c.first_line-n.result ≡ line_len p = c.first_line-n.ensures.length in
+    let len : length c.as_slice.result.now ≡ length p = ap length (c.as_slice.ensures ∙ c.first_line-n.ensures.same) in
+    let now : c.skip_line.new.self.pending ≡ drop (c.first_line-n.result + 1) p = search rules in
+    record {
+      more = d.more;
+      read = d.read;
+      whole = elim c.then-whole.branch [
+        | then-whole-via-then-whole w ↦ inl (omega (arith, lengths.0, lengths.1, n, len, w.if-whole.true))
+        | then-whole-via-else-whole+then-buffers w ↦
+            inr (omega (arith, lengths.0, lengths.1, n, len, c.first_line-n.ensures.within, w.if-whole.false), w.if-buffers.true)
+      ];
+      left = now ∙ ap (λ k. drop (k + 1) p) n ∙ behind_all old p had has d;
+    }
+
+pub returns-then-whole-clause-left : goal.returns-then-whole-clause-left
+returns-then-whole-clause-left g c =
+    let old = c.args.buffers.now.pending in
+    let p = c.reads.buffers.pending in
+    let d = c.reads.invariant.dropped.0 in
+    let lengths = all_length old p (g.S.Source.remaining c.args.reader.now) (g.S.Source.remaining c.reads.reader) d in
+    let now : c.skip_line.new.self.pending ≡ drop (c.first_line-n.result + 1) p = search rules in
+    let reads : c.skip_line.new.self.reads ≡ c.reads.buffers.reads = search rules in
+    omega (
+      arith,
+      lengths.0,
+      no_shorter old d.more,
+      c.first_line-n.ensures.length,
+      c.first_line-n.ensures.within,
+      ap (λ l. length l) now,
+      length-drop (c.first_line-n.result + 1) p,
+      ap (λ k. READ_SIZE * k) reads,
+      c.reads.invariant.dropped.1,
+    )
+
+pub reads-preserved : goal.reads-preserved
+reads-preserved g c =
+    let old = c.args.buffers.now.pending in
+    let p = c.reads.buffers.pending in
+    let inv = c.reads.invariant in
+    let had = g.S.Source.remaining c.args.reader.now in
+    let mid = g.S.Source.remaining c.reads.reader in
+    let has = g.S.Source.remaining c.read_on.new.reader in
+    let read = c.in_ok-read_on.ensures in
+    let n : c.first_line-n.result ≡ line_len p = c.first_line-n.ensures.length in
+    let len : length c.as_slice.result.now ≡ length p = ap length (c.as_slice.ensures ∙ c.first_line-n.ensures.same) in
+    let all : line_len p ≡ length p = omega (arith, n, len, c.first_line-n.ensures.within, c.if-whole.false) in
+    let now : c.skip_line.new.self.pending ≡ drop (c.first_line-n.result + 1) p = search rules in
+    let reads : c.skip_line.new.self.reads ≡ c.reads.buffers.reads = search rules in
+    let none : c.skip_line.new.self.pending ≡ [] = now ∙ drop_of_length-le p (omega (arith, n, all)) in
+    let more = dropped_more old p c.read_on.new.buffers.pending had mid has inv.dropped.0 all
+    (subst (λ l. Reads l c.read_on.new.buffers.pending mid has) none read.read) in
+    record {
+      counted = c.read_on.ensures.counted;
+      buffered = search rules;
+      end = read.end;
+      begun = λ _. inv.begun (search rules);
+      fewer = omega (arith, read.fewer, reads, inv.fewer);
+      dropped = (more.0, omega (arith, more.1, read.left, ap length none, ap (λ k. READ_SIZE * k) reads, inv.dropped.1));
+    }
+
+pub returns-in_err-read_on-clause-stopped : goal.returns-in_err-read_on-clause-stopped
+returns-in_err-read_on-clause-stopped g c = λ is.
+    let old = c.args.buffers.now.pending in
+    let p = c.reads.buffers.pending in
+    let inv = c.reads.invariant in
+    let had = g.S.Source.remaining c.args.reader.now in
+    let mid = g.S.Source.remaining c.reads.reader in
+    let has = g.S.Source.remaining c.read_on.new.reader in
+    let n : c.first_line-n.result ≡ line_len p = c.first_line-n.ensures.length in
+    let len : length c.as_slice.result.now ≡ length p = ap length (c.as_slice.ensures ∙ c.first_line-n.ensures.same) in
+    let all : line_len p ≡ length p = omega (arith, n, len, c.first_line-n.ensures.within, c.if-whole.false) in
+    let passed : c.from_residual.result ≡ Err c.in_err-read_on.field-0.0 = search rules in
+    let same : c.in_err-read_on.field-0.0 ≡ Read = cc (passed, is) in
+    let stop = c.in_err-read_on.ensures.stopped (ap Err same) in
+    let line = stopped_in_line old p had mid has inv.dropped.0 all stop.2 in
+    (record { more = inv.dropped.0.more; read = line.0; one = line.1; going = stop.1 }, stop.3)

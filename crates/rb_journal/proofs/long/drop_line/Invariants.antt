@@ -1,0 +1,20 @@
+-- Between two reads: what was dropped is the front of the line.
+use Rattle.std.proofs.Common.{◌≡◌, ◌≤◌, ◌+◌, [], false, true, length}
+use Rattle.std.specs.Io.KnownBytes.{IsAtEnd}
+use Rattle.rb_lines.specs.Buffers.{Counts, left}
+use Rattle.rb_journal.proofs.Dropping.{Dropped}
+use Rattle.rb_journal.proofs.long.drop_line.Given as goal
+
+abbrev pub invariant-reads : goal.invariant-reads
+invariant-reads g l = record {
+  counted : Counts (g.S.Source.calls l.reader) l.buffers.reads;
+  buffered : l.buffers.buffered.items ≡ [];
+  end : l.buffers.ended ≡ true → IsAtEnd (g.S.Source.remaining l.reader);
+  begun : l.buffers.ended ≡ false → l.fn.buffers.ended ≡ false;
+  fewer : l.buffers.reads ≤ l.fn.buffers.reads;
+  dropped : (d : Dropped l.fn.buffers.pending l.buffers.pending (g.S.Source.remaining l.fn.reader) (g.S.Source.remaining l.reader))
+      × (left l.buffers + length d.gone ≤ left l.fn.buffers);
+}
+
+abbrev pub decreases-reads : goal.decreases-reads
+decreases-reads g l = left l.buffers + l.buffers.reads

@@ -1,0 +1,116 @@
+//! A line that is too long: its bytes are dropped as they come, and it is answered by its number alone.
+ghost use Rattle.std.specs.Prelude.{◌≡◌, ◌+◌, ◌^◌, ◌<◌, ◌≤◌, ◌⊎◌, ◌++◌, List, ℕ, [], false, true, Err, length, OnOk};
+ghost use Rattle.std.specs.Io.KnownBytes.{Consumes, IsAtEnd};
+ghost use Rattle.rb_lines.specs.Buffers.{Counts, left};
+ghost use Rattle.rb_lines.specs.Lines.{line_len};
+ghost use Rattle.rb_lines.specs.declared.limits.TheConstants.{LINE_LIMIT, MOST_READS};
+ghost use Rattle.rb_journal.specs.Ends.{EndsAtRest, IsFull};
+ghost use Rattle.rb_journal.specs.Host.{LeavesOnly};
+ghost use Rattle.rb_journal.specs.Journal.{IsSettled};
+ghost use Rattle.rb_journal.specs.Lines.{IsIntact, recovered};
+ghost use Rattle.rb_journal.specs.Run.{IsRunOfBatches, served_input};
+ghost use Rattle.rb_journal.specs.Steps.{Advances, DropsLine, ReadsOn, point_of};
+ghost use Rattle.rb_journal.specs.declared.fault.ServeFault.TheVariants.{Journal as JournalFailed, Read, Write};
+
+use crate::fault::ServeFault;
+use crate::host::Host;
+use crate::journal::Journal;
+use crate::read_on::read_on;
+use crate::responder::JournaledResponder;
+use crate::work::Work;
+use rb_lines::{Buffers, Source};
+
+/// Drops the line at the front, with its line feed, if it has one. What waits of it is dropped before each read, so no
+/// more than one read waits besides.
+fn drop_line<S: Source>(buffers: &mut Buffers, reader: &mut S) -> Result<(), ServeFault>
+    requires counted { Counts (S.calls reader.old) buffers.old.reads }
+    requires end { buffers.old.ended ≡ true → IsAtEnd (S.remaining reader.old) }
+    requires nothing_buffered { buffers.old.buffered.items ≡ [] }
+    ensures dropped { OnOk result (DropsLine buffers.old buffers.new (S.remaining reader.old)
+        (S.remaining reader.new)) }
+    ensures stopped { result ≡ Err Read
+        → ReadsOn buffers.old buffers.new (S.remaining reader.old) (S.remaining reader.new)
+        × ((S.failed reader.new ≡ true) ⊎ (S.calls reader.new ≡ MOST_READS)) }
+    ensures not_write { result ≡ Err Write → ⊥ }
+    ensures not_journal { result ≡ Err JournalFailed → ⊥ }
+    ensures counted { Counts (S.calls reader.new) buffers.new.reads }
+    ensures fewer { OnOk result (buffers.new.reads ≤ buffers.old.reads) }
+    ensures left { OnOk result (left buffers.new + line_len buffers.old.pending ≤ left buffers.old) }
+    ensures buffered { buffers.new.buffered.items ≡ [] }
+    ensures was_going { buffers.new.ended ≡ false → buffers.old.ended ≡ false }
+    ensures end { OnOk result (buffers.new.ended ≡ true → IsAtEnd (S.remaining reader.new)) }
+{
+    'reads: loop {
+        let n = buffers.pending.first_line();
+        let whole = n < buffers.pending.as_slice().len();
+        buffers.skip_line(n);
+        if whole || buffers.ended {
+            return Ok(());
+        }
+        read_on(buffers, reader)?;
+    }
+}
+
+/// Drops the line at the front, which is too long, and of which more may have to be read; and then puts out its answer.
+/// Nothing is put out before the line has ended.
+pub fn answer_long_line<R: JournaledResponder, H: Host, S: Source>(
+    responder: &mut R,
+    journal: &mut Journal<H>,
+    buffers: &mut Buffers,
+    work: &mut Work,
+    reader: &mut S,
+) -> Result<(), ServeFault>
+    requires settled { IsSettled H.is_usable H.content H.may_leave journal.old }
+    requires same { R.lines (R.state responder.old) ≡ recovered (H.content journal.old.host) }
+    requires batch { work.old.batch.bytes.items ≡ [] }
+    requires buffered { buffers.old.buffered.items ≡ [] }
+    requires counted { Counts (S.calls reader.old) buffers.old.reads }
+    requires end { buffers.old.ended ≡ true → IsAtEnd (S.remaining reader.old) }
+    requires long { LINE_LIMIT < line_len buffers.old.pending }
+    requires number { work.old.number + 1 < 2 ^ 64 }
+    requires count { work.old.count ≤ work.old.number }
+
+    ensures settled { EndsAtRest result → IsSettled H.is_usable H.content H.may_leave journal.new }
+    ensures same { EndsAtRest result → R.lines (R.state responder.new) ≡ recovered (H.content journal.new.host) }
+    // What was read is behind what waited, and of both together the first line was answered.
+    ensures answered { OnOk result ((more : List ℕ) × Consumes (S.remaining reader.old) (S.remaining reader.new) more
+        × Advances R.answers buffers.new.ended
+        (point_of (R.state responder.old) (recovered (H.content journal.old.host)) (H.output journal.old.host) work.old
+        (buffers.old.pending ++ more))
+        (point_of (R.state responder.new) (recovered (H.content journal.new.host)) (H.output journal.new.host) work.new
+        buffers.new.pending)) }
+    ensures stopped { result ≡ Err Read
+        → ReadsOn buffers.old buffers.new (S.remaining reader.old) (S.remaining reader.new)
+        × ((S.failed reader.new ≡ true) ⊎ (S.calls reader.new ≡ MOST_READS))
+        × (R.state responder.new ≡ R.state responder.old) × (journal.new ≡ journal.old) }
+
+    // A crash leaves a run over what waited and what was still to be read.
+    ensures any_moment { LeavesOnly H.moment H.left_since journal.old.host journal.new.host
+        (IsRunOfBatches R.answers work.old.number (served_input buffers.old.pending (S.remaining reader.old))
+        (R.state responder.old) (recovered (H.content journal.old.host)) (H.output journal.old.host)) }
+    ensures intact { LeavesOnly H.moment H.left_since journal.old.host journal.new.host (λ c _. IsIntact c) }
+
+    ensures later { H.faults journal.old.host ≤ H.faults journal.new.host }
+    ensures write { result ≡ Err Write → H.faults journal.old.host < H.faults journal.new.host }
+    ensures journal { result ≡ Err JournalFailed → (H.faults journal.old.host < H.faults journal.new.host)
+        ⊎ IsFull R.answers work.old.number (served_input buffers.old.pending (S.remaining reader.old))
+        (R.state responder.old) (recovered (H.content journal.old.host)) }
+
+    ensures batch { work.new.batch.bytes.items ≡ [] }
+    ensures buffered { OnOk result (buffers.new.buffered.items ≡ []) }
+    ensures was_going { buffers.new.ended ≡ false → buffers.old.ended ≡ false }
+    ensures counted { Counts (S.calls reader.new) buffers.new.reads }
+    ensures fewer { OnOk result (buffers.new.reads ≤ buffers.old.reads) }
+    ensures left { OnOk result (left buffers.new < left buffers.old) }
+    ensures end { OnOk result (buffers.new.ended ≡ true → IsAtEnd (S.remaining reader.new)) }
+    ensures number { OnOk result (work.new.number ≡ work.old.number + 1) }
+    ensures count { OnOk result (work.new.count ≤ work.new.number) }
+{
+    drop_line(buffers, reader)?;
+    responder.answer_long(work.number, &mut buffers.buffered)?;
+    journal.commit_and_put_out(&[], &buffers.buffered)?;
+    buffers.buffered.clear();
+    work.number += 1;
+    work.count += 1;
+    Ok(())
+}
