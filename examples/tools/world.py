@@ -26,7 +26,7 @@ class Step:
     reply: dict
     came: int = 0                               # the number of the message that came, from 1
     sent: list = field(default_factory=list)    # the numbers of those that it sent
-    has: list = field(default_factory=list)     # each account that it is on, the balance then, and what it moved
+    rows: dict = field(default_factory=dict)    # by an operation: each account, the balance then, and what it moved
     position: int = 0                           # in its site's history, from 1
     fault: str = ""                             # why an audit doesn't take it
     taken: bool = True
@@ -35,6 +35,11 @@ class Step:
     @property
     def verb(self):
         return next((verb for verb in VERBS if verb in self.event), "")
+
+    @property
+    def has(self):
+        """Each account that it is on, the balance then, and what it moved, in the order of its operations."""
+        return [row for rows in self.rows.values() for row in rows]
 
     @property
     def changed(self):
@@ -167,7 +172,7 @@ def add_balances(world, has):
     """Puts the balances beside what changed them."""
     for step in world.steps:
         if step.taken:
-            step.has = [each for name in step.changed for each in has.get((step.site, name), [])]
+            step.rows = {name: has.get((step.site, name), []) for name in step.changed}
 
 
 def receipt_key(event):
@@ -312,7 +317,7 @@ def made_as(world, queues, at, name):
     if known["kind"] == "transfer":
         known["to"] = request["transfer"][1]
     if verb == "interest":
-        return known | {"account": request[verb][0]} | {"amount": row[2] for row in step.has}
+        return known | {"account": request[verb][0]} | {"amount": row[2] for row in step.rows.get(name, [])}
     return known | {"account": request[verb][0], "amount": request[verb][-1]}
 
 
