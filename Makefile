@@ -1,5 +1,5 @@
-.PHONY: help demo try build install test toolchain check examples bench bindings refuse wrong-bodies crash disk wires \
-	broker
+.PHONY: help demo try play play-test build install test toolchain check examples bench bindings refuse wrong-bodies \
+	crash disk wires broker
 
 help:
 	@echo 'At once:'
@@ -10,6 +10,8 @@ help:
 	@echo
 	@echo 'With time (on four processors; on two it takes about twice as long):'
 	@echo '  make build         proves and builds the program; less than an hour the first time'
+	@echo '  make play          a page in the browser on which a bank is played with, after make build;'
+	@echo '                     OPEN=stale_token begins with this run of examples/'
 	@echo '  make install PREFIX=/usr/local'
 	@echo '                     copies the program, its manual page and completions for three shells, after make build'
 	@echo '  make examples      every example, and every case of tests/cases, through the program, after make build'
@@ -28,6 +30,7 @@ help:
 	@echo '  make disk          each call of a site on its file, its input and its output at fault in turn; wants cc'
 	@echo '  make wires         sites over pipes, 20,000 deposits each at once, one of them stopped for a while'
 	@echo '  make broker        three sites over the message broker mosquitto, if it is installed'
+	@echo '  make play-test     the page of make play, used in a browser, and its mutants; wants chromium (play/README.md)'
 
 # The stored run, drawn, each command beside its reply.
 demo:
@@ -43,6 +46,18 @@ build:
 	@echo 'Proving and building: less than an hour the first time, seconds if nothing changed since (four processors).'
 	@cd crates/rbbank && rt run -- script < stdin > /dev/null
 	@echo $(CURDIR)/crates/rbbank/out/rbbank
+
+# A page in the browser over the built program. It builds nothing.
+play:
+	@play/play.py $(if $(OPEN),--open "$(OPEN)")
+
+# The same page used in a browser as a person does, and the mutants of page and server. Without a browser it says what
+# to install, and ends in a status.
+PYTHON ?= python3
+play-test:
+	@test -x crates/rbbank/out/rbbank || { echo 'there is no program yet: make build'; exit 1; }
+	@$(PYTHON) play/browse.py crates/rbbank/out/rbbank
+	@$(PYTHON) play/mutants.py crates/rbbank/out/rbbank
 
 # The program, and the manual page and completions that are made from its help, below PREFIX.
 PREFIX ?= /usr/local
@@ -80,6 +95,7 @@ test: toolchain
 	@tests/cases.py --quiet crates/rbbank/out/rbbank
 	@examples/tools/from_help.py --check crates/rbbank/out/rbbank
 	@tests/sites.py --quiet crates/rbbank/out/rbbank
+	@play/check.py --quiet crates/rbbank/out/rbbank
 	@tests/crash.py --quiet crates/rbbank/out/rbbank --kills 20 --seed 1
 
 # Whether README.md names this machine's toolchain, as one that every crate was proved with.

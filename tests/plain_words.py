@@ -1,13 +1,13 @@
 #!/usr/bin/env python3
 """Counts what costs a reader a second look, and prints two tables: words in docs, in doc comments, in comments at
 definitions, in other comments and in names; and of each page its words and the mean length of its sentences. Below them
-are the lines of docs, crates/*/src, scripts in Python and the Makefile that are too long.
+are the lines of docs, crates/*/src, scripts in Python, play/ and the Makefile that are too long.
 
 usage: plain_words.py              the tables and the lines
        plain_words.py --check      the same, and ends in status 1 if a number is above the one stored here, a page isn't
                                    listed here or isn't there, or a line is too long
 
-Docs are the pages: the Markdown files at the top and in docs/, bench/, bindings/, examples/ and crates/*, but for
+Docs are the pages: the Markdown files at the top and in docs/, bench/, bindings/, examples/, play/ and crates/*, but for
 docs/MODEL.md, which is made from the comments at definitions; these are the lines of crates/*/specs that begin with
 '--'. Doc comments are the lines of crates/*/src that begin with '///' or '//!'. Other comments are the other lines of
 crates/*/src that begin with '//', and the lines of crates/*/proofs that begin with '--'. Names are the words of what is
@@ -76,8 +76,10 @@ PAGES = {
     "examples/README.md": (1550, 14),
     "examples/broker/README.md": (260, 17),
     "examples/shop/README.md": (300, 18),
+    "play/README.md": (700, 17),
 }
-PATTERNS = ("*.md", "docs/*.md", "bench/**/*.md", "bindings/**/*.md", "examples/**/*.md", "crates/*/*.md")
+PATTERNS = ("*.md", "docs/*.md", "bench/**/*.md", "bindings/**/*.md", "examples/**/*.md", "play/**/*.md",
+            "crates/*/*.md")
 
 
 def files(*patterns):
@@ -177,7 +179,9 @@ def lengths():
 
 def too_long():
     """The lines that are too long, each with its place."""
-    places = [f"{folder}/**/*.{kind}" for folder in ("bench", "bindings", "examples", "tests") for kind in ("md", "py")]
+    folders = ("bench", "bindings", "examples", "play", "tests")
+    places = [f"{folder}/**/*.{kind}" for folder in folders for kind in ("md", "py")]
+    places += [f"play/page/*.{kind}" for kind in ("html", "css", "js")]
     for path, text in files("Makefile", "*.md", "docs/*.md", "crates/*/*.md", "crates/*/src/**/*.rt", *places):
         free = FREE.get(os.path.splitext(path)[1])
         for number, line in enumerate(text.split("\n"), 1):
