@@ -156,6 +156,7 @@ class Browse:
             self.shot(f"puzzle-{at + 1}")
             if page.ask("return document.getElementById('over').classList.contains('open')"):
                 page.click("#close")
+        page.press("k")
         page.click("[data-do='next']")
         same("close", "the next bank", page.balances(), [{"ann": 700, "bob": 320}] * 2)
 

@@ -15,6 +15,7 @@ try:
     from selenium.webdriver.common.action_chains import ActionChains
     from selenium.webdriver.common.by import By
     from selenium.webdriver.common.keys import Keys
+    from selenium.webdriver.remote.file_detector import UselessFileDetector
 except ImportError:
     sys.stderr.write(f"browse: {sys.executable} has no selenium ({DEBIAN}): nothing was tried\n")
     sys.exit(77)
@@ -49,6 +50,7 @@ def firefox() -> Any:
 def browser(is_firefox: bool, remote: str | None) -> Any:
     if remote:
         found = webdriver.Remote(remote, options=webdriver.FirefoxOptions())
+        found.file_detector = UselessFileDetector()  # files are named, not sent
         found.set_script_timeout(120)
         return found
     driver = "geckodriver" if is_firefox else "chromedriver"

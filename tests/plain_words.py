@@ -7,8 +7,8 @@ usage: plain_words.py              the tables and the lines
        plain_words.py --check      the same, and ends in status 1 if a number is above the one stored here, a page isn't
                                    listed here or isn't there, or a line is too long
 
-Docs are the pages: the Markdown files at the top and in docs/, bench/, bindings/, examples/, play/ and crates/*, but for
-docs/MODEL.md, which is made from the comments at definitions; these are the lines of crates/*/specs that begin with
+Docs are the pages: the Markdown files at the top and in docs/, bench/, bindings/, examples/, play/ and crates/*, but
+for docs/MODEL.md, which is made from the comments at definitions; these are the lines of crates/*/specs that begin with
 '--'. Doc comments are the lines of crates/*/src that begin with '///' or '//!'. Other comments are the other lines of
 crates/*/src that begin with '//', and the lines of crates/*/proofs that begin with '--'. Names are the words of what is
 left of these files. What is between backquotes in a page, and its indented lines, are no words of the page's own.

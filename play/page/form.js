@@ -97,7 +97,9 @@ const batchLine = () => lineOf('batch', `[${S.batch.join(',')}]`, S.site);
 export function spell() {
   $('line').value = S.batch ? batchLine() : lineOf(S.verb, asked(), S.site);
 }
+/** Does what the form says. The focus leaves it, so that the next key is one of the page's. */
 export function submit() {
+  document.activeElement?.blur();
   if (!S.batch) return act($('line').value);
   S.batch.push(`{"${S.verb}":${asked()}}`);
   return drawForm();
