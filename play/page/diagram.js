@@ -17,13 +17,13 @@ function tokenMark(site) {
 }
 function card(state, site, at, names) {
   const each = state.sites.map((_, k) => site.counts[k] || 0);
-  const counts = each.length <= 8 ? each.join('·') : each.reduce((sum, n) => sum + n, 0);
+  const all = each.join('·'), counts = all.length <= 9 ? all : each.reduce((sum, n) => sum + n, 0);
   const has = names.slice(0, 4).map((name) => `${name} ${site.has[name]}`).join(', ');
   return `<div class="card${at === S.site ? ' mine' : ''}" data-site="${at}" role="group" aria-label="site ${at}${
     site.token ? ', has the token' : ''}: ${escaped(has)}" title="what is done next is done here">
     <h3>site ${at}${tokenMark(site)}</h3><div class="sums">${sums(site, names, state.apart)}</div>
-    <div class="clock" title="applied here: blue operations of each site, and red ones">applied <span class="blue">${
-      counts}</span> <span class="red">${site.counts.R || 0}</span></div></div>`;
+    <div class="clock" title="applied here: blue operations of each site (${all}), and red ones">applied
+      <span class="blue">${counts}</span> <span class="red">${site.counts.R || 0}</span></div></div>`;
 }
 export function drawCards(state) {
   const names = shownAccounts(), all = accounts().length;
