@@ -207,6 +207,21 @@ class Browse:
         page.ask("S.isAuto = false; changed()")
         same("refused", "balances", page.balances(), [{"ann": 6}] * 2)
 
+    def waiting(self) -> None:
+        """What a held operation waits for, blue or red, and that the site refuses it until then."""
+        page = self.page
+        page.open_bank(TWO | {"accounts": [["ann", 100]]})
+        for command in ({"withdraw": ["ann", 30], "site": 0}, {"cancel": "R1", "site": 0},
+                        {"deposit": ["ann", 5], "site": 0}, {"deliver": 2, "site": 1}, {"deliver": 3, "site": 1}):
+            page.do(command)
+        same("waiting", "held", page.texts("[data-dock='1'] .held span"), ["waits for R1", "waits for B0.1, R1"])
+        page.do({"apply": "B0.1", "site": 1})
+        same("waiting", "reply", page.replies()[5:], [{"refused": 15}])
+        page.do({"deliver": 1, "site": 1})
+        same("waiting", "ready", page.texts("[data-dock='1'] .held.ready b"), ["R1"])
+        page.click("[data-ready='1']")
+        same("waiting", "balances", page.balances(), [{"ann": 105}] * 2)
+
     def switch(self) -> None:
         """With the switch on, what comes is applied as soon as it is ready; one undo takes all of it back."""
         page = self.page
@@ -235,6 +250,12 @@ class Browse:
         page.one("[data-key='1:1']").send_keys(Keys.DELETE)
         page.click("#everything")
         same("aside", "taken back", page.replies()[1:], [{"held": "B0.1"}])
+        page.do({"deposit": ["ann", 6], "site": 0})
+        page.one("[data-key='1:2']").send_keys(Keys.DELETE)
+        page.press(Keys.HOME)
+        for cents in (7, 8):
+            page.do({"deposit": ["ann", cents], "site": 0})
+        same("aside", "another message of its number", page.texts("[data-dock='1'] .way"), ["B0.1", "B0.2"])
 
     # ---- large banks, other forms of input
 
@@ -378,9 +399,9 @@ class Browse:
 
     def all(self, is_few: bool, only: str | None) -> int:
         count = self.rows(is_few) if only in (None, "rows") else 0
-        for check in (self.keys, self.pointing, self.switch, self.aside, self.puzzles, self.crashes, self.saved,
-                      self.refused, self.sixty, self.thousand, self.sixteen, self.files, self.touch, self.names,
-                      self.phone, self.alone):
+        for check in (self.keys, self.pointing, self.waiting, self.switch, self.aside, self.puzzles, self.crashes,
+                      self.saved, self.refused, self.sixty, self.thousand, self.sixteen, self.files, self.touch,
+                      self.names, self.phone, self.alone):
             if only not in (None, check.__name__):
                 continue
             try:

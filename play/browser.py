@@ -26,8 +26,8 @@ FIELDS = {
     "transfer": ["account", "to", "cents"], "cancel": ["name"], "pass": ["next"], "balance": ["account"],
     "statement": ["account"], "asof": ["account", "position"]}
 # what the page's own files know, for questions
-INSIDE = ("import * as state from '/state.js'; import * as program from '/program.js'; "
-          "import * as basics from '/basics.js'; window.inside = {...state, ...program, ...basics};")
+INSIDE = ("const done = arguments[0]; Promise.all(['state', 'program', 'basics'].map((it) => import(`/${it}.js`)))"
+          ".then((all) => { window.inside = Object.assign({}, ...all); done(); });")
 
 
 def chromium() -> Any:
@@ -73,8 +73,7 @@ class Page:
     def load(self, path: str = "") -> None:
         self.driver.get("about:blank")
         self.driver.get(self.address + path)
-        self.js("const it = document.createElement('script'); it.type = 'module'; it.textContent = arguments[0]; "
-                "document.head.append(it)", INSIDE)
+        self.driver.execute_async_script(INSIDE)
         self.settle()
 
     def resize(self, width: int, height: int) -> None:
@@ -94,7 +93,6 @@ class Page:
         """Waits until nothing is under way."""
         self.driver.execute_async_script(
             "const done = arguments[0], wait = (when, ...of) => new Promise((go) => when(go, ...of)); (async () => { "
-            "while (!window.inside) await wait(setTimeout, 5); "
             "do await window.inside.atRest(); while (!window.inside.S.world); "
             "await wait(requestAnimationFrame); await wait(setTimeout); done(); })()")
 

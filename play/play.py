@@ -31,6 +31,7 @@ import bank  # noqa: E402
 
 PAGE = os.path.join(child.HERE, "page")
 KINDS = {".html": "text/html", ".css": "text/css", ".js": "text/javascript", ".json": "application/json"}
+POLICY = "default-src 'self'; style-src 'self' 'unsafe-inline'; img-src 'self' data:; frame-ancestors 'none'"
 MOST_BYTES = 8_000_000  # of a request
 PORT = 8017
 
@@ -97,7 +98,7 @@ class Handler(http.server.BaseHTTPRequestHandler):
         self.send_response(status)
         for name, value in (("Content-Type", f"{kind}; charset=utf-8"), ("Content-Length", str(len(body))),
                             ("Cache-Control", "no-store"), ("X-Content-Type-Options", "nosniff"),
-                            ("Content-Security-Policy", "default-src 'self' 'unsafe-inline' data: blob:")):
+                            ("Content-Security-Policy", POLICY)):
             self.send_header(name, value)
         self.end_headers()
         self.wfile.write(body)

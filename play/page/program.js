@@ -1,5 +1,5 @@
 // The server, and behind it the program: what is asked, one thing after another, and what changes by it.
-import {S, applications, changed, fold} from './state.js';
+import {S, applications, changed, fold, forgetMessages} from './state.js';
 
 const GONE = 'The server doesn’t answer. Start it again (make play): the page keeps what was done.';
 
@@ -50,6 +50,7 @@ export const act = (find) => queue(async () => {
   const world = await post('/world', script(S.config, commands));
   if (world.error) return say(world.words.join('\n'));
   keep();
+  if (S.current < S.commands.length) forgetMessages(fold().sent.length);
   S.world = world;
   const more = S.isAuto ? applications(world.steps.length) : [];
   if (more.length) S.world = await post('/world', script(S.config, commands = [...commands, ...more]));

@@ -147,6 +147,11 @@ export function isOnTheWay(site, at, message, n) {
   const isFor = message.to === undefined || message.to === at;
   return isFor && (!site.came[n] || site.came[n] <= (S.again.get(`${at}:${n}`) || 0));
 }
+/** Forgets what was noted of messages beyond the first: others will have their numbers. */
+export function forgetMessages(count) {
+  for (const noted of [S.aside, S.again])
+    for (const key of [...noted.keys()].filter((each) => Number(each.split(':')[1]) > count)) noted.delete(key);
+}
 /** The commands that bring everything to a site, or to all, in the order of sending. With the switch on each is applied
  * as soon as it is ready, so what an inbox takes is followed here. */
 export function deliveries(to) {
