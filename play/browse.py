@@ -27,7 +27,7 @@ import bank
 import from_rows
 import play
 import world
-from browser import ActionChains, Json, Keys, Page, WebDriverException, browser
+from browser import ActionChains, Handler, Json, Keys, Page, WebDriverException, browser
 
 PROBLEMS: list[str] = []
 TWO = {"accounts": [["ann", 0]], "sites": 2, "version": 1}
@@ -426,7 +426,7 @@ def options() -> argparse.Namespace:
 def main() -> int:
     asked = options()
     program, driver = bank.program(asked.program), browser(asked.firefox, asked.remote)
-    with play.Server(answers.Answers(program), 0) as serving:
+    with play.Server(answers.Answers(program), 0, Handler) as serving:
         threading.Thread(target=serving.serve_forever, daemon=True).start()
         try:
             browse = Browse(program, Page(driver, serving.address), asked.shots)

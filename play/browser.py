@@ -7,6 +7,7 @@ from typing import Any
 
 import child  # noqa: F401  (which finds the tools of examples/)
 import bank
+import play
 
 DEBIAN = "Debian: apt-get install chromium chromium-driver python3-selenium; and /usr/bin/python3"
 try:
@@ -26,8 +27,18 @@ FIELDS = {
     "transfer": ["account", "to", "cents"], "cancel": ["name"], "pass": ["next"], "balance": ["account"],
     "statement": ["account"], "asof": ["account", "position"]}
 # what the page's own files know, for questions
-INSIDE = ("const done = arguments[0]; Promise.all(['state', 'program', 'basics'].map((it) => import(`/${it}.js`)))"
-          ".then((all) => { window.inside = Object.assign({}, ...all); done(); });")
+INSIDE = ("import * as state from '/state.js'; import * as program from '/program.js'; "
+          "import * as basics from '/basics.js'; window.inside = {...state, ...program, ...basics};")
+
+
+class Handler(play.Handler):
+    """The server's handler, with one file more: it lets a driver ask what the page knows."""
+
+    def do_GET(self) -> None:
+        if self.path == "/inside.js":
+            self.answer(INSIDE, "text/javascript")
+        else:
+            super().do_GET()
 
 
 def chromium() -> Any:
@@ -73,7 +84,8 @@ class Page:
     def load(self, path: str = "") -> None:
         self.driver.get("about:blank")
         self.driver.get(self.address + path)
-        self.driver.execute_async_script(INSIDE)
+        self.js("const it = document.createElement('script'); it.type = 'module'; it.src = '/inside.js'; "
+                "document.head.append(it)")
         self.settle()
 
     def resize(self, width: int, height: int) -> None:
@@ -93,7 +105,7 @@ class Page:
         """Waits until nothing is under way."""
         self.driver.execute_async_script(
             "const done = arguments[0], wait = (when, ...of) => new Promise((go) => when(go, ...of)); (async () => { "
-            "do await window.inside.atRest(); while (!window.inside.S.world); "
+            "do { await wait(setTimeout, 1); await window.inside?.atRest(); } while (!window.inside?.S.world); "
             "await wait(requestAnimationFrame); await wait(setTimeout); done(); })()")
 
     def one(self, selector: str) -> Any:

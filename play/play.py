@@ -72,12 +72,12 @@ class Server(http.server.ThreadingHTTPServer):
 
     daemon_threads = True
 
-    def __init__(self, asked: answers.Answers, port: int) -> None:
+    def __init__(self, asked: answers.Answers, port: int, handler: type | None = None) -> None:
         self.answers = asked
         try:
-            super().__init__(("127.0.0.1", port), Handler)
+            super().__init__(("127.0.0.1", port), handler or Handler)
         except (OSError, OverflowError):
-            super().__init__(("127.0.0.1", 0), Handler)
+            super().__init__(("127.0.0.1", 0), handler or Handler)
 
     @property
     def address(self) -> str:
