@@ -35,6 +35,7 @@ mod FitsLaws
 mod NumbersFit
 mod PartsFit
 mod EventsFit
+mod CommandsFit
 mod CountsFit
 mod ReceiptsFit
 mod RefusalsFit

@@ -1,14 +1,18 @@
--- What a site replies and holds fits a line, whatever its events.
-use Rattle.std.specs.Prelude.{◌≡◌, ℕ, ◌<◌, List, Some}
+-- What a site replies and holds fits a line, whatever its events, and so does what it reads.
+use Rattle.std.specs.Prelude.{◌≡◌, ℕ, ◌<◌, List, Some, ⊤}
 use Rattle.rb_money.specs.Settings.{IsConfigured, Settings}
 use Rattle.rb_shadow.specs.NameText.{IsName}
 use Rattle.rb_shadow.specs.Operations.{find_in}
 use Rattle.rb_shadow.specs.declared.op_name.OpName.{OpName}
 use Rattle.rb_shadow.specs.declared.shadow.Shadow.{Shadow}
 use Rattle.rb_site.specs.declared.event.Event.{Event}
+use Rattle.rb_site.specs.declared.world_event.WorldEvent.{WorldEvent}
+use Rattle.rb_site.specs.declared.world_event.WorldEvent.TheVariants.{At, Deliver}
 use Rattle.rb_site.specs.Events.{after_events, first_site, reply_to}
+use Rattle.rb_site.specs.Worlds.{IsOwn}
 use Rattle.rb_history.specs.Entries.{event_of_line}
 use Rattle.rb_history.specs.Fits.{IsEvent, IsReply}
+use Rattle.rb_history.specs.OnLines.{command_on}
 
 -- the reply of a site to any event fits a line, whatever its events before
 abbrev pub RepliesFitLines : Type 0
@@ -23,3 +27,12 @@ HeldNamesFitLines = (s : Settings) → IsConfigured s → (me : ℕ) → me < s.
 -- what is read from any line as an event by itself fits
 abbrev pub ReadEventsFit : Type 0
 ReadEventsFit = (s : Settings) (line : List ℕ) (e : Event) → event_of_line s line ≡ Some e → IsEvent s e
+
+-- an event of a site's own that fits, or a delivery
+abbrev pub IsFittingCommand : Settings → WorldEvent → Type 0
+IsFittingCommand s (At i e) = IsOwn e × IsEvent s e
+IsFittingCommand s (Deliver i k) = ⊤
+
+-- each command that is read from any line is such a one
+abbrev pub ReadCommandsFit : Type 0
+ReadCommandsFit = (s : Settings) (line : List ℕ) (c : WorldEvent) → command_on s line ≡ Some c → IsFittingCommand s c

@@ -25,7 +25,7 @@ ghost use Rattle.rb_history.specs.Laws.{ReadConfigsAreConfigured};
 ghost use Rattle.rb_history.specs.Messages.{MessagesAreRead};
 ghost use Rattle.rb_history.specs.OneLine.{ConfigsAreLines, EntriesAreLines};
 ghost use Rattle.rb_history.specs.Questions.{QuestionsAreNoEvents};
-ghost use Rattle.rb_history.specs.Sites.{HeldNamesFitLines, ReadEventsFit, RepliesFitLines};
+ghost use Rattle.rb_history.specs.Sites.{HeldNamesFitLines, ReadCommandsFit, ReadEventsFit, RepliesFitLines};
 
 pub use fault::LineFault;
 pub use lines::command::read_command;
@@ -90,6 +90,11 @@ pub fn read_events_fit()
 /// No line is both a question and an event.
 pub fn questions_are_no_events()
     ensures { QuestionsAreNoEvents }
+{}
+
+/// Each command that is read from a line is a delivery, or an event of a site's own that `events_are_read` speaks of.
+pub fn read_commands_fit()
+    ensures { ReadCommandsFit }
 {}
 
 /// Whatever its events, each reply of a site fits a line: its numbers fit their types, and it isn't *out of memory*. So

@@ -1,0 +1,59 @@
+-- Each command that is read from a line is an event of a site's own that fits, or a delivery.
+use Rattle.std.proofs.Common.{◌^◌, codes, Option, Some, None}
+use Rattle.std.specs.Prelude.{◌==◌, IfSome, option_and_then}
+use Rattle.std.specs.Str.{is_utf8}
+use Rattle.serde_json.specs.Data.{Data}
+use Rattle.serde_json.specs.Find.{get}
+use Rattle.serde_json.specs.Read.{read}
+use Rattle.rb_money.specs.Settings.{Settings}
+use Rattle.rb_site.specs.declared.event.Event.TheVariants.{Submit, Batch, Apply, Pass, Balance, AsOf, Statement}
+use Rattle.rb_site.specs.declared.world_event.WorldEvent.TheVariants.{At, Deliver}
+use Rattle.rb_site.specs.Worlds.{IsOwn}
+use Rattle.rb_history.specs.Commands.{command_at, command_for, command_of, event_of, teller_event_of}
+use Rattle.rb_history.specs.Fits.{IsEvent}
+use Rattle.rb_history.specs.OnLines.{command_on}
+use Rattle.rb_history.specs.Requests.{place_at, request_of, requests_at}
+use Rattle.rb_history.specs.Sites.{IsFittingCommand, ReadCommandsFit}
+use Rattle.rb_history.specs.Values.{name_at, number_below, size_of}
+use Rattle.rb_history.proofs.EventsFit.{command as event_fits}
+use Rattle.rb_history.proofs.FitsLaws.{fits_either, fits_if, fits_made, fits_map, fits_next, fits_some}
+use Rattle.rb_history.proofs.PartsFit.{asked}
+
+-- ---- no command's event is the receipt of a message
+
+call_own : (s : Settings) (d : Data) → IfSome (teller_event_of s d) IsOwn
+call_own s d =
+    fits_either IsOwn (get (codes "balance") d) _ _ (λ v. fits_made IsOwn Balance (place_at s v) (λ a. tt))
+    (fits_either IsOwn (get (codes "asof") d) _ _ (λ v. asked IsOwn s (2 ^ 32) AsOf v (λ a n there small. tt))
+    (fits_either IsOwn (get (codes "statement") d) _ _ (λ v. fits_made IsOwn Statement (place_at s v) (λ a. tt))
+    (fits_made IsOwn Submit (request_of s d) (λ r. tt))))
+
+event_own : (s : Settings) (d : Data) → IfSome (event_of s d) IsOwn
+event_own s d =
+    fits_either IsOwn (get (codes "batch") d) _ _ (λ v. fits_made IsOwn Batch (requests_at s v) (λ rs. tt))
+    (fits_either IsOwn (get (codes "apply") d) _ _ (λ v. fits_made IsOwn Apply (name_at v) (λ x. tt))
+    (fits_either IsOwn (get (codes "pass") d) _ _ (λ v. fits_made IsOwn Pass (number_below (2 ^ 8) v) (λ n. tt)) (call_own s d)))
+
+-- ---- commands
+
+-- what is there has both properties
+both : {A : Type 0} (P Q : A → Type 0) (o : Option A) → IfSome o P → IfSome o Q → IfSome o (λ x. P x × Q x)
+both P Q None h k = tt
+both P Q (Some x) h k = (h, k)
+
+command_fits : (s : Settings) (d : Data) → IfSome (command_of s d) (IsFittingCommand s)
+command_fits s d =
+    let Q = IsFittingCommand s in
+    let event = both IsOwn (IsEvent s) (event_of s d) (event_own s d) (event_fits s d) in
+    fits_if Q (size_of d == 2) _ (λ e.
+    fits_next Q (command_for s d) _ (λ site.
+    fits_either Q (get (codes "deliver") d) _ _ (λ v. fits_made Q (Deliver site) (number_below (2 ^ 32) v) (λ n. tt))
+    (fits_map (λ e. IsOwn e × IsEvent s e) Q (At site) (event_of s d) event (λ e h. h))))
+
+-- each command that is read from a line
+pub commands_fit : ReadCommandsFit
+unfolding command_on
+commands_fit s line c is =
+    let Q = IsFittingCommand s in
+    fits_some Q (command_on s line) c
+    (fits_if Q (is_utf8 line) (command_at s line) (λ e. fits_next Q (command_of s) (read line) (command_fits s))) is
