@@ -1,5 +1,5 @@
 -- The reports of a world's sites.
-use Rattle.std.proofs.Common.{◌≡◌, ◌∙◌, Bool, true, false, List, [], ◌∷◌, ◌++◌, Some, ap, arith, length, map}
+use Rattle.std.proofs.Common.{◌≡◌, ◌∙◌, Bool, true, false, List, [], ◌∷◌, ◌++◌, Some, ap, arith, length, map, refl, suc}
 use Rattle.std.proofs.Common.{reverse, subst, sym, append_assoc}
 use Rattle.std.proofs.lemmas.List.{append-nil, reverse-append}
 use Rattle.std.proofs.lemmas.List.Elements.{All-pop}
@@ -55,6 +55,17 @@ closing-next keeps s all before left rs x r popped far is =
           (let Q : Settings → Type 0 = λ z. IsReportOf keeps z (state_of x) r in subst Q kept.1 is) far.reports);
       settings = kept.0;
     }
+
+-- there are as many reports as sites
+pub as_many : (keeps : Bool) (s : Settings) (ts : List ModelSite) (rs : List SiteReport) → AreReportsOf keeps s ts rs → length rs ≡ length ts
+as_many true s [] [] h = refl
+as_many true s [] (r ∷ rs) h = absurd h
+as_many true s (t ∷ ts) [] h = absurd h
+as_many true s (t ∷ ts) (r ∷ rs) h = ap suc (as_many true s ts rs h.1)
+as_many false s [] [] h = refl
+as_many false s [] (r ∷ rs) h = absurd h
+as_many false s (t ∷ ts) [] h = absurd h
+as_many false s (t ∷ ts) (r ∷ rs) h = ap suc (as_many false s ts rs h.1)
 
 -- where no site is left, the reports, the last one first, are those of all sites in their order
 pub closing-whole : (keeps : Bool) (s : Settings) (all : List ModelSite) (rs : List SiteReport) (left : List SeenSite) → length left ≡ 0

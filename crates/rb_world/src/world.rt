@@ -5,6 +5,7 @@
 ghost use Rattle.std.specs.Prelude.{◌≡◌, ◌<◌, ◌≤◌, Some, IfSome, IfOk, IfErr, OnErr, OnOk, All};
 ghost use Rattle.std.specs.Prelude.{length, true, map, option_map, slice_get, take};
 ghost use Rattle.std.specs.List.{range_with_len};
+ghost use Rattle.rb_money.specs.declared.limits.TheConstants.{MOST_SITES};
 ghost use Rattle.rb_site.specs.Events.{first_site};
 ghost use Rattle.rb_site.specs.Seen.{state_of};
 ghost use Rattle.rb_site.specs.Histories.{site_of};
@@ -242,7 +243,8 @@ impl<E: KeepsEntry, R: KeepsEvent> World<E, R> {
     /// Closes the world: each site reports its state, in order. A site that keeps no history reports no balances, no
     /// counts and no history. This takes no memory.
     pub fn close(self) -> Vec<SiteReport>
-        ensures { AreReportsOf E.KEEPS self.settings self.world.sites result.items }
+        ensures reports { AreReportsOf E.KEEPS self.settings self.world.sites result.items }
+        ensures few { length result.items ≤ MOST_SITES }
     {
         let World {
             alloc: _,

@@ -1,9 +1,11 @@
 -- Each site reports its state.
 use Rattle.std.proofs.Common.{◌≡◌, ◌∙◌, ◌+◌, ◌≤◌, List, [], ap, arith, length, subst, sym, vec_len, vec_capacity}
 use Rattle.rb_site.specs.declared.report.SiteReport.{SiteReport}
-use Rattle.rb_world.specs.Laws.{SeenWorld}
+use Rattle.rb_money.specs.declared.limits.TheConstants.{MOST_SITES}
+use Rattle.rb_world.specs.Laws.{IsRunOf, SeenWorld}
 use Rattle.rb_world.specs.Reports.{AreReportsOf}
-use Rattle.rb_world.proofs.Closing.{IsClosing, closing-first, closing-next, closing-whole}
+use Rattle.rb_world.proofs.Closing.{IsClosing, as_many, closing-first, closing-next, closing-whole}
+use Rattle.rb_world.proofs.Public.Sites.{few_sites}
 use Rattle.rb_world.proofs.Stepping.{AreOf}
 use Rattle.rb_world.proofs.world.World.close.Goals as goal
 
@@ -38,11 +40,21 @@ sites-preserved g c =
       omega arith,
     )
 
-pub returns : goal.returns
-returns g c =
+pub returns-clause-reports : goal.returns-clause-reports
+returns-clause-reports g c =
     let none : vec_len c.sites.sites ≡ 0 = c.in_default.ensures.cases.0 in
     let P : List SiteReport → Type 0 = λ rs. AreReportsOf g.E.KeepsEntry.KEEPS c.args.self.settings c.args.self.world.sites rs in
     subst P (sym c.reverse.ensures.items)
     (closing-whole g.E.KeepsEntry.KEEPS c.args.self.settings c.args.self.world.sites c.sites.reports.items
     c.sites.sites.items (sym c.sites.sites.ok.0
     ∙ none) c.sites.invariant.0)
+
+pub returns-clause-few : goal.returns-clause-few
+returns-clause-few g c =
+    let none : vec_len c.sites.sites ≡ 0 = c.in_default.ensures.cases.0 in
+    let whole =
+    closing-whole g.E.KeepsEntry.KEEPS c.args.self.settings c.args.self.world.sites c.sites.reports.items
+    c.sites.sites.items (sym c.sites.sites.ok.0 ∙ none) c.sites.invariant.0 in
+    let few = few_sites c.args.self (subst IsRunOf c.self.view_is c.self.invariant.0) in
+    subst (λ n. n ≤ MOST_SITES)
+    (sym (ap length c.reverse.ensures.items ∙ as_many g.E.KeepsEntry.KEEPS c.args.self.settings c.args.self.world.sites _ whole)) few

@@ -1,0 +1,2 @@
+-- What other crates cite.
+pub mod Sites
