@@ -15,7 +15,7 @@ use Rattle.rb_lines.specs.Buffers.{Sends}
 use Rattle.rb_lines.specs.Writes.{AppendsFront}
 use Rattle.rb_run_threads.specs.Bank.{bank_of}
 use Rattle.rb_run_threads.specs.Runs.{AreTellers, BeginsRun, IsRun}
-use Rattle.rb_run_threads.specs.Texts.{text_of}
+use Rattle.rb_runs.specs.Texts.{text_of}
 
 abbrev history_of : SiteReport → List Entry
 history_of r = r.history.items

@@ -1,4 +1,2 @@
 pub mod Bank
 pub mod Runs
-pub mod Texts
-pub mod Writing

@@ -8,7 +8,7 @@ use Rattle.rb_lines.specs.Writes.{IsFront}
 use Rattle.rb_lines.specs.declared.fault.ScriptFault.{ScriptFault}
 use Rattle.rb_lines.specs.declared.fault.ScriptFault.TheVariants.{Write, OutOfMemory, Gather}
 use Rattle.rb_run_threads.specs.Bank.{bank_of}
-use Rattle.rb_run_threads.specs.Texts.{text_of}
+use Rattle.rb_runs.specs.Texts.{text_of}
 
 -- the histories of a run with this number of tellers, one for each site: it is its own replay, and but for what was
 -- received and applied it is what the site's tellers did, interleaved

@@ -4,7 +4,5 @@
 
 mod opening;
 mod run;
-mod text;
-mod unwritten;
 
 pub use run::run_threads;

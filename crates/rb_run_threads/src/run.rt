@@ -6,10 +6,9 @@ ghost use Rattle.rb_money.specs.declared.limits.TheConstants.{MOST_SITES};
 ghost use Rattle.rb_run_threads.specs.Runs.{ThreadsEndAs};
 
 use crate::opening::bank;
-use crate::text::write_text;
-use crate::unwritten::Unwritten;
 use rb_branch::{Gate, TellersFault, run_bank};
 use rb_lines::{ScriptFault, Sink};
+use rb_runs::{Unwritten, write_text};
 use std::alloc::Global;
 use std::sync::Wait;
 use std::thread::Threads;

@@ -1,21 +1,19 @@
 -- How the lines of an audit were collected, by what a run over lines says of it.
-use Rattle.std.proofs.Common.{◌≡◌, ◌≢◌, ◌+◌, ◌-◌, ℕ, List, [], ◌∷◌, ◌++◌, Option, Some, None, Result, Ok, Err, refl, sym, ap, ◌∙◌, arith}
+use Rattle.std.proofs.Common.{◌≡◌, ◌≢◌, ℕ, List, [], ◌∷◌, ◌++◌, Option, Some, None, Result, Ok, Err, refl, sym, ap, ◌∙◌, arith}
 use Rattle.std.proofs.Common.{append-nil}
 use Rattle.std.specs.Prelude.{IfSome, MatchResult, OnOk}
-use Rattle.rb_lines.specs.Answers.{AnswersLine, EndsAtLine, IsFaulty, IsUnfinished, LinesOutcome, RunEndsAs, after_text}
+use Rattle.rb_lines.specs.Answers.{AnswersLine, EndsAtLine, IsSilent}
 use Rattle.rb_lines.specs.Lines.{lines_of}
 use Rattle.rb_lines.specs.declared.fault.ScriptFault.{ScriptFault}
 use Rattle.rb_lines.specs.declared.fault.ScriptFault.TheVariants.{NoConfig, BadConfig, BadLine, LongLine, Read, Write, OutOfMemory, Gather}
 use Rattle.rb_runs.specs.declared.audit.collected.Collected.{Collected}
-use Rattle.rb_runs.specs.Audit.{AuditEndsAs, CollectsAs, IsFaultyAudit, IsUnfinishedInput}
-use Rattle.rb_runs.specs.Collects.{InputEndsAt, Takes, collected_state, input_outcome, input_rest}
-use Rattle.rb_runs.specs.Inputs.{Input, input_of}
+use Rattle.rb_runs.specs.Audit.{AuditEndsAs}
+use Rattle.rb_runs.specs.Collects.{InputEndsAt, Takes, collected_state, input_rest}
+use Rattle.rb_runs.specs.Inputs.{input_of}
+use Rattle.rb_runs.specs.Silent.{EndsSilently, StopsUnwritten, input_outcome}
+use Rattle.rb_runs.proofs.Unanswered.{no_answer, no_text, stops}
 
 -- ---- one line
-
-no_answer : (o : LinesOutcome) → o ≡ after_text [] (0 - 0) o
-no_answer o = let none : (0 - 0) + o.count ≡ o.count = omega arith in
-    ap (λ n. record { text = o.text; count = n; fault = o.fault }) (sym none)
 
 -- the line was taken: it is answered by no text
 pub answers : (old new : Collected) (l : List ℕ) → Takes old new l → AnswersLine (collected_state old) (collected_state new) l []
@@ -54,69 +52,40 @@ made (Err f) old new l ends = tt
 
 -- ---- the whole input
 
+-- the whole input was collected
+abbrev pub IsTaken : Collected → List ℕ → Option (List ℕ) → Type 0
+IsTaken c input left = (input_of (lines_of input) ≡ input_rest c []) × (left ≡ Some [])
+
 -- nothing was collected before the first line
 at_first : (c : Collected) (ls : List (List ℕ)) → (c.auditor ≡ None) × (c.number ≡ 1) → input_of ls ≡ input_rest c ls
 at_first c ls first = rw (first.0, first.1) refl
 
-fault_of : (r : Result Input ScriptFault) (f : ScriptFault) → (input_outcome r).fault ≡ Some f → r ≡ Err f
-fault_of (Ok x) f e = absurd (cc e)
-fault_of (Err g) f e = cc
-
-unfinished_of : (r : Result Input ScriptFault) → IsUnfinished (input_outcome r).fault → IsUnfinishedInput r
-unfinished_of (Ok x) u = tt
-unfinished_of (Err NoConfig) u = tt
-unfinished_of (Err (BadConfig n)) u = absurd u
-unfinished_of (Err (BadLine n)) u = absurd u
-unfinished_of (Err (LongLine n)) u = absurd u
-unfinished_of (Err Read) u = absurd u
-unfinished_of (Err Write) u = absurd u
-unfinished_of (Err OutOfMemory) u = absurd u
-unfinished_of (Err Gather) u = absurd u
-
-faulty : (c : Collected) (input text : List ℕ) (f : ScriptFault) → (c.auditor ≡ None) × (c.number ≡ 1)
-    → IsFaulty ((collected_state c).rest (lines_of input)) text f → IsFaultyAudit input [] f
-faulty c input text f first is = (at_first c (lines_of input) first ∙ fault_of _ f is.fault_is, refl)
-
-fault_ends : (c : Collected) (f : ScriptFault) (input : List ℕ) (left : Option (List ℕ)) (text : List ℕ)
-    → (c.auditor ≡ None) × (c.number ≡ 1) → f ≢ Write → RunEndsAs (collected_state c).rest (Err f) input left text
+-- an audit that stopped before anything was written
+stopped : (f : ScriptFault) (input : List ℕ) (left : Option (List ℕ)) → f ≢ Write → StopsUnwritten input_of f input left []
     → AuditEndsAs (Err f) input left []
-fault_ends c NoConfig input left text first not h = faulty c input text NoConfig first h
-fault_ends c (BadConfig n) input left text first not h = faulty c input text (BadConfig n) first h
-fault_ends c (BadLine n) input left text first not h = faulty c input text (BadLine n) first h
-fault_ends c (LongLine n) input left text first not h = faulty c input text (LongLine n) first h
-fault_ends c Read input left text first not (rest, is, answered) = (
-  rest,
-  is,
-  record {
-    taken = answered.taken;
-    whole = answered.whole;
-    unfinished = rw (at_first c _ first) (unfinished_of _ answered.unfinished);
-  },
-  refl,
-)
-fault_ends c Write input left text first not h = absurd (not refl)
-fault_ends c OutOfMemory input left text first not h = refl
-fault_ends c Gather input left text first not h = absurd h
+stopped NoConfig input left not h = h
+stopped (BadConfig n) input left not h = h
+stopped (BadLine n) input left not h = h
+stopped (LongLine n) input left not h = h
+stopped Read input left not h = h
+stopped Write input left not h = absurd (not refl)
+stopped OutOfMemory input left not h = h
+stopped Gather input left not h = h
 
 -- the run ended with a fault
-pub ended : (a b : Option (List ℕ)) (c new : Collected) (f : ScriptFault) (text : List ℕ) → (c.auditor ≡ None) × (c.number ≡ 1)
-    → f ≢ Write → IfSome a (λ input. RunEndsAs (collected_state c).rest (Err f) input b text)
-    → IfSome a (λ input. CollectsAs (Err f) new input b)
-ended None b c new f text first not h = tt
-ended (Some input) b c new f text first not h = fault_ends c f input b text first not h
+pub ended : (a b : Option (List ℕ)) (c : Collected) (f : ScriptFault) → (c.auditor ≡ None) × (c.number ≡ 1) → f ≢ Write
+    → IfSome a (λ input. EndsSilently (collected_state c).rest (Err f) input b) → IfSome a (λ input. AuditEndsAs (Err f) input b [])
+ended None b c f first not h = tt
+ended (Some input) b c f first not h =
+    stopped f input b not (stops input_of (input_rest c) (λ ls. at_first c ls first) f input b h.0 not h.1)
 
 -- the run took all lines
-pub taken : (a b : Option (List ℕ)) (c new : Collected) (n : ℕ) (text : List ℕ) → (c.auditor ≡ None) × (c.number ≡ 1)
-    → IfSome a (λ input. RunEndsAs (collected_state c).rest (Ok n) input b text)
-    → IfSome a (λ input. input_rest c (lines_of input) ≡ input_rest new [])
-    → IfSome a (λ input. CollectsAs (Ok tt) new input b)
-taken None b c new n text first h made = tt
-taken (Some input) b c new n text first h made = (at_first c (lines_of input) first ∙ made, h.1)
+pub taken : (a b : Option (List ℕ)) (c new : Collected) (u : Unit {0}) → (c.auditor ≡ None) × (c.number ≡ 1)
+    → IfSome a (λ input. EndsSilently (collected_state c).rest (Ok u) input b)
+    → IfSome a (λ input. input_rest c (lines_of input) ≡ input_rest new []) → IfSome a (λ input. IsTaken new input b)
+taken None b c new u first h made = tt
+taken (Some input) b c new u first h made = (at_first c (lines_of input) first ∙ made, h.1)
 
 -- no line is answered
-pub silent : (c : Collected) (ls : List (List ℕ)) → ((collected_state c).rest ls).text ≡ []
-silent c ls = of (input_rest c ls)
-  where
-    of : (r : Result Input ScriptFault) → (input_outcome r).text ≡ []
-    of (Ok x) = refl
-    of (Err f) = refl
+pub silent : (c : Collected) → IsSilent (collected_state c)
+silent c = λ ls. no_text (input_rest c ls)

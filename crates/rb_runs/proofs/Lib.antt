@@ -1,5 +1,6 @@
 mod Opens
 mod Taken
+mod Unanswered
 mod Collected
 mod Failures
 mod Reported
@@ -10,3 +11,9 @@ mod Ends
 mod Kept
 mod Replays
 mod ReadAgain
+mod Parts
+mod Lines
+mod Recording
+mod RunFits
+mod Entries
+mod Accepted

@@ -26,7 +26,7 @@ entry_is s l x e = at (is_utf8 l) e
     at true e = e
     at false e = absurd (cc)
 
-config_is : (l : List ℕ) (s : Settings) → config_on l ≡ Some s → config_at l ≡ Some s
+pub config_is : (l : List ℕ) (s : Settings) → config_on l ≡ Some s → config_at l ≡ Some s
 unfolding config_on
 config_is l s e = at (is_utf8 l) e
   where

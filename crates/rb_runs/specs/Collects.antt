@@ -1,14 +1,15 @@
 -- How far the lines of an audit were collected.
-use Rattle.std.specs.Prelude.{◌≡◌, ℕ, ◌+◌, List, [], ◌∷◌, Option, Some, None, Result, Ok, Err, refl}
+use Rattle.std.specs.Prelude.{◌≡◌, ℕ, ◌+◌, List, ◌∷◌, Option, Some, None, Result, Err, refl}
 use Rattle.std.proofs.Common.{ap}
 use Rattle.rb_auditor.specs.Audits.{Audited}
 use Rattle.rb_lines.proofs.Public.Chosen.{first_chosen}
-use Rattle.rb_lines.specs.Answers.{IsRunState, LinesOutcome, RunState, no_outcome}
+use Rattle.rb_lines.specs.Answers.{IsRunState, RunState}
 use Rattle.rb_lines.specs.Lines.{is_long}
 use Rattle.rb_lines.specs.declared.fault.ScriptFault.{ScriptFault}
 use Rattle.rb_lines.specs.declared.fault.ScriptFault.TheVariants.{NoConfig, BadConfig, BadLine, LongLine, Read, Write, OutOfMemory, Gather}
 use Rattle.rb_runs.specs.declared.audit.collected.Collected.{Collected}
 use Rattle.rb_runs.specs.Inputs.{Input, input_after, input_from}
+use Rattle.rb_runs.specs.Silent.{input_outcome}
 
 -- what the lines to come make of the input: before the configuration and after it
 abbrev pub input_rest_from : Option Audited → ℕ → List (List ℕ) → Result Input ScriptFault
@@ -17,11 +18,6 @@ input_rest_from (Some a) n ls = input_after a.settings a.histories n ls
 
 abbrev pub input_rest : Collected → List (List ℕ) → Result Input ScriptFault
 input_rest c ls = input_rest_from c.auditor c.number ls
-
--- the lines of an input are answered by no text
-abbrev pub input_outcome : Result Input ScriptFault → LinesOutcome
-input_outcome (Ok x) = record { text = []; count = 0; fault = None }
-input_outcome (Err f) = no_outcome f
 
 -- the state of a run with what was collected
 abbrev pub collected_state : Collected → RunState

@@ -1,9 +1,15 @@
 pub mod Script
 pub mod ScriptSession
 pub mod Inputs
+pub mod Silent
 pub mod Collects
 pub mod Audit
 pub mod InputLaws
 pub mod Migration
 pub mod MigrationSession
 pub mod MigrationLaws
+pub mod Texts
+pub mod Writing
+pub mod Recording
+pub mod RecordingSession
+pub mod RecordingLaws

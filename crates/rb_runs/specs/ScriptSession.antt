@@ -4,6 +4,7 @@ use Rattle.std.proofs.Common.{ap}
 use Rattle.rb_lines.proofs.Public.Chosen.{first_chosen}
 use Rattle.rb_lines.specs.Lines.{is_long}
 use Rattle.rb_money.specs.declared.refusal.Refusal.TheVariants.{NoSite}
+use Rattle.rb_site.specs.declared.reply.Reply.{Reply}
 use Rattle.rb_site.specs.declared.reply.Reply.TheVariants.{Refused}
 use Rattle.rb_site.specs.declared.world_event.WorldEvent.{WorldEvent}
 use Rattle.rb_world.specs.Laws.{SeenWorld, next_reply, next_world}
@@ -41,6 +42,13 @@ session_is_state s = of s.world s.number s.count
       no_text = refl;
       unfinished = tt;
     }
+
+-- there is a command, and the world took it and replied this
+pub record TakesCommand (asked : Option WorldEvent) (old new : SeenWorld) (reply : Reply) : Type 0 where
+  pub command : WorldEvent
+  pub is_command : asked ≡ Some command
+  pub world : new ≡ next_world old command
+  pub reply_is : reply ≡ next_reply old command
 
 -- there is a command, the world took it, and the line of its reply is buffered
 pub record AnswersCommand (asked : Option WorldEvent) (old new : SeenWorld) (buffered buffered' : List ℕ) : Type 0 where

@@ -1,14 +1,20 @@
-//! Whole runs between a reader and a writer, a line each: a script, an audit and a migration.
-//! Tests: rb_tests_runs, scripts.rt, audits.rt, audited.rt, migrations.rt.
+//! Whole runs between a reader and a writer, a line each: a script, its histories, an audit and a migration.
+//! Tests: rb_tests_runs, scripts.rt, histories.rt, audits.rt, audited.rt, migrations.rt.
 #![tactic(auto)]
 
 mod audit;
 mod fault;
 mod migrate;
+mod recorded;
 mod script;
+mod silent;
 
 pub use audit::laws::inputs_are_read_back;
 pub use audit::run::run_audit;
 pub use migrate::laws::{migrated_lines_are_read, migrated_replays_are_equal, migrations_are_read};
 pub use migrate::run::run_migrate;
+pub use recorded::laws::histories_are_accepted;
+pub use recorded::run::run_histories;
+pub use recorded::text::write_text;
+pub use recorded::unwritten::Unwritten;
 pub use script::run::run_script;

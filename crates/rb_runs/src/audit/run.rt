@@ -1,37 +1,15 @@
 //! A whole audit, from bytes to bytes.
-ghost use Rattle.std.specs.Prelude.{◌≡◌, ◌↔◌, ◌≢◌, ◌+◌, ◌≤◌, ◌⊎◌, List, [], ℕ, true, false, Err, None, IfSome};
+ghost use Rattle.std.specs.Prelude.{◌≡◌, ◌↔◌, ◌≢◌, ◌+◌, ◌≤◌, ◌⊎◌, List, ℕ, true, false, Err, IfSome};
 ghost use Rattle.std.specs.Io.KnownBytes.{Appends};
 ghost use Rattle.rb_lines.specs.declared.fault.ScriptFault.TheVariants.{Gather, Read, Write};
 ghost use Rattle.rb_lines.specs.declared.limits.TheConstants.{MOST_READS};
-ghost use Rattle.rb_runs.specs.Audit.{CollectsAs, AuditEndsAs};
+ghost use Rattle.rb_runs.specs.Audit.{AuditEndsAs};
 
 use crate::audit::collected::Collected;
 use crate::audit::verdict::answer;
-use rb_lines::{ScriptFault, Sink, Source, run_lines, write_all};
+use crate::silent::take_lines;
+use rb_lines::{ScriptFault, Sink, Source, write_all};
 use std::alloc::Global;
-
-/// Takes each line of the reader's bytes. None is answered, so nothing is written.
-fn collect<S: Source, W: Sink>(
-    alloc: Global,
-    reader: &mut S,
-    writer: &mut W,
-    collected: &mut Collected,
-) -> Result<(), ScriptFault>
-    requires unread { S.calls reader.old ≡ 0 }
-    requires fresh { W.failed writer.old ≡ false }
-    requires first { (collected.old.auditor ≡ None) × (collected.old.number ≡ 1) }
-    ensures written { Appends (W.contents writer.old) (W.contents writer.new) [] }
-    ensures fresh { W.failed writer.new ≡ false }
-    ensures input { IfSome (S.remaining reader.old)
-        (λ input. CollectsAs result collected.new input (S.remaining reader.new)) }
-    ensures read { result ≡ Err Read → (S.failed reader.new ≡ true) ⊎ (S.calls reader.new ≡ MOST_READS) }
-    ensures write { result ≢ Err Write }
-    ensures gather { result ≢ Err Gather }
-    ensures calls { S.calls reader.new ≤ S.calls reader.old + MOST_READS }
-{
-    run_lines(alloc, reader, writer, collected)?;
-    Ok(())
-}
 
 /// Audits the histories in the reader's bytes, answers one line, and says whether they have an order.
 ///
@@ -56,7 +34,7 @@ pub fn run_audit<S: Source, W: Sink>(
     ensures calls { S.calls reader.new ≤ S.calls reader.old + MOST_READS }
 {
     let mut collected = Collected::new();
-    if let Err(fault) = collect(alloc, reader, writer, &mut collected) {
+    if let Err(fault) = take_lines(alloc, reader, writer, &mut collected) {
         collected.close();
         return Err(fault);
     }

@@ -2,12 +2,31 @@
 ghost use Rattle.std.specs.Prelude.{◌≡◌, MatchResult, OnErr};
 ghost use Rattle.rb_history.specs.declared.fault.LineFault.TheVariants.{Bad};
 ghost use Rattle.rb_history.specs.OnLines.{command_on};
-ghost use Rattle.rb_runs.specs.ScriptSession.{AnswersCommand};
+ghost use Rattle.rb_runs.specs.ScriptSession.{AnswersCommand, TakesCommand};
 
 use rb_history::{LineFault, append_reply, open_command};
-use rb_site::Reply;
-use rb_world::LeanWorld;
+use rb_site::{KeepsEntry, Reply};
+use rb_world::{ErasedEvent, LeanWorld, World};
 use std::alloc::Global;
+
+/// Gives the world the command on a line, and puts its reply in the place of another. An `Err` ends the script.
+#[inline(always)]
+pub fn take_command<E: KeepsEntry>(
+    alloc: Global,
+    world: &mut World<E, ErasedEvent>,
+    reply: &mut Reply,
+    line: &[u8],
+) -> Result<(), LineFault>
+    ensures { MatchResult result
+        (λ _. TakesCommand (command_on world.old.settings line.now) world.old world.new reply.new)
+        (λ why. why ≡ Bad → command_on world.old.settings line.now ≡ None) }
+{
+    let command = open_command(alloc, world.config(), line)?;
+    match world.answer(&command, reply) {
+        Ok(()) => Ok(()),
+        Err(_) => Err(LineFault::OutOfMemory),
+    }
+}
 
 /// Gives the world the command on a line, and buffers its reply, which is put in the place of another. An `Err` buffers
 /// nothing, and ends the script.
@@ -25,10 +44,7 @@ pub fn answer_command(
         (λ why. why ≡ Bad → command_on world.old.settings line.now ≡ None) }
     ensures err { OnErr result (buffered.new.items ≡ buffered.old.items) }
 {
-    let command = open_command(alloc, world.config(), line)?;
-    if world.answer(&command, reply).is_err() {
-        return Err(LineFault::OutOfMemory);
-    }
+    take_command(alloc, world, reply, line)?;
     match append_reply(buffered, reply) {
         Ok(()) => Ok(()),
         Err(_) => Err(LineFault::OutOfMemory),

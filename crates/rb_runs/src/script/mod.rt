@@ -1,5 +1,6 @@
 //! A script: a configuration and commands in, a line each, and a line out for each command.
 
-mod command;
+pub mod command;
+pub mod opening;
 pub mod run;
 mod session;

@@ -11,7 +11,8 @@ ghost use Rattle.rb_runs.specs.ScriptSession.{first_session};
 
 use crate::fault::fault_at;
 use crate::script::command::answer_command;
-use rb_history::{LineFault, open_config};
+use crate::script::opening::{end_world, open_world};
+use rb_history::LineFault;
 use rb_lines::{Responder, ScriptFault, is_blank};
 use rb_money::Refusal;
 use rb_site::Reply;
@@ -25,19 +26,6 @@ pub struct Session {
     pub reply: Reply,
     pub number: u64,
     pub count: u64,
-}
-
-/// The world before any event of the configuration on a line.
-fn open_world(alloc: Global, line: &[u8]) -> Result<LeanWorld, LineFault>
-    ensures { MatchResult result
-        (λ world. (s : Settings) × (config_on line.now ≡ Some s) × (world ≡ opened s))
-        (λ why. why ≡ Bad → config_on line.now ≡ None) }
-{
-    let config = open_config(alloc, line)?;
-    match LeanWorld::open_keeping(alloc, config) {
-        Ok(world) => Ok(world),
-        Err(_) => Err(LineFault::OutOfMemory),
-    }
 }
 
 impl Session {
@@ -57,9 +45,7 @@ impl Session {
     fn start(&mut self, world: LeanWorld)
         ensures { self.new ≡ record self.old { world = Some world } }
     {
-        if let Some(before) = self.world.replace(world) {
-            let _reports = before.close();
-        }
+        end_world(self.world.replace(world));
     }
 
     /// The script goes on with the world of the configuration on a line.
@@ -83,9 +69,7 @@ impl Session {
             number: _,
             count: _,
         } = self;
-        if let Some(world) = world {
-            let _reports = world.close();
-        }
+        end_world(world);
     }
 }
 

@@ -1,41 +1,53 @@
-use Rattle.std.proofs.Common.{◌≡◌, ◌∙◌, [], Err, ap, sym}
+use Rattle.std.proofs.Common.{◌≡◌, ◌∙◌, [], Err, ap, refl, sym}
 use Rattle.std.proofs.lemmas.Bool.{false≢true}
 use Rattle.std.proofs.lemmas.Result.{err_from_is_err_and}
 use Rattle.rb_lines.specs.declared.fault.ScriptFault.TheVariants.{Gather, Read, Write}
+use Rattle.rb_runs.proofs.Collected.{ended, silent, taken}
 use Rattle.rb_runs.proofs.Failures.{same_reason}
 use Rattle.rb_runs.proofs.Reported.{reported, part_reported}
 use Rattle.rb_runs.proofs.audit.run.run_audit.Goals as goal
 
 pub returns-clause-written : goal.returns-clause-written
 returns-clause-written g c =
-    let collected = c.in_default.ensures in
-    let answered = c.in_ok-found.ensures in
+    let all = c.in_default.ensures in
+    let input =
+    taken (g.S.Source.remaining c.args.reader.now) (g.S.Source.remaining c.take_lines.new.reader) c.new-collected.result
+    c.take_lines.new.responder tt (c.new-collected.ensures.auditor, c.new-collected.ensures.number) all.input all.made in
     let written = rw c.as_slice.ensures.value at c.in_ok-write_all.ensures.written.0 in
-    reported _ (g.W.Sink.contents c.collect.new.writer) _ (g.S.Source.remaining c.args.reader.now) _ c.collect.new.collected
-    c.in-Some.auditor _
-    _ _ collected.written written collected.input (sym c.into_auditor.ensures ∙ c.in-Some.is) answered
+    reported _ (g.W.Sink.contents c.take_lines.new.writer) _ (g.S.Source.remaining c.args.reader.now) _ c.take_lines.new.responder
+    c.in-Some.auditor _ _ all.written written input (sym c.into_auditor.ensures ∙ c.in-Some.is) c.in_ok-found.ensures
 
 pub returns-in_err-write_all-clause-written : goal.returns-in_err-write_all-clause-written
 returns-in_err-write_all-clause-written g c =
-    let collected = c.in_default.ensures in
-    let answered = c.in_ok-found.ensures in
+    let all = c.in_default.ensures in
+    let input =
+    taken (g.S.Source.remaining c.args.reader.now) (g.S.Source.remaining c.take_lines.new.reader) c.new-collected.result
+    c.take_lines.new.responder tt (c.new-collected.ensures.auditor, c.new-collected.ensures.number) all.input all.made in
     let written = rw c.as_slice.ensures.value at c.in_err-write_all.ensures.written.0 in
     let given = err_from_is_err_and c.from_residual-in_err-write_all.result c.from_residual-in_err-write_all.ensures.1 in
     let passed : c.from_residual-in_err-write_all.result ≡ Err Write = given.1 ∙ ap Err given.2 in
     rw passed
-    (part_reported _ (g.W.Sink.contents c.collect.new.writer) _ (g.S.Source.remaining c.args.reader.now) _ c.collect.new.collected
-    c.in-Some.auditor _ _ _ collected.written written collected.input (sym c.into_auditor.ensures ∙ c.in-Some.is) answered)
+    (part_reported _ (g.W.Sink.contents c.take_lines.new.writer) _ (g.S.Source.remaining c.args.reader.now) _ c.take_lines.new.responder
+    c.in-Some.auditor _ _ all.written written input (sym c.into_auditor.ensures ∙ c.in-Some.is) c.in_ok-found.ensures)
 
-pub collect-requires : goal.collect-requires
-collect-requires g c = record {
+pub take_lines-requires : goal.take_lines-requires
+take_lines-requires g c = record {
   unread = c.requires.unread;
   fresh = c.requires.fresh;
-  first = (c.new-collected.ensures.auditor, c.new-collected.ensures.number);
+  first = c.new-collected.ensures.number;
+  none = refl;
+  silent = silent _;
 }
 
 pub returns-in-Err : goal.returns-in-Err
 returns-in-Err g c = record {
-  written = ([], c.in-Err.ensures.written, c.in-Err.ensures.input);
+  written = (
+    [],
+    c.in-Err.ensures.written,
+    ended (g.S.Source.remaining c.args.reader.now) (g.S.Source.remaining c.take_lines.new.reader) c.new-collected.result
+        c.in-Err.fault (c.new-collected.ensures.auditor, c.new-collected.ensures.number) (λ e. c.in-Err.ensures.write (ap Err e))
+        c.in-Err.ensures.input,
+  );
   read = λ e. c.in-Err.ensures.read (ap Err (same_reason c.in-Err.fault Read e));
   write = (
     λ e. absurd (c.in-Err.ensures.write (ap Err (same_reason c.in-Err.fault Write e))),

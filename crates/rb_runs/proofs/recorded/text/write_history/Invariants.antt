@@ -1,8 +1,8 @@
 -- So far the lines of the entries before went out or are buffered.
 use Rattle.std.proofs.Common.{◌≡◌, ◌++◌, take, false}
 use Rattle.rb_lines.specs.Buffers.{Sends}
-use Rattle.rb_run_threads.specs.Texts.{history_text}
-use Rattle.rb_run_threads.proofs.text.write_history.Given as goal
+use Rattle.rb_runs.specs.Texts.{history_text}
+use Rattle.rb_runs.proofs.recorded.text.write_history.Given as goal
 
 abbrev pub invariant-loop-entry : goal.invariant-loop-entry
 invariant-loop-entry g l = record {

@@ -1,9 +1,9 @@
 use Rattle.std.proofs.Common.{rules, ◌≡◌, ℕ, List, [], ◌++◌, Option, Err, ap, ◌∙◌, subst}
 use Rattle.rb_lines.specs.Buffers.{Sends}
-use Rattle.rb_run_threads.specs.Texts.{config_line}
-use Rattle.rb_run_threads.proofs.Parts.{sends_all}
-use Rattle.rb_run_threads.specs.declared.unwritten.Unwritten.TheVariants.{Write}
-use Rattle.rb_run_threads.proofs.text.write_text.Goals as goal
+use Rattle.rb_runs.specs.Texts.{config_line}
+use Rattle.rb_runs.proofs.Parts.{sends_all}
+use Rattle.rb_runs.specs.declared.recorded.unwritten.Unwritten.TheVariants.{Write}
+use Rattle.rb_runs.proofs.recorded.text.write_text.Goals as goal
 use Rattle.rb_lines.proofs.Public.Sending.{Sends-front}
 
 -- the configuration's line was buffered first

@@ -8,8 +8,8 @@ use Rattle.rb_lines.specs.Writes.{AppendsFront}
 use Rattle.rb_money.specs.Settings.{Settings}
 use Rattle.rb_site.specs.declared.entry.Entry.{Entry}
 use Rattle.rb_site.specs.declared.report.SiteReport.{SiteReport}
-use Rattle.rb_run_threads.specs.Texts.{entry_line, histories_text, history_text}
-use Rattle.rb_run_threads.proofs.Parts.{sends_front, sends_more}
+use Rattle.rb_runs.specs.Texts.{entry_line, histories_text, history_text}
+use Rattle.rb_runs.proofs.Parts.{sends_front, sends_more}
 
 -- ---- one history
 

@@ -1,7 +1,7 @@
 //! Why a text isn't written whole.
 ghost use Rattle.std.specs.Prelude.{◌≡◌};
-ghost use Rattle.rb_run_threads.specs.declared.unwritten.Unwritten.TheVariants.{OutOfMemory as NoMemory};
-ghost use Rattle.rb_run_threads.specs.declared.unwritten.Unwritten.TheVariants.{Write as NotWritten};
+ghost use Rattle.rb_runs.specs.declared.recorded.unwritten.Unwritten.TheVariants.{OutOfMemory as NoMemory};
+ghost use Rattle.rb_runs.specs.declared.recorded.unwritten.Unwritten.TheVariants.{Write as NotWritten};
 
 use rb_lines::WriteFailed;
 use std::alloc::AllocError;

@@ -1,7 +1,7 @@
 use Rattle.std.proofs.Common.{rules, ◌≡◌, Err}
 use Rattle.std.proofs.lemmas.Bool.{false_from_ne_true}
-use Rattle.rb_run_threads.proofs.Lines.{history_goes_on, history_stops}
-use Rattle.rb_run_threads.proofs.text.write_history.Goals as goal
+use Rattle.rb_runs.proofs.Lines.{history_goes_on, history_stops}
+use Rattle.rb_runs.proofs.recorded.text.write_history.Goals as goal
 
 pub returns-in_err-write_entry-clause-written : goal.returns-in_err-write_entry-clause-written
 returns-in_err-write_entry-clause-written g c =

@@ -3,8 +3,8 @@ use Rattle.std.proofs.Common.{◌≡◌, ◌≤◌, ◌++◌, drop, take, map, f
 use Rattle.std.specs.Vec.Iter.{into_iter_items}
 use Rattle.rb_lines.specs.Buffers.{Sends}
 use Rattle.rb_site.specs.declared.report.SiteReport.{SiteReport}
-use Rattle.rb_run_threads.specs.Texts.{histories_text}
-use Rattle.rb_run_threads.proofs.text.write_histories.Given as goal
+use Rattle.rb_runs.specs.Texts.{histories_text}
+use Rattle.rb_runs.proofs.recorded.text.write_histories.Given as goal
 
 abbrev pub invariant-loop-report : goal.invariant-loop-report
 invariant-loop-report g l = record {

@@ -6,11 +6,11 @@
 ghost use Rattle.std.specs.Prelude.{◌≡◌, ◌↔◌, ◌++◌, ◌≤◌, [], Err, false, true, map, vec_len, OnOk};
 ghost use Rattle.rb_money.specs.declared.limits.TheConstants.{MOST_SITES};
 ghost use Rattle.rb_site.specs.declared.report.SiteReport.{SiteReport};
-ghost use Rattle.rb_run_threads.specs.Texts.{config_line, entry_line, histories_text, history_text, text_of};
-ghost use Rattle.rb_run_threads.specs.Writing.{Writes};
-ghost use Rattle.rb_run_threads.specs.declared.unwritten.Unwritten.TheVariants.{Write};
+ghost use Rattle.rb_runs.specs.Texts.{config_line, entry_line, histories_text, history_text, text_of};
+ghost use Rattle.rb_runs.specs.Writing.{Writes};
+ghost use Rattle.rb_runs.specs.declared.recorded.unwritten.Unwritten.TheVariants.{Write};
 
-use crate::unwritten::Unwritten;
+use crate::recorded::unwritten::Unwritten;
 use rb_history::{append_line, write_config};
 use rb_lines::{MOST_BUFFERED, Sink, flush};
 use rb_money::Config;

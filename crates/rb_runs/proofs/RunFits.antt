@@ -1,0 +1,142 @@
+-- The entries that the sites of a world record fit their lines if the world's commands do.
+use Rattle.std.proofs.Common.{◌≡◌, ℕ, ◌+◌, ◌<◌, Bool, true, false, cond, List, [], ◌∷◌, ◌++◌, length, Option, Some, None, refl, sym, ap}
+use Rattle.std.proofs.Common.{◌∙◌, subst, inl, inr, arith, append-nil}
+use Rattle.std.specs.Prelude.{IfSome, option_map, slice_get, slice_set}
+use Rattle.std.proofs.lemmas.List.FromFn.{length-map-range_with_len}
+use Rattle.std.proofs.lemmas.Option.{slice_get_within}
+use Rattle.rb_money.specs.Settings.{Settings}
+use Rattle.rb_site.specs.declared.event.Event.{Event}
+use Rattle.rb_site.specs.declared.event.Event.TheVariants.{Receive}
+use Rattle.rb_site.specs.declared.message.Message.{Message}
+use Rattle.rb_site.specs.declared.world_event.WorldEvent.{WorldEvent}
+use Rattle.rb_site.specs.declared.world_event.WorldEvent.TheVariants.{At, Deliver}
+use Rattle.rb_site.specs.Events.{ModelSite, after_event, after_events, first_site, is_full, sent_at}
+use Rattle.rb_site.specs.Histories.{IsAmong, sends_of}
+use Rattle.rb_site.specs.Worlds.{World, first_world, message_at, world_after, world_after_all, world_at, world_of_run}
+use Rattle.rb_site.proofs.Public.Places.{get_set_other, get_set_same, same_number}
+use Rattle.rb_site.proofs.Public.Recorded.{me_after, placed}
+use Rattle.rb_site.proofs.Public.Runs.{IsRunOfItsHistory, noted, run_goes_on}
+use Rattle.rb_site.proofs.Public.Stuck.{among-cases, among-right, first_sites, sends-append}
+use Rattle.rb_history.specs.Fits.{Each, IsEvent}
+use Rattle.rb_history.specs.Sites.{IsFittingCommand}
+use Rattle.rb_history.proofs.Public.Each.{each_both}
+
+-- a site of the configuration sent the message
+pub record IsSentBySite (s : Settings) (m : Message) : Type 0 where
+  pub me : ℕ
+  pub is_site : me < s.sites
+  pub events : List Event
+  pub among : IsAmong m (sends_of s (first_site me) events)
+
+-- each message that a site sent fits as what another receives
+abbrev pub ReceiptsFit : Settings → Type 0
+ReceiptsFit s = (m : Message) → IsSentBySite s m → IsEvent s (Receive m)
+
+-- the site has this number, which is one of the configuration's, and is the run of its history, whose events fit
+pub record HasFitting (s : Settings) (i : ℕ) (t : ModelSite) : Type 0 where
+  pub here : i < s.sites
+  pub me : t.me ≡ i
+  pub run : IsRunOfItsHistory s t
+  pub events : Each (IsEvent s) t.history
+
+pub record IsFittingWorld (s : Settings) (w : World) : Type 0 where
+  pub sites : (i : ℕ) (t : ModelSite) → slice_get w.sites i ≡ Some t → HasFitting s i t
+  pub messages : (m : Message) → IsAmong m w.messages → IsSentBySite s m
+
+-- ---- one event at a site
+
+noted_fits : (s : Settings) (t : ModelSite) (e : Event) → IsEvent s e → Each (IsEvent s) t.history → Each (IsEvent s) (after_event s t e).history
+noted_fits s t e fits old = by (is_full s t)
+  where
+    by : (b : Bool) → Each (IsEvent s) (cond b t (noted s t e)).history
+    by true = old
+    by false = each_both (IsEvent s) t.history (e ∷ []) old (fits, tt)
+
+site_fits : (s : Settings) (i : ℕ) (t : ModelSite) (e : Event) → IsEvent s e → HasFitting s i t → HasFitting s i (after_event s t e)
+site_fits s i t e fits h = record {
+  here = h.here;
+  me = me_after s t e ∙ h.me;
+  run = run_goes_on s t e h.run;
+  events = noted_fits s t e fits h.events;
+}
+
+-- what a site sends at an event it sends through its history and that event
+sent_here : (s : Settings) (i : ℕ) (t : ModelSite) (e : Event) (m : Message) → HasFitting s i t → IsAmong m (sent_at s t e)
+    → IsSentBySite s m
+sent_here s i t e m h among =
+    let state : after_events s (first_site i) t.history ≡ t = ap (λ n. after_events s (first_site n) t.history) (sym h.me) ∙ h.run in
+    let sends : sends_of s (first_site i) (t.history ++ e ∷ []) ≡ sends_of s (first_site i) t.history ++ sent_at s t e =
+    sends-append s t.history (e ∷ []) (first_site i)
+    ∙ ap (λ u. sends_of s (first_site i) t.history ++ sends_of s u (e ∷ [])) state
+    ∙ ap (λ ms. sends_of s (first_site i) t.history ++ ms) (append-nil (sent_at s t e)) in
+    record {
+      me = i;
+      is_site = h.here;
+      events = t.history ++ e ∷ [];
+      among = subst (IsAmong m) (sym sends) (among-right m (sends_of s (first_site i) t.history) (sent_at s t e) among);
+    }
+
+some_same : {A : Type 0} (x y : A) → Some x ≡ Some y → x ≡ y
+some_same x y e = cc e
+
+at_site : (s : Settings) (w : World) (i : ℕ) (e : Event) (t : ModelSite) → slice_get w.sites i ≡ Some t → IsEvent s e → IsFittingWorld s w
+    → IsFittingWorld s (world_at s w i (Some e) (Some t))
+at_site s w i e t at fits h = record {
+  sites = λ j u there. elim (same_number i j) [
+    | inl same ↦
+        (let set : List ModelSite = slice_set w.sites i (after_event s t e) in
+        let moved : slice_get set j ≡ slice_get set i = ap (λ k. slice_get set k) same in
+        let found : slice_get set i ≡ Some (after_event s t e) = get_set_same w.sites i t (after_event s t e) at in
+        let is : u ≡ after_event s t e = some_same u (after_event s t e) (sym there ∙ (moved ∙ found)) in
+        let P : ℕ → Type 0 = λ n. HasFitting s n u in
+        subst P (sym same) (subst (HasFitting s i) (sym is) (site_fits s i t e fits (h.sites i t at))))
+    | inr other ↦ h.sites j u (sym (get_set_other w.sites i j (after_event s t e) other) ∙ there)
+  ];
+  messages = λ m among. elim (among-cases m w.messages (sent_at s t e) among) [
+    | inl old ↦ h.messages m old
+    | inr new ↦ sent_here s i t e m (h.sites i t at) new
+  ];
+}
+
+brought : (s : Settings) (w : World) (i : ℕ) (o : Option Event) → IfSome o (IsEvent s) → IsFittingWorld s w
+    → IsFittingWorld s (world_at s w i o (slice_get w.sites i))
+brought s w i None fits h = h
+brought s w i (Some e) fits h = by (slice_get w.sites i) refl
+  where
+    by : (t : Option ModelSite) → slice_get w.sites i ≡ t → IsFittingWorld s (world_at s w i (Some e) t)
+    by None at = h
+    by (Some t) at = at_site s w i e t at fits h
+
+-- ---- a world's commands
+
+received : (s : Settings) (w : World) (k : ℕ) → ReceiptsFit s → IsFittingWorld s w
+    → IfSome (option_map Receive (message_at w.messages k)) (IsEvent s)
+received s w k receipts h = by (message_at w.messages k) refl
+  where
+    by : (o : Option Message) → message_at w.messages k ≡ o → IfSome (option_map Receive o) (IsEvent s)
+    by None is = tt
+    by (Some m) is = receipts m (h.messages m (placed w.messages k m is))
+
+next_fits : (s : Settings) (w : World) (c : WorldEvent) → ReceiptsFit s → IsFittingCommand s c → IsFittingWorld s w
+    → IsFittingWorld s (world_after s w c)
+next_fits s w (At i e) receipts fits h = brought s w i (Some e) fits.1 h
+next_fits s w (Deliver i k) receipts fits h = brought s w i (option_map Receive (message_at w.messages k)) (received s w k receipts h) h
+
+all_fit : (s : Settings) (cs : List WorldEvent) (w : World) → ReceiptsFit s → Each (IsFittingCommand s) cs → IsFittingWorld s w
+    → IsFittingWorld s (world_after_all s w cs)
+all_fit s [] w receipts fits h = h
+all_fit s (c ∷ cs) w receipts fits h = all_fit s cs (world_after s w c) receipts fits.1 (next_fits s w c receipts fits.0 h)
+
+first_fits : (s : Settings) → IsFittingWorld s (first_world s)
+first_fits s = record {
+  sites = λ i t at.
+      let e : t ≡ first_site i = first_sites 0 s.sites i t at ∙ ap first_site (let q : 0 + i ≡ i = omega arith in q) in
+      let many : length (first_world s).sites ≡ s.sites = length-map-range_with_len first_site 0 s.sites in
+      let here : i < s.sites = (let q : i < length (first_world s).sites = slice_get_within (first_world s).sites i t at in omega arith) in
+      subst (HasFitting s i) (sym e) (record { here = here; me = refl; run = refl; events = tt });
+  messages = λ m among. absurd among;
+}
+
+-- the world of a run of such commands
+pub run_fits : (s : Settings) (cs : List WorldEvent) → ReceiptsFit s → Each (IsFittingCommand s) cs → IsFittingWorld s (world_of_run s cs)
+run_fits s cs receipts fits = all_fit s cs (first_world s) receipts fits (first_fits s)
