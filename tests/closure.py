@@ -29,7 +29,7 @@ import textwrap
 
 ROOT = os.path.dirname(os.path.dirname(os.path.abspath(__file__)))
 PARTS = ["The headline", "The program's text", "Other public contracts", "Inner contracts"]
-PROGRAM = ["run_script", "run_audit", "run_migrate", "run_threads", "run_site", "read_words"]
+PROGRAM = ["run_script", "run_histories", "run_audit", "run_migrate", "run_threads", "run_site", "read_words"]
 WORD = re.compile(r"[^\W\d]\w*")
 
 # a type of the code with its fields, and a trait with its functions
