@@ -14,7 +14,7 @@ use Rattle.rb_site.specs.Histories.{AreOneWorlds, histories_of, history_of, with
 use Rattle.rb_site.specs.Worlds.{AreOwn, World, world_after_all, world_of_run}
 use Rattle.rb_site.proofs.Public.Runs.{after_events-append}
 use Rattle.rb_world.specs.Laws.{SeenWorld, next_world, next_worlds, opened}
-use Rattle.rb_world.proofs.Public.Sites.{sites_of_run}
+use Rattle.rb_world.proofs.Public.{sites_of_run}
 use Rattle.rb_history.specs.Configurations.{config_on}
 use Rattle.rb_history.specs.Fits.{Each, IsEvent}
 use Rattle.rb_history.specs.Laws.{ReadConfigsAreConfigured}

@@ -5,7 +5,7 @@ use Rattle.rb_money.specs.declared.limits.TheConstants.{MOST_SITES}
 use Rattle.rb_world.specs.Laws.{IsRunOf, SeenWorld}
 use Rattle.rb_world.specs.Reports.{AreReportsOf}
 use Rattle.rb_world.proofs.Closing.{IsClosing, as_many, closing-first, closing-next, closing-whole}
-use Rattle.rb_world.proofs.Public.Sites.{few_sites}
+use Rattle.rb_world.proofs.Public.{few_sites}
 use Rattle.rb_world.proofs.Stepping.{AreOf}
 use Rattle.rb_world.proofs.world.World.close.Goals as goal
 
