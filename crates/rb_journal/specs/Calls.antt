@@ -20,6 +20,8 @@ pub data HostCall : Type 0 where
   output : (count : ℕ) (bytes : List ℕ) → HostCall
   -- these bytes were to be put out, and the call failed and put out none
   output_failed : (bytes : List ℕ) → HostCall
+  -- these bytes were added to the end of the file that keeps what is cut off, and waited for
+  kept : (ok : Bool) (bytes : List ℕ) → HostCall
 
 abbrev pub host_call_of : NotedCall → HostCall
 host_call_of (kind, number, ok, bytes) =
@@ -28,7 +30,8 @@ host_call_of (kind, number, ok, bytes) =
     else if kind == 2 then cut ok number
     else if kind == 3 then synced ok
     else if kind == 4 then output number bytes
-    else output_failed bytes
+    else if kind == 5 then output_failed bytes
+    else kept ok bytes
 
 -- what a read returns after the call
 abbrev pub content_after : HostCall → List ℕ → List ℕ
@@ -38,6 +41,7 @@ content_after (cut ok len) file = take len file
 content_after (synced ok) file = file
 content_after (output count bytes) file = file
 content_after (output_failed bytes) file = file
+content_after (kept ok bytes) file = file
 
 abbrev pub content_of : List NotedCall → List ℕ
 content_of [] = []
@@ -51,10 +55,27 @@ output_after (wrote ok at bytes) before = before
 output_after (cut ok len) before = before
 output_after (synced ok) before = before
 output_after (output_failed bytes) before = before
+output_after (kept ok bytes) before = before
 
 abbrev pub output_of : List NotedCall → List ℕ
 output_of [] = []
 output_of (event ∷ past) = output_after (host_call_of event) (output_of past)
+
+-- what is kept of what was cut off, after the call
+abbrev pub kept_after : HostCall → List ℕ → List ℕ
+kept_after (kept true bytes) before = before ++ bytes
+kept_after (kept false bytes) before = before
+kept_after (found bytes) before = before
+kept_after (wrote ok at bytes) before = before
+kept_after (cut ok len) before = before
+kept_after (synced ok) before = before
+kept_after (output count bytes) before = before
+kept_after (output_failed bytes) before = before
+
+-- since the file was opened
+abbrev pub kept_of : List NotedCall → List ℕ
+kept_of [] = []
+kept_of (event ∷ past) = kept_after (host_call_of event) (kept_of past)
 
 -- what file a crash may leave after the call
 abbrev pub leaves_after : HostCall → List ℕ → (List ℕ → Type 0) → List ℕ → Type 0
@@ -65,6 +86,7 @@ leaves_after (synced true) file before c = (c ≡ file) × before c
 leaves_after (synced false) file before c = before c
 leaves_after (output count bytes) file before c = before c
 leaves_after (output_failed bytes) file before c = before c
+leaves_after (kept ok bytes) file before c = before c
 
 abbrev pub leaves : List NotedCall → List ℕ → Type 0
 leaves [] c = c ≡ []
@@ -78,6 +100,7 @@ leaves_within (found bytes) before so_far c d = ⊥
 leaves_within (wrote ok at bytes) before so_far c d = ⊥
 leaves_within (cut ok len) before so_far c d = ⊥
 leaves_within (synced ok) before so_far c d = ⊥
+leaves_within (kept ok bytes) before so_far c d = ⊥
 
 -- what a crash may have left since the time when there were t calls
 abbrev pub left_since : List NotedCall → ℕ → List ℕ → List ℕ → Type 0
@@ -91,11 +114,13 @@ faults_after (wrote false at bytes) n = suc n
 faults_after (cut false len) n = suc n
 faults_after (synced false) n = suc n
 faults_after (output_failed bytes) n = suc n
+faults_after (kept false bytes) n = suc n
 faults_after (found bytes) n = n
 faults_after (wrote true at bytes) n = n
 faults_after (cut true len) n = n
 faults_after (synced true) n = n
 faults_after (output count bytes) n = n
+faults_after (kept true bytes) n = n
 
 abbrev pub faults_of : List NotedCall → ℕ
 faults_of [] = 0

@@ -1,5 +1,6 @@
 -- What the calls of a host do to its file and its output, and what a crash may do between two syncs.
-use Rattle.std.specs.Prelude.{◌<◌, ◌≡◌, ◌⊎◌, ℕ, ◌+◌, ◌≤◌, max, List, [], ◌∷◌, ◌++◌, length, take, drop, Result, IsErrOf}
+use Rattle.std.specs.Prelude.{◌<◌, ◌≡◌, ◌⊎◌, ℕ, ◌+◌, ◌≤◌, max, true, List, [], ◌∷◌, ◌++◌, length, take, drop, Result, IsErrOf}
+use Rattle.rb_journal.specs.Lines.{is_bare_gate}
 use Rattle.rb_journal.specs.declared.host.HostError.{HostError}
 use Rattle.rb_journal.specs.declared.host.HostError.TheVariants.{DiskFailed, OutputFailed, Full}
 
@@ -29,6 +30,10 @@ Torn at (b ∷ c ∷ bytes) old new = TornRange at (length (b ∷ c ∷ bytes)) 
 pub record Cut (n : ℕ) (old new : List ℕ) : Type 0 where
   pub no_shorter : n ≤ length new
   pub front : take (length new) old ≡ new
+
+-- these bytes may be cut off the end of a file: they are a bare gate, or they are at the end of what is kept
+abbrev pub MayBeCut : List ℕ → List ℕ → Type 0
+MayBeCut bytes kept = (is_bare_gate bytes ≡ true) ⊎ ((before : List ℕ) × (kept ≡ before ++ bytes))
 
 -- each new outcome of a crash is an old outcome after a step
 abbrev pub StepsFrom : (List ℕ → List ℕ → Type 0) → (List ℕ → Type 0) → (List ℕ → Type 0) → Type 0

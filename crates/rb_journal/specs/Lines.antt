@@ -1,6 +1,6 @@
 -- The lines of a file.
-use Rattle.std.specs.Prelude.{◌≡◌, ◌≢◌, ◌⊎◌, ℕ, Bool, false, List, [], ◌∷◌, ◌++◌, if◌then◌else◌, ◌==◌, take_while}
-use Rattle.std.specs.Prelude.{slice_index, All, length, drop}
+use Rattle.std.specs.Prelude.{◌≡◌, ◌≢◌, ◌⊎◌, ◌||◌, ℕ, Bool, true, false, List, [], ◌∷◌, ◌++◌, if◌then◌else◌, ◌==◌}
+use Rattle.std.specs.Prelude.{slice_index, All, length, drop, take_while}
 use Rattle.std.specs.List.{concat}
 
 -- a byte before lines belongs to the first of them, and is no line alone
@@ -25,6 +25,20 @@ recovered file = take_while is_open (lines_in file)
 -- what is behind the lines of a file
 abbrev pub behind_lines : List ℕ → List ℕ
 behind_lines file = drop (length (concat (recovered file))) file
+
+-- nothing, or a closed gate, a space (32), or a NUL in its place, and nothing else
+abbrev pub is_bare_gate : List ℕ → Bool
+is_bare_gate [] = true
+is_bare_gate (b ∷ []) = b == 32 || b == 0
+is_bare_gate (b ∷ c ∷ bytes) = false
+
+-- of these bytes behind lines, those that are kept where they are cut off: all, unless they are a bare gate
+abbrev pub to_keep : List ℕ → List ℕ
+to_keep bytes = if is_bare_gate bytes then [] else bytes
+
+-- what a repair of the file cuts off it and keeps
+abbrev pub what_is_cut : List ℕ → List ℕ
+what_is_cut file = to_keep (behind_lines file)
 
 -- what a crash may leave behind lines: nothing; a closed gate, a space (32), or a NUL in its place, with any bytes behind
 -- it; or the front of one line, which begins with `{` and has no LF

@@ -4,7 +4,7 @@ ghost use Rattle.std.specs.Prelude.{IfSome, OnOk, IfOk};
 ghost use Rattle.std.specs.Option.{ForSome};
 ghost use Rattle.rb_journal.specs.Host.{Only, StepsFrom, Torn, Cut, IsWritten, Silent, Outputs, AddsPrefix, Elapses};
 ghost use Rattle.rb_journal.specs.Host.{DiskCause, OutputCause};
-ghost use Rattle.rb_journal.specs.Calls.{content_of, output_of, leaves, left_since, faults_of};
+ghost use Rattle.rb_journal.specs.Calls.{content_of, output_of, kept_of, leaves, left_since, faults_of};
 
 use crate::HostError;
 use crate::call_log::CallLog;
@@ -21,11 +21,14 @@ const PUT_OUT: u64 = 4;
 
 const OUTPUT_FAILED: u64 = 5;
 
+const KEPT: u64 = 6;
+
 /// A file was opened, and these were its bytes, all of them on the disk.
 pub(crate) fn found(bytes: &[u8]) -> CallLog
     ensures content { content_of result.events ≡ bytes.now }
     ensures durable { Only bytes.now (leaves result.events) }
     ensures output { output_of result.events ≡ [] }
+    ensures kept { kept_of result.events ≡ [] }
     ensures usable { faults_of result.events ≡ 0 }
 {
     let mut log = CallLog::new();
@@ -41,6 +44,7 @@ pub(crate) fn wrote(log: &mut CallLog, at: usize, bytes: &[u8], ok: bool) -> Res
     ensures written { IsWritten (content_of log.old.events) at bytes.now (content_of log.new.events) }
     ensures crash { StepsFrom (Torn at bytes.now) (leaves log.old.events) (leaves log.new.events) }
     ensures output { output_of log.new.events ≡ output_of log.old.events }
+    ensures kept { kept_of log.new.events ≡ kept_of log.old.events }
     ensures time { Elapses (length log.old.events) (length log.new.events) (left_since log.old.events)
         (left_since log.new.events)
         (Silent (leaves log.new.events) (output_of log.old.events)) }
@@ -63,6 +67,7 @@ pub(crate) fn cut(log: &mut CallLog, len: usize, ok: bool) -> Result<(), HostErr
     ensures cut { content_of log.new.events ≡ take len (content_of log.old.events) }
     ensures crash { StepsFrom (Cut len) (leaves log.old.events) (leaves log.new.events) }
     ensures output { output_of log.new.events ≡ output_of log.old.events }
+    ensures kept { kept_of log.new.events ≡ kept_of log.old.events }
     ensures time { Elapses (length log.old.events) (length log.new.events) (left_since log.old.events)
         (left_since log.new.events)
         (Silent (leaves log.new.events) (output_of log.old.events)) }
@@ -86,6 +91,7 @@ pub(crate) fn synced(log: &mut CallLog, ok: bool) -> Result<(), HostError>
     ensures content { content_of log.new.events ≡ content_of log.old.events }
     ensures crash { (c : List ℕ) → leaves log.new.events c → leaves log.old.events c }
     ensures output { output_of log.new.events ≡ output_of log.old.events }
+    ensures kept { kept_of log.new.events ≡ kept_of log.old.events }
     ensures time { Elapses (length log.old.events) (length log.new.events) (left_since log.old.events)
         (left_since log.new.events)
         (Silent (leaves log.new.events) (output_of log.old.events)) }
@@ -96,6 +102,29 @@ pub(crate) fn synced(log: &mut CallLog, ok: bool) -> Result<(), HostError>
         Ok(())
     } else {
         log.note(&[SYNCED, 0, 0], &[]);
+        Err(HostError::DiskFailed)
+    }
+}
+
+/// These bytes were added to the file that keeps what is cut off, and whether all of it succeeded.
+pub(crate) fn kept(log: &mut CallLog, bytes: &[u8], ok: bool) -> Result<(), HostError>
+    requires { faults_of log.old.events ≡ 0 }
+    ensures ok { IsTrue ok ↔ IsOk result }
+    ensures usable { OnOk result (faults_of log.new.events ≡ 0) }
+    ensures kept { OnOk result (kept_of log.new.events ≡ kept_of log.old.events ++ bytes.now) }
+    ensures content { content_of log.new.events ≡ content_of log.old.events }
+    ensures crash { (c : List ℕ) → leaves log.new.events c → leaves log.old.events c }
+    ensures output { output_of log.new.events ≡ output_of log.old.events }
+    ensures time { Elapses (length log.old.events) (length log.new.events) (left_since log.old.events)
+        (left_since log.new.events)
+        (Silent (leaves log.new.events) (output_of log.old.events)) }
+    ensures cause { DiskCause (faults_of log.old.events) (faults_of log.new.events) result }
+{
+    if ok {
+        log.note(&[KEPT, 0, 1], bytes);
+        Ok(())
+    } else {
+        log.note(&[KEPT, 0, 0], bytes);
         Err(HostError::DiskFailed)
     }
 }
@@ -114,6 +143,7 @@ pub(crate) fn output(
     ensures count { IfOk result (λ n. (0 < n) × (n ≤ length bytes.now)) }
     ensures output { IfOk result (λ n. output_of log.new.events ≡ output_of log.old.events ++ take n bytes.now) }
     ensures output_some { AddsPrefix (output_of log.old.events) bytes.now (output_of log.new.events) }
+    ensures kept { kept_of log.new.events ≡ kept_of log.old.events }
     ensures content { content_of log.new.events ≡ content_of log.old.events }
     ensures crash { (c : List ℕ) → leaves log.new.events c → leaves log.old.events c }
     ensures time { Elapses (length log.old.events) (length log.new.events) (left_since log.old.events)

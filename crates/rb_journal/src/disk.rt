@@ -7,12 +7,12 @@
 //! so that a closed one isn't the file, and refuses a file that is open at one of them.
 ghost use Rattle.std.specs.Prelude.{◌≡◌, ◌<◌, ◌≤◌, [], false, length, string_bytes, true, None, IfErr, IfOk, IfSome};
 ghost use Rattle.rb_journal.specs.Host.{Only};
-ghost use Rattle.rb_journal.specs.Calls.{content_of, output_of, leaves, left_since, faults_of};
+ghost use Rattle.rb_journal.specs.Calls.{content_of, output_of, kept_of, leaves, left_since, faults_of};
 ghost use Rattle.rb_journal.specs.CallLaws.{now_counts, now_alone};
 ghost use Rattle.rb_journal.specs.Disk.{IsAskedFor, disk_log};
 
 use crate::call_log::CallLog;
-use crate::named_file::{leads_to, open_above, read_locked, sync_folder, write_again};
+use crate::named_file::{keep_beside, leads_to, open_above, read_locked, sync_folder, write_again};
 use crate::open_error::OpenError;
 use crate::{Host, HostError, calls};
 use std::fs::OpenOptions;
@@ -83,6 +83,7 @@ pub fn open_disk<R: Files<File = fs::File> + Clock + AllocGlobal + Copy, P: Prin
     ensures content { IfOk result (λ r. content_of (disk_log r.0) ≡ r.1.items) }
     ensures durable { IfOk result (λ r. Only r.1.items (leaves (disk_log r.0))) }
     ensures output { IfOk result (λ r. output_of (disk_log r.0) ≡ []) }
+    ensures kept { IfOk result (λ r. kept_of (disk_log r.0) ≡ []) }
     ensures path { IfOk result (λ r. string_bytes r.0.path ≡ path.now) }
     // A new journal begins empty, and only what wasn't asked for is refused for being there or not.
     ensures new { IfOk result (λ r. new ≡ true → r.1.items ≡ []) }
@@ -116,6 +117,16 @@ pub fn open_disk<R: Files<File = fs::File> + Clock + AllocGlobal + Copy, P: Prin
     Ok((disk, bytes))
 }
 
+/// Says on standard error that bytes behind this number of lines are cut off and kept. A failed write is no fault.
+fn say_kept<R: Eprint + AllocGlobal>(rt: &R, path: &str, lines: u64, count: usize) {
+    let text = format!(in rt.alloc();
+        "rbbank: journal line {lines}: {count} bytes behind it cut off, kept in {path}.cut"
+    );
+    if let Ok(text) = text {
+        let _ = rt.eprintln(text.as_str());
+    }
+}
+
 /// Puts out some of the bytes, and says how many: `None` if the output failed. One that isn't ready is waited for.
 fn put_out<C: Clock, P: Print>(clock: &C, out: &P, bytes: &[u8]) -> Option<usize>
     ensures { IfSome result (λ n. (0 < n) × (n ≤ length bytes.now)) }
@@ -132,12 +143,14 @@ fn put_out<C: Clock, P: Print>(clock: &C, out: &P, bytes: &[u8]) -> Option<usize
     None
 }
 
-impl<R: Files<File = fs::File> + Clock, P: Print> Host for Disk<R, P> {
+impl<R: Files<File = fs::File> + Clock + Eprint + AllocGlobal, P: Print> Host for Disk<R, P> {
     ghost is_usable = { λ h. faults_of h.log.events ≡ 0 };
 
     ghost content = { λ h. content_of h.log.events };
 
     ghost output = { λ h. output_of h.log.events };
+
+    ghost kept = { λ h. kept_of h.log.events };
 
     ghost may_leave = { λ h. leaves h.log.events };
 
@@ -173,6 +186,15 @@ impl<R: Files<File = fs::File> + Clock, P: Print> Host for Disk<R, P> {
         };
         let ok = self.is_done(done);
         calls::cut(&mut self.log, len, ok)
+    }
+
+    fn keep(&mut self, lines: u64, bytes: &[u8]) -> Result<(), HostError> {
+        let done = keep_beside(&self.rt, self.path.as_str(), &self.file, bytes);
+        let ok = self.is_done(done);
+        if ok {
+            say_kept(&self.rt, self.path.as_str(), lines, bytes.len());
+        }
+        calls::kept(&mut self.log, bytes, ok)
     }
 
     fn sync(&mut self) -> Result<(), HostError> {

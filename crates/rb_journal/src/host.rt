@@ -1,8 +1,9 @@
 //! A file and an output, as the journal sees them: what is there, and what a crash may leave.
-ghost use Rattle.std.specs.Prelude.{◌≡◌, ◌+◌, ◌<◌, ◌≤◌, ◌++◌, List, ℕ, length, take, IfOk, OnOk};
+ghost use Rattle.std.specs.Prelude.{◌≡◌, ◌+◌, ◌<◌, ◌≤◌, ◌++◌, List, ℕ, length, take, drop, IfOk, OnOk};
 ghost use Rattle.rb_journal.specs.declared.host.HostError.TheVariants.{Memory};
 ghost use Rattle.rb_journal.specs.Host.{Only, StepsFrom, Torn, Cut, IsWritten, Silent, Outputs, AddsPrefix, Elapses};
-ghost use Rattle.rb_journal.specs.Host.{DiskCause, OutputCause};
+ghost use Rattle.rb_journal.specs.Host.{DiskCause, MayBeCut, OutputCause};
+ghost use Rattle.rb_journal.specs.Lines.{recovered};
 
 use std::alloc::{AllocError, AllocFailed};
 
@@ -46,6 +47,9 @@ pub trait Host {
     /// The bytes that were put out.
     ghost output: { Self → List ℕ };
 
+    /// The bytes that were cut off the file and are kept beside it, all of them on the disk.
+    ghost kept: { Self → List ℕ };
+
     /// What file a crash at this moment may leave.
     ghost may_leave: { Self → List ℕ → Type 0 };
 
@@ -68,17 +72,34 @@ pub trait Host {
         ensures written { OnOk result (IsWritten (content self.old) at bytes.now (content self.new)) }
         ensures crash { StepsFrom (Torn at bytes.now) (may_leave self.old) (may_leave self.new) }
         ensures output { output self.new ≡ output self.old }
+        ensures kept { kept self.new ≡ kept self.old }
         ensures time { Elapses (moment self.old) (moment self.new) (left_since self.old) (left_since self.new)
             (Silent (may_leave self.new) (output self.old)) }
         ensures cause { DiskCause (faults self.old) (faults self.new) result };
 
-    /// Cuts the file to a length.
+    /// Cuts the file to a length. What is cut off is kept before, unless it is a bare gate.
     fn cut(&mut self, len: usize) -> Result<(), HostError>
         requires usable { is_usable self.old }
         requires place { len ≤ length (content self.old) }
+        requires kept { MayBeCut (drop len (content self.old)) (kept self.old) }
         ensures usable { OnOk result (is_usable self.new) }
         ensures cut { OnOk result (content self.new ≡ take len (content self.old)) }
         ensures crash { StepsFrom (Cut len) (may_leave self.old) (may_leave self.new) }
+        ensures output { output self.new ≡ output self.old }
+        ensures kept { kept self.new ≡ kept self.old }
+        ensures time { Elapses (moment self.old) (moment self.new) (left_since self.old) (left_since self.new)
+            (Silent (may_leave self.new) (output self.old)) }
+        ensures cause { DiskCause (faults self.old) (faults self.new) result };
+
+    /// Keeps bytes that are to be cut off, behind this number of whole lines: they are added to the end of a file
+    /// beside this one, and are on the disk after it.
+    fn keep(&mut self, lines: u64, bytes: &[u8]) -> Result<(), HostError>
+        requires usable { is_usable self.old }
+        requires lines { lines ≡ length (recovered (content self.old)) }
+        ensures usable { OnOk result (is_usable self.new) }
+        ensures kept { OnOk result (kept self.new ≡ kept self.old ++ bytes.now) }
+        ensures content { content self.new ≡ content self.old }
+        ensures crash { (c : List ℕ) → may_leave self.new c → may_leave self.old c }
         ensures output { output self.new ≡ output self.old }
         ensures time { Elapses (moment self.old) (moment self.new) (left_since self.old) (left_since self.new)
             (Silent (may_leave self.new) (output self.old)) }
@@ -92,6 +113,7 @@ pub trait Host {
         ensures content { content self.new ≡ content self.old }
         ensures crash { (c : List ℕ) → may_leave self.new c → may_leave self.old c }
         ensures output { output self.new ≡ output self.old }
+        ensures kept { kept self.new ≡ kept self.old }
         ensures time { Elapses (moment self.old) (moment self.new) (left_since self.old) (left_since self.new)
             (Silent (may_leave self.new) (output self.old)) }
         ensures cause { DiskCause (faults self.old) (faults self.new) result };
@@ -105,6 +127,7 @@ pub trait Host {
         ensures count { IfOk result (λ n. (0 < n) × (n ≤ length bytes.now)) }
         ensures output { IfOk result (λ n. output self.new ≡ output self.old ++ take n bytes.now) }
         ensures output_some { AddsPrefix (output self.old) bytes.now (output self.new) }
+        ensures kept { kept self.new ≡ kept self.old }
         ensures content { content self.new ≡ content self.old }
         ensures crash { (c : List ℕ) → may_leave self.new c → may_leave self.old c }
         ensures time { Elapses (moment self.old) (moment self.new) (left_since self.old) (left_since self.new)

@@ -4,8 +4,9 @@
 ghost use Rattle.std.specs.Prelude.{◌≡◌, ◌⊎◌, ◌+◌, ◌<◌, ◌≤◌, ◌^◌, ◌++◌, [], ◌∷◌, List, ℕ, length, take, IfOk, IfErr};
 ghost use Rattle.std.specs.Prelude.{◌↔◌, OnOk, IsErrOf, IsTrue, MatchOption, ◌==◌, position};
 ghost use Rattle.std.specs.List.{concat};
-ghost use Rattle.rb_journal.specs.Host.{Only, Outputs, LeavesOnly};
+ghost use Rattle.rb_journal.specs.Host.{DiskCause, Elapses, LeavesOnly, MayBeCut, Only, Outputs, Silent};
 ghost use Rattle.rb_journal.specs.Lines.{recovered, at_rest, IsBatch, IsDamaged, IsIntact, MayBeBehind};
+ghost use Rattle.rb_journal.specs.Lines.{is_bare_gate, to_keep, what_is_cut};
 ghost use Rattle.rb_journal.specs.Journal.{IsSettled, IsLeftAs, IsBeforeOrAfter, IsDurable, IsAppended, HasClosedGate};
 ghost use Rattle.rb_journal.specs.Journal.{IsRepaired};
 
@@ -38,6 +39,9 @@ impl<H: Host> Journal<H> {
         ensures settled { IfOk result (λ journal. IsSettled H.is_usable H.content H.may_leave journal) }
         ensures lines { IfOk result (λ journal. recovered (H.content journal.host) ≡ recovered bytes.now) }
         ensures output { IfOk result (λ journal. H.output journal.host ≡ H.output host) }
+
+        // What is cut off is kept before, unless it is a bare gate.
+        ensures kept { IfOk result (λ journal. H.kept journal.host ≡ H.kept host ++ what_is_cut bytes.now) }
 
         // A crash at any moment leaves the same lines.
         ensures any_moment { IfOk result (λ journal. LeavesOnly H.moment H.left_since host journal.host
@@ -181,9 +185,40 @@ fn put_out_all<H: Host>(host: &mut H, bytes: &[u8]) -> Result<(), HostError>
     Ok(())
 }
 
+// Whether these bytes are nothing but a gate, or a NUL in its place.
+fn is_bare_gate(rest: &[u8]) -> bool
+    ensures { result ≡ is_bare_gate rest.now }
+{
+    match rest {
+        [] => true,
+        [b] => *b == b' ' || *b == 0,
+        _ => false,
+    }
+}
+
+// Keeps what is to be cut off behind this number of lines, unless it is a bare gate.
+fn keep_rest<H: Host>(host: &mut H, lines: u64, rest: &[u8]) -> Result<(), HostError>
+    requires usable { H.is_usable host.old }
+    requires lines { lines ≡ length (recovered (H.content host.old)) }
+    ensures usable { OnOk result (H.is_usable host.new) }
+    ensures kept { OnOk result (H.kept host.new ≡ H.kept host.old ++ to_keep rest.now) }
+    ensures cut { OnOk result (MayBeCut rest.now (H.kept host.new)) }
+    ensures content { H.content host.new ≡ H.content host.old }
+    ensures crash { (c : List ℕ) → H.may_leave host.new c → H.may_leave host.old c }
+    ensures output { H.output host.new ≡ H.output host.old }
+    ensures time { Elapses (H.moment host.old) (H.moment host.new) (H.left_since host.old) (H.left_since host.new)
+        (Silent (H.may_leave host.new) (H.output host.old)) }
+    ensures cause { DiskCause (H.faults host.old) (H.faults host.new) result }
+{
+    if is_bare_gate(rest) {
+        return Ok(());
+    }
+    host.keep(lines, rest)
+}
+
 /// Repairs the end of a file that a crash may have left, whose bytes these are, and answers where its lines end,
-/// in bytes. It may crash too. `damaged_line` finds a file that no crash left, before it. An `Err` means out of memory,
-/// or that the file failed.
+/// in bytes. What it cuts off is kept, unless it is a bare gate. It may crash too. `damaged_line` finds a file that no
+/// crash left, before it. An `Err` means out of memory, or that the file failed.
 pub fn recover<H: Host>(host: &mut H, bytes: &[u8]) -> Result<usize, HostError>
     requires usable { H.is_usable host.old }
     requires bytes { bytes.now ≡ H.content host.old }
@@ -195,6 +230,7 @@ pub fn recover<H: Host>(host: &mut H, bytes: &[u8]) -> Result<usize, HostError>
     ensures same { OnOk result (recovered (H.content host.new) ≡ recovered bytes.now) }
     ensures durable { OnOk result (Only (H.content host.new) (H.may_leave host.new)) }
     ensures output { H.output host.new ≡ H.output host.old }
+    ensures kept { OnOk result (H.kept host.new ≡ H.kept host.old ++ what_is_cut bytes.now) }
 
     // A crash at any moment leaves the same lines.
     ensures any_moment { LeavesOnly H.moment H.left_since host.old host.new
@@ -209,7 +245,8 @@ pub fn recover<H: Host>(host: &mut H, bytes: &[u8]) -> Result<usize, HostError>
     ensures no_output_fault { IsErrOf result HostError.OutputFailed → ⊥ }
     ensures full { IsErrOf result HostError.Full → ⊥ }
 {
-    let end = end_of_lines(bytes);
+    let (lines, end) = count_lines(bytes);
+    keep_rest(host, lines, &bytes[end..])?;
     host.cut(end)?;
     // The cut has to be on the disk first: behind a gate that is torn open, what was there would count.
     host.sync()?;

@@ -1,7 +1,7 @@
 //! A file in memory, and an output into memory.
 ghost use Rattle.std.specs.Prelude.{◌≡◌, ◌≤◌, length, IfOk};
 ghost use Rattle.rb_journal.specs.Host.{IsWritten};
-ghost use Rattle.rb_journal.specs.Calls.{content_of, output_of, leaves, left_since, faults_of};
+ghost use Rattle.rb_journal.specs.Calls.{content_of, output_of, kept_of, leaves, left_since, faults_of};
 ghost use Rattle.rb_journal.specs.CallLaws.{now_counts, now_alone};
 
 use crate::call_log::CallLog;
@@ -14,9 +14,11 @@ pub struct Memory {
     alloc: Global,
     bytes: Vec<u8>,
     output: Vec<u8>,
+    kept: Vec<u8>,
     log: CallLog,
     ghost agrees: { content_of log.events ≡ bytes.items },
     ghost output_all: { output_of log.events ≡ output.items },
+    ghost kept_all: { kept_of log.events ≡ kept.items },
 }
 
 impl Memory {
@@ -30,12 +32,14 @@ impl Memory {
         ensures content { content_of (memory_log result) ≡ bytes.items }
         ensures durable { Only bytes.items (leaves (memory_log result)) }
         ensures output { output_of (memory_log result) ≡ [] }
+        ensures kept { kept_of (memory_log result) ≡ [] }
     {
         let log = calls::found(&bytes);
         Memory {
             alloc,
             bytes,
             output: Vec::new(alloc),
+            kept: Vec::new(alloc),
             log,
         }
     }
@@ -52,6 +56,13 @@ impl Memory {
         ensures { result.now ≡ output_of (memory_log self.now) }
     {
         &self.output
+    }
+
+    /// The bytes that were cut off and are kept.
+    pub fn kept(&self) -> &[u8]
+        ensures { result.now ≡ kept_of (memory_log self.now) }
+    {
+        &self.kept
     }
 }
 
@@ -75,6 +86,8 @@ impl Host for Memory {
 
     ghost output = { λ h. output_of h.log.events };
 
+    ghost kept = { λ h. kept_of h.log.events };
+
     ghost may_leave = { λ h. leaves h.log.events };
 
     ghost moment = { λ h. length h.log.events };
@@ -95,6 +108,11 @@ impl Host for Memory {
     fn cut(&mut self, len: usize) -> Result<(), HostError> {
         self.bytes.truncate(len);
         calls::cut(&mut self.log, len, true)
+    }
+
+    fn keep(&mut self, _lines: u64, bytes: &[u8]) -> Result<(), HostError> {
+        self.kept.extend_from_slice(bytes)?;
+        calls::kept(&mut self.log, bytes, true)
     }
 
     fn sync(&mut self) -> Result<(), HostError> {

@@ -1,8 +1,8 @@
 //! Calls of the system on the file under a journal, beside its reads, writes and syncs.
 use std::fs::{Metadata, OpenOptions};
-use std::io::Read;
+use std::io::{Read, Write};
 use std::os::fd::AsRawFd;
-use std::os::unix::fs::{FileExt, MetadataExt};
+use std::os::unix::fs::{FileExt, MetadataExt, OpenOptionsExt, PermissionsExt};
 use std::rt::Files;
 use std::{fs, io};
 
@@ -83,6 +83,27 @@ pub fn sync_folder<R: Files<File = fs::File> + AllocGlobal>(rt: &R, path: &str) 
         None => fs::File::open(rt, "/")?,
     };
     folder.sync_all()
+}
+
+/// The bits of a file's mode that say who may read, write and run it.
+const PERMISSIONS: u32 = 0o777;
+
+/// Adds bytes to the end of the file of this name and `.cut`, and waits until they are on the disk, and the name too.
+/// It is made if it isn't there, with no more permissions than this file has.
+pub fn keep_beside<R: Files<File = fs::File> + AllocGlobal>(
+    rt: &R,
+    path: &str,
+    file: &fs::File,
+    bytes: &[u8],
+) -> io::Result<()> {
+    let beside = format!(in rt.alloc(); "{path}.cut")?;
+    let mut how = OpenOptions::new();
+    how.append(true).create(true);
+    how.mode(file.metadata()?.permissions().mode() & PERMISSIONS);
+    let mut kept = open_above(rt, &how, beside.as_str())?;
+    kept.write_all(bytes)?;
+    kept.sync_all()?;
+    sync_folder(rt, beside.as_str())
 }
 
 /// Locks a file against other processes, and reads its bytes. It is refused if it is open at the output, which has this

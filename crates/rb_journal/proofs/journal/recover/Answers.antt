@@ -9,7 +9,7 @@ use Rattle.rb_journal.proofs.Ends.{written_at_end}
 use Rattle.rb_journal.proofs.Crash.{cut_done, fits, torn_end, repaired_is, recovered-at_rest}
 use Rattle.rb_journal.proofs.Intact.{repaired_intact}
 use Rattle.rb_journal.proofs.journal.recover.Given.{Over}
-use Rattle.rb_journal.proofs.journal.recover.Goals.{After-cut, After-sync, In_ok-cut, After-write_at, After-sync-2}
+use Rattle.rb_journal.proofs.journal.recover.Goals.{After-keep_rest, After-cut, After-sync, In_ok-cut, After-write_at, After-sync-2}
 use Rattle.rb_journal.proofs.journal.recover.Goals as goal
 
 -- a file of which nothing is cut yet
@@ -23,16 +23,26 @@ untouched file c same = inl (record {
 sound : (file c : List ℕ) → IsRepaired file c → IsRepaired file c × (IsIntact file → IsIntact c)
 sound file c at = (at, λ intact. repaired_intact file c intact at)
 
--- what a crash leaves is a repaired file
+-- what a crash leaves is a repaired file, while what is to be cut off is kept
+rest_kept : (g : Over) (c : goal.After-keep_rest g) → Keeps g.H.Host.moment g.H.Host.left_since g.H.Host.may_leave g.H.Host.output
+    (IsRepaired c.args.bytes.now) c.args.host.now c.keep_rest.new.host
+rest_kept g c =
+    let bytes = c.args.bytes.now in
+    let was : (f : List ℕ) → g.H.Host.may_leave c.args.host.now f → f ≡ bytes = λ f now. c.requires.durable f now ∙ sym c.requires.bytes in
+    first_call (g.met.H.Host.only_now c.args.host.now) (λ f now. untouched bytes f (was f now)) c.keep_rest.ensures.time
+    c.keep_rest.ensures.output (λ f now. untouched bytes f (was f (c.keep_rest.ensures.crash f now)))
+
+-- so does the cut
 cut : (g : Over) (c : goal.After-cut g) → Keeps g.H.Host.moment g.H.Host.left_since g.H.Host.may_leave g.H.Host.output
     (IsRepaired c.args.bytes.now) c.args.host.now c.cut.new.self
 cut g c =
     let bytes = c.args.bytes.now in
     let was : (f : List ℕ) → g.H.Host.may_leave c.args.host.now f → f ≡ bytes = λ f now. c.requires.durable f now ∙ sym c.requires.bytes in
-    first_call (g.met.H.Host.only_now c.args.host.now) (λ f now. untouched bytes f (was f now)) c.cut.ensures.time c.cut.ensures.output
+    let kept = rest_kept g (goal.at.After-cut g c).After-keep_rest in
+    called kept.run kept.same c.cut.ensures.time c.cut.ensures.output
     (λ f now. let from = c.cut.ensures.crash f now in
-    inl (subst (λ (n : ℕ). Cut n bytes f) c.end_of_lines-end.ensures.length
-    (subst (λ (d : List ℕ). Cut c.end_of_lines-end.result d f) (was from.0 from.1) from.2)))
+    inl (subst (λ (n : ℕ). Cut n bytes f) c.count_lines-lines.ensures.length
+    (subst (λ (d : List ℕ). Cut c.count_lines-lines.result.1 d f) (was from.0 (c.keep_rest.ensures.crash from.0 from.1)) from.2)))
 
 -- so does the sync of the cut
 cut_synced : (g : Over) (c : goal.After-sync g) → Keeps g.H.Host.moment g.H.Host.left_since g.H.Host.may_leave g.H.Host.output
@@ -42,8 +52,8 @@ cut_synced g c = synced (cut g (goal.at.After-sync g c).After-cut) c.sync.ensure
 -- after the cut the file is the lines alone
 is_cut : (g : Over) (c : goal.In_ok-cut g) → g.H.Host.content c.cut.new.self ≡ concat (recovered c.args.bytes.now)
 is_cut g c =
-    c.in_ok-cut.ensures.cut ∙ ap (λ (f : List ℕ). take c.end_of_lines-end.result f) (sym c.requires.bytes)
-    ∙ ap (λ (n : ℕ). take n c.args.bytes.now) c.end_of_lines-end.ensures.length ∙ cut_done c.args.bytes.now
+    c.in_ok-cut.ensures.cut ∙ ap (λ (f : List ℕ). take c.count_lines-lines.result.1 f) (c.keep_rest.ensures.content ∙ sym c.requires.bytes)
+    ∙ ap (λ (n : ℕ). take n c.args.bytes.now) c.count_lines-lines.ensures.length ∙ cut_done c.args.bytes.now
 
 -- so does the write of the gate
 gate_written : (g : Over) (c : goal.After-write_at g) → Keeps g.H.Host.moment g.H.Host.left_since g.H.Host.may_leave g.H.Host.output
@@ -54,8 +64,8 @@ gate_written g c =
     let kept = cut_synced g at.After-sync in
     called kept.run kept.same c.write_at.ensures.time c.write_at.ensures.output
     (λ f now. let from = c.write_at.ensures.crash f now in
-    torn_end bytes f (subst (λ (n : ℕ). Torn n (32 ∷ []) (concat (recovered bytes)) f) c.end_of_lines-end.ensures.length
-    (subst (λ (d : List ℕ). Torn c.end_of_lines-end.result (32 ∷ []) d f)
+    torn_end bytes f (subst (λ (n : ℕ). Torn n (32 ∷ []) (concat (recovered bytes)) f) c.count_lines-lines.ensures.length
+    (subst (λ (d : List ℕ). Torn c.count_lines-lines.result.1 (32 ∷ []) d f)
     (c.in_ok-sync.ensures.durable from.0 from.1 ∙ is_cut g at.In_ok-cut) from.2)))
 
 -- so does the sync of the gate
@@ -94,10 +104,25 @@ returns-clause-any_moment g c = read_as (gate_synced g (goal.at.returns-clause-a
 pub returns-clause-repaired : goal.returns-clause-repaired
 returns-clause-repaired g c = left_as (gate_synced g (goal.at.returns-clause-repaired g c).After-sync-2) (sound c.args.bytes.now)
 
+pub returns-clause-at_rest : goal.returns-clause-at_rest
+returns-clause-at_rest g c =
+    let is_kept = c.sync.ensures.content ∙ is_cut g (goal.at.returns-clause-at_rest g c).In_ok-cut in
+    let is_written = written_at_end _ _ _ _ (c.count_lines-lines.ensures.length ∙ sym (ap length is_kept))
+    c.in_ok-write_at.ensures.written in
+    c.sync-2.ensures.content ∙ is_written ∙ ap (λ (l : List ℕ). l ++ 32 ∷ []) is_kept
+
 pub returns-clause-same : goal.returns-clause-same
 returns-clause-same g c =
     let bytes = c.args.bytes.now in
     let is_kept = c.sync.ensures.content ∙ is_cut g (goal.at.returns-clause-same g c).In_ok-cut in
-    let is_written = written_at_end _ _ _ _ (c.end_of_lines-end.ensures.length ∙ sym (ap length is_kept))
+    let is_written = written_at_end _ _ _ _ (c.count_lines-lines.ensures.length ∙ sym (ap length is_kept))
     c.in_ok-write_at.ensures.written in
     ap recovered (c.sync-2.ensures.content ∙ is_written ∙ ap (λ (l : List ℕ). l ++ 32 ∷ []) is_kept) ∙ recovered-at_rest bytes
+
+pub returns-in_err-keep_rest-clause-any_moment : goal.returns-in_err-keep_rest-clause-any_moment
+returns-in_err-keep_rest-clause-any_moment g c =
+    read_as (rest_kept g (goal.at.returns-in_err-keep_rest-clause-any_moment g c).After-keep_rest) (repaired_is c.args.bytes.now)
+
+pub returns-in_err-keep_rest-clause-repaired : goal.returns-in_err-keep_rest-clause-repaired
+returns-in_err-keep_rest-clause-repaired g c =
+    left_as (rest_kept g (goal.at.returns-in_err-keep_rest-clause-repaired g c).After-keep_rest) (sound c.args.bytes.now)
