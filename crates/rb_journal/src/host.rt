@@ -77,7 +77,7 @@ pub trait Host {
             (Silent (may_leave self.new) (output self.old)) }
         ensures cause { DiskCause (faults self.old) (faults self.new) result };
 
-    /// Cuts the file to a length. What is cut off is kept before, unless it is a bare gate.
+    /// Cuts the file to a length. Bytes that are cut off are kept before, unless they are a bare gate.
     fn cut(&mut self, len: usize) -> Result<(), HostError>
         requires usable { is_usable self.old }
         requires place { len ≤ length (content self.old) }

@@ -40,7 +40,7 @@ impl<H: Host> Journal<H> {
         ensures lines { IfOk result (λ journal. recovered (H.content journal.host) ≡ recovered bytes.now) }
         ensures output { IfOk result (λ journal. H.output journal.host ≡ H.output host) }
 
-        // What is cut off is kept before, unless it is a bare gate.
+        // The bytes that are cut off are kept before, unless they are a bare gate.
         ensures kept { IfOk result (λ journal. H.kept journal.host ≡ H.kept host ++ what_is_cut bytes.now) }
 
         // A crash at any moment leaves the same lines.
@@ -217,8 +217,8 @@ fn keep_rest<H: Host>(host: &mut H, lines: u64, rest: &[u8]) -> Result<(), HostE
 }
 
 /// Repairs the end of a file that a crash may have left, whose bytes these are, and answers where its lines end,
-/// in bytes. What it cuts off is kept, unless it is a bare gate. It may crash too. `damaged_line` finds a file that no
-/// crash left, before it. An `Err` means out of memory, or that the file failed.
+/// in bytes. It keeps the bytes that it cuts off, unless they are a bare gate. It may crash too. `damaged_line` finds a
+/// file that no crash left, before it. An `Err` means out of memory, or that the file failed.
 pub fn recover<H: Host>(host: &mut H, bytes: &[u8]) -> Result<usize, HostError>
     requires usable { H.is_usable host.old }
     requires bytes { bytes.now ≡ H.content host.old }

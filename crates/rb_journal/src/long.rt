@@ -20,8 +20,8 @@ use crate::responder::JournaledResponder;
 use crate::work::Work;
 use rb_lines::{Buffers, Source};
 
-/// Drops the line at the front, with its line feed, if it has one. What waits of it is dropped before each read, so no
-/// more than one read waits besides.
+/// Drops the line at the front, with its line feed, if it has one. Its bytes that wait are dropped before each read, so
+/// no more than one read waits besides.
 fn drop_line<S: Source>(buffers: &mut Buffers, reader: &mut S) -> Result<(), ServeFault>
     requires counted { Counts (S.calls reader.old) buffers.old.reads }
     requires end { buffers.old.ended ≡ true → IsAtEnd (S.remaining reader.old) }

@@ -89,7 +89,7 @@ pub fn sync_folder<R: Files<File = fs::File> + AllocGlobal>(rt: &R, path: &str) 
 const PERMISSIONS: u32 = 0o777;
 
 /// Adds bytes to the end of the file of this name and `.cut`, and waits until they are on the disk, and the name too.
-/// It is made if it isn't there, with no more permissions than this file has.
+/// It is made if it isn't there, with no more permissions than those of this file.
 pub fn keep_beside<R: Files<File = fs::File> + AllocGlobal>(
     rt: &R,
     path: &str,
