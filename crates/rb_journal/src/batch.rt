@@ -2,6 +2,7 @@
 ghost use Rattle.std.specs.Prelude.{◌≡◌, ◌↔◌, ◌++◌, [], ◌∷◌, IsTrue, OnOk, OnErr};
 ghost use Rattle.rb_journal.specs.Lines.{recovered, IsBatch, IsLine};
 
+use crate::spare::take_out_all;
 use std::alloc::{AllocError, Global};
 
 const LF: u8 = b'\n';
@@ -47,11 +48,11 @@ impl LineBatch {
         Ok(())
     }
 
-    /// Takes all lines out, and keeps the spare capacity.
+    /// Takes all lines out. It keeps the spare capacity, unless that is large.
     pub fn clear(&mut self)
         ensures { self.new.bytes.items ≡ [] }
     {
-        self.bytes.clear();
+        take_out_all(&mut self.bytes);
     }
 }
 

@@ -16,6 +16,7 @@ use crate::fault::ServeFault;
 use crate::host::Host;
 use crate::journal::Journal;
 use crate::responder::JournaledResponder;
+use crate::spare::take_out_all;
 use crate::waiting::{Waiting, answer_waiting};
 use crate::work::Work;
 use rb_lines::Buffers;
@@ -70,6 +71,6 @@ pub fn answer_group<R: JournaledResponder, H: Host>(
     let answered = answer_waiting(responder, buffers, work);
     journal.commit_and_put_out(&work.batch.bytes, &buffers.buffered)?;
     work.batch.clear();
-    buffers.buffered.clear();
+    take_out_all(&mut buffers.buffered);
     Ok(answered?)
 }

@@ -25,6 +25,7 @@ mod open_error;
 mod read_on;
 mod responder;
 mod run;
+mod spare;
 mod waiting;
 mod work;
 

@@ -17,6 +17,7 @@ use crate::host::Host;
 use crate::journal::Journal;
 use crate::read_on::read_on;
 use crate::responder::JournaledResponder;
+use crate::spare::take_out_all;
 use crate::work::Work;
 use rb_lines::{Buffers, Source};
 
@@ -109,7 +110,7 @@ pub fn answer_long_line<R: JournaledResponder, H: Host, S: Source>(
     drop_line(buffers, reader)?;
     responder.answer_long(work.number, &mut buffers.buffered)?;
     journal.commit_and_put_out(&[], &buffers.buffered)?;
-    buffers.buffered.clear();
+    take_out_all(&mut buffers.buffered);
     work.number += 1;
     work.count += 1;
     Ok(())
