@@ -1,5 +1,6 @@
 //! A line that is too long: its bytes are dropped as they come, and it is answered by its number alone.
-ghost use Rattle.std.specs.Prelude.{◌≡◌, ◌+◌, ◌^◌, ◌<◌, ◌≤◌, ◌⊎◌, ◌++◌, List, ℕ, [], false, true, Err, length, OnOk};
+ghost use Rattle.std.specs.Prelude.{◌≡◌, ◌+◌, ◌^◌, ◌<◌, ◌≤◌, ◌⊎◌, ◌++◌, List, ℕ, Option, [], false, true, Err, length};
+ghost use Rattle.std.specs.Prelude.{OnOk};
 ghost use Rattle.std.specs.Io.KnownBytes.{Consumes, IsAtEnd};
 ghost use Rattle.rb_lines.specs.Buffers.{Counts, left};
 ghost use Rattle.rb_lines.specs.Lines.{line_len};
@@ -14,32 +15,43 @@ ghost use Rattle.rb_journal.specs.declared.fault.ServeFault.TheVariants.{Journal
 
 use crate::fault::ServeFault;
 use crate::host::Host;
+use crate::input::Input;
 use crate::journal::Journal;
 use crate::read_on::read_on;
 use crate::responder::JournaledResponder;
 use crate::spare::take_out_all;
 use crate::work::Work;
-use rb_lines::{Buffers, Source};
+use rb_lines::Buffers;
 
 /// Drops the line at the front, with its line feed, if it has one. Its bytes that wait are dropped before each read, so
 /// no more than one read waits besides.
-fn drop_line<S: Source>(buffers: &mut Buffers, reader: &mut S) -> Result<(), ServeFault>
-    requires counted { Counts (S.calls reader.old) buffers.old.reads }
-    requires end { buffers.old.ended ≡ true → IsAtEnd (S.remaining reader.old) }
+fn drop_line<I: Input, H: Host>(
+    buffers: &mut Buffers,
+    reader: &mut I,
+    host: &H,
+) -> Result<(), ServeFault>
+    requires counted { Counts (I.calls reader.old) buffers.old.reads }
+    requires end { buffers.old.ended ≡ true → IsAtEnd (I.remaining reader.old) }
     requires nothing_buffered { buffers.old.buffered.items ≡ [] }
-    ensures dropped { OnOk result (DropsLine buffers.old buffers.new (S.remaining reader.old)
-        (S.remaining reader.new)) }
+    // It may read while what came is the front of that one line.
+    requires order { (more : List ℕ) (left : Option (List ℕ)) → Consumes (I.remaining reader.old) left more
+        → buffers.old.ended ≡ false → line_len (buffers.old.pending ++ more) ≡ length (buffers.old.pending ++ more)
+        → I.may_read reader.old left (H.output host.now) }
+    ensures dropped { OnOk result (DropsLine buffers.old buffers.new (I.remaining reader.old)
+        (I.remaining reader.new)) }
     ensures stopped { result ≡ Err Read
-        → ReadsOn buffers.old buffers.new (S.remaining reader.old) (S.remaining reader.new)
-        × ((S.failed reader.new ≡ true) ⊎ (S.calls reader.new ≡ MOST_READS)) }
+        → ReadsOn buffers.old buffers.new (I.remaining reader.old) (I.remaining reader.new)
+        × ((I.failed reader.new ≡ true) ⊎ (I.calls reader.new ≡ MOST_READS)) }
+    ensures order { (left : Option (List ℕ)) (said : List ℕ) → I.may_read reader.old left said
+        → I.may_read reader.new left said }
     ensures not_write { result ≡ Err Write → ⊥ }
     ensures not_journal { result ≡ Err JournalFailed → ⊥ }
-    ensures counted { Counts (S.calls reader.new) buffers.new.reads }
+    ensures counted { Counts (I.calls reader.new) buffers.new.reads }
     ensures fewer { OnOk result (buffers.new.reads ≤ buffers.old.reads) }
     ensures left { OnOk result (left buffers.new + line_len buffers.old.pending ≤ left buffers.old) }
     ensures buffered { buffers.new.buffered.items ≡ [] }
     ensures was_going { buffers.new.ended ≡ false → buffers.old.ended ≡ false }
-    ensures end { OnOk result (buffers.new.ended ≡ true → IsAtEnd (S.remaining reader.new)) }
+    ensures end { OnOk result (buffers.new.ended ≡ true → IsAtEnd (I.remaining reader.new)) }
 {
     'reads: loop {
         let n = buffers.pending.first_line();
@@ -48,66 +60,71 @@ fn drop_line<S: Source>(buffers: &mut Buffers, reader: &mut S) -> Result<(), Ser
         if whole || buffers.ended {
             return Ok(());
         }
-        read_on(buffers, reader)?;
+        read_on(buffers, reader, host)?;
     }
 }
 
 /// Drops the line at the front, which is too long, and of which more may have to be read; and then puts out its answer.
 /// Nothing is put out before the line has ended.
-pub fn answer_long_line<R: JournaledResponder, H: Host, S: Source>(
+pub fn answer_long_line<R: JournaledResponder, H: Host, I: Input>(
     responder: &mut R,
     journal: &mut Journal<H>,
     buffers: &mut Buffers,
     work: &mut Work,
-    reader: &mut S,
+    reader: &mut I,
 ) -> Result<(), ServeFault>
     requires settled { IsSettled H.is_usable H.content H.may_leave journal.old }
     requires same { R.lines (R.state responder.old) ≡ recovered (H.content journal.old.host) }
     requires batch { work.old.batch.bytes.items ≡ [] }
     requires buffered { buffers.old.buffered.items ≡ [] }
-    requires counted { Counts (S.calls reader.old) buffers.old.reads }
-    requires end { buffers.old.ended ≡ true → IsAtEnd (S.remaining reader.old) }
+    requires counted { Counts (I.calls reader.old) buffers.old.reads }
+    requires end { buffers.old.ended ≡ true → IsAtEnd (I.remaining reader.old) }
     requires long { LINE_LIMIT < line_len buffers.old.pending }
+    requires order { (more : List ℕ) (left : Option (List ℕ)) → Consumes (I.remaining reader.old) left more
+        → buffers.old.ended ≡ false → line_len (buffers.old.pending ++ more) ≡ length (buffers.old.pending ++ more)
+        → I.may_read reader.old left (H.output journal.old.host) }
     requires number { work.old.number + 1 < 2 ^ 64 }
     requires count { work.old.count ≤ work.old.number }
 
     ensures settled { EndsAtRest result → IsSettled H.is_usable H.content H.may_leave journal.new }
     ensures same { EndsAtRest result → R.lines (R.state responder.new) ≡ recovered (H.content journal.new.host) }
     // What was read is behind what waited, and of both together the first line was answered.
-    ensures answered { OnOk result ((more : List ℕ) × Consumes (S.remaining reader.old) (S.remaining reader.new) more
+    ensures answered { OnOk result ((more : List ℕ) × Consumes (I.remaining reader.old) (I.remaining reader.new) more
         × Advances R.answers buffers.new.ended
         (point_of (R.state responder.old) (recovered (H.content journal.old.host)) (H.output journal.old.host) work.old
         (buffers.old.pending ++ more))
         (point_of (R.state responder.new) (recovered (H.content journal.new.host)) (H.output journal.new.host) work.new
         buffers.new.pending)) }
     ensures stopped { result ≡ Err Read
-        → ReadsOn buffers.old buffers.new (S.remaining reader.old) (S.remaining reader.new)
-        × ((S.failed reader.new ≡ true) ⊎ (S.calls reader.new ≡ MOST_READS))
+        → ReadsOn buffers.old buffers.new (I.remaining reader.old) (I.remaining reader.new)
+        × ((I.failed reader.new ≡ true) ⊎ (I.calls reader.new ≡ MOST_READS))
         × (R.state responder.new ≡ R.state responder.old) × (journal.new ≡ journal.old) }
 
     // A crash leaves a run over what waited and what was still to be read.
     ensures any_moment { LeavesOnly H.moment H.left_since journal.old.host journal.new.host
-        (IsRunOfBatches R.answers work.old.number (served_input buffers.old.pending (S.remaining reader.old))
+        (IsRunOfBatches R.answers work.old.number (served_input buffers.old.pending (I.remaining reader.old))
         (R.state responder.old) (recovered (H.content journal.old.host)) (H.output journal.old.host)) }
     ensures intact { LeavesOnly H.moment H.left_since journal.old.host journal.new.host (λ c _. IsIntact c) }
 
+    ensures order { (left : Option (List ℕ)) (said : List ℕ) → I.may_read reader.old left said
+        → I.may_read reader.new left said }
     ensures later { H.faults journal.old.host ≤ H.faults journal.new.host }
     ensures write { result ≡ Err Write → H.faults journal.old.host < H.faults journal.new.host }
     ensures journal { result ≡ Err JournalFailed → (H.faults journal.old.host < H.faults journal.new.host)
-        ⊎ IsFull R.answers work.old.number (served_input buffers.old.pending (S.remaining reader.old))
+        ⊎ IsFull R.answers work.old.number (served_input buffers.old.pending (I.remaining reader.old))
         (R.state responder.old) (recovered (H.content journal.old.host)) }
 
     ensures batch { work.new.batch.bytes.items ≡ [] }
     ensures buffered { OnOk result (buffers.new.buffered.items ≡ []) }
     ensures was_going { buffers.new.ended ≡ false → buffers.old.ended ≡ false }
-    ensures counted { Counts (S.calls reader.new) buffers.new.reads }
+    ensures counted { Counts (I.calls reader.new) buffers.new.reads }
     ensures fewer { OnOk result (buffers.new.reads ≤ buffers.old.reads) }
     ensures left { OnOk result (left buffers.new < left buffers.old) }
-    ensures end { OnOk result (buffers.new.ended ≡ true → IsAtEnd (S.remaining reader.new)) }
+    ensures end { OnOk result (buffers.new.ended ≡ true → IsAtEnd (I.remaining reader.new)) }
     ensures number { OnOk result (work.new.number ≡ work.old.number + 1) }
     ensures count { OnOk result (work.new.count ≤ work.new.number) }
 {
-    drop_line(buffers, reader)?;
+    drop_line(buffers, reader, &journal.host)?;
     responder.answer_long(work.number, &mut buffers.buffered)?;
     journal.commit_and_put_out(&[], &buffers.buffered)?;
     take_out_all(&mut buffers.buffered);

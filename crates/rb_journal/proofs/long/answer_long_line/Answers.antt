@@ -112,19 +112,19 @@ returns-clause-answered g c =
 moments : (g : Over) (c : After-commit_and_put_out g) → LeavesOnly g.H.Host.moment g.H.Host.left_since c.args.journal.now.host
     c.commit_and_put_out.new.self.host
     (IsRunOfBatches g.R.JournaledResponder.answers c.args.work.now.number
-    (served_input c.args.buffers.now.pending (g.S.Source.remaining c.args.reader.now))
+    (served_input c.args.buffers.now.pending (g.I.Input.remaining c.args.reader.now))
     (g.R.JournaledResponder.state c.args.responder.now)
     (recovered (g.H.Host.content c.args.journal.now.host)) (g.H.Host.output c.args.journal.now.host))
 unfolding all before after
 moments g c =
     let lines = recovered (g.H.Host.content c.args.journal.now.host) in
     let dropped = c.in_ok-drop_line.ensures.dropped in
-    let has = g.S.Source.remaining c.drop_line.new.reader in
+    let has = g.I.Input.remaining c.drop_line.new.reader in
     let s = step g c [] in
     weaker g.H.Host.moment g.H.Host.left_since _ _ _ _ c.commit_and_put_out.ensures.any_moment
     (λ f d kept. read_over g.R.JournaledResponder.answers c.args.work.now.number _ _ _ lines _ f d
     (λ ts are. served_before c.args.work.now.number ts c.args.buffers.now.pending dropped.more
-    (g.S.Source.remaining c.args.reader.now) has dropped.read are)
+    (g.I.Input.remaining c.args.reader.now) has dropped.read are)
     (durable_is_run g.R.JournaledResponder.answers c.drop_line.new.buffers.ended (before g c []) (after g c []) (rest_of has) [] _
     c.deref.result.now f d (s, alone s.turns (omega (arith, s.count_is))) (λ ended. no_rest has (c.in_ok-drop_line.ensures.end ended)) (sym (append-nil lines))
     refl (sym c.deref.ensures.value) kept))
@@ -140,7 +140,7 @@ returns-clause-any_moment g c = moments g (goal.at.returns-clause-any_moment g c
 at_start : (g : Over) (c : After-drop_line g) → LeavesOnly g.H.Host.moment g.H.Host.left_since c.args.journal.now.host
     c.args.journal.now.host
     (IsRunOfBatches g.R.JournaledResponder.answers c.args.work.now.number
-    (served_input c.args.buffers.now.pending (g.S.Source.remaining c.args.reader.now))
+    (served_input c.args.buffers.now.pending (g.I.Input.remaining c.args.reader.now))
     (g.R.JournaledResponder.state c.args.responder.now)
     (recovered (g.H.Host.content c.args.journal.now.host)) (g.H.Host.output c.args.journal.now.host))
 at_start g c =

@@ -8,17 +8,19 @@ use Rattle.rb_lines.specs.Lines.{line_len}
 use Rattle.rb_lines.specs.declared.limits.TheConstants.{READ_SIZE}
 use Rattle.rb_journal.specs.declared.fault.ServeFault.TheVariants.{Read}
 use Rattle.rb_journal.proofs.Dropping.{all_length, behind_all, dropped_more, no_shorter, none_dropped, stopped_in_line}
+use Rattle.rb_journal.proofs.Ending.{keeps_same}
 use Rattle.rb_journal.proofs.long.drop_line.Goals.{then-whole-via-then-whole, then-whole-via-else-whole+then-buffers}
 use Rattle.rb_journal.proofs.long.drop_line.Goals as goal
 
 pub reads-init : goal.reads-init
 reads-init g c =
-    let none = none_dropped c.args.buffers.now.pending (g.S.Source.remaining c.args.reader.now) in
+    let none = none_dropped c.args.buffers.now.pending (g.I.Input.remaining c.args.reader.now) in
     record {
       counted = c.requires.counted;
       buffered = c.requires.nothing_buffered;
       end = c.requires.end;
       begun = λ going. going;
+      order = λ left said may. may;
       fewer = omega arith;
       dropped = (none.0, omega (arith, none.1));
     }
@@ -27,8 +29,8 @@ pub returns-then-whole-clause-dropped : goal.returns-then-whole-clause-dropped
 returns-then-whole-clause-dropped g c =
     let old = c.args.buffers.now.pending in
     let p = c.reads.buffers.pending in
-    let had = g.S.Source.remaining c.args.reader.now in
-    let has = g.S.Source.remaining c.reads.reader in
+    let had = g.I.Input.remaining c.args.reader.now in
+    let has = g.I.Input.remaining c.reads.reader in
     let d = c.reads.invariant.dropped.0 in
     let lengths = all_length old p had has d in
     let n : c.first_line-n.result ≡ line_len p = c.first_line-n.ensures.length in
@@ -50,7 +52,7 @@ returns-then-whole-clause-left g c =
     let old = c.args.buffers.now.pending in
     let p = c.reads.buffers.pending in
     let d = c.reads.invariant.dropped.0 in
-    let lengths = all_length old p (g.S.Source.remaining c.args.reader.now) (g.S.Source.remaining c.reads.reader) d in
+    let lengths = all_length old p (g.I.Input.remaining c.args.reader.now) (g.I.Input.remaining c.reads.reader) d in
     let now : c.skip_line.new.self.pending ≡ drop (c.first_line-n.result + 1) p = search rules in
     let reads : c.skip_line.new.self.reads ≡ c.reads.buffers.reads = search rules in
     omega (
@@ -70,9 +72,9 @@ reads-preserved g c =
     let old = c.args.buffers.now.pending in
     let p = c.reads.buffers.pending in
     let inv = c.reads.invariant in
-    let had = g.S.Source.remaining c.args.reader.now in
-    let mid = g.S.Source.remaining c.reads.reader in
-    let has = g.S.Source.remaining c.read_on.new.reader in
+    let had = g.I.Input.remaining c.args.reader.now in
+    let mid = g.I.Input.remaining c.reads.reader in
+    let has = g.I.Input.remaining c.read_on.new.reader in
     let read = c.in_ok-read_on.ensures in
     let n : c.first_line-n.result ≡ line_len p = c.first_line-n.ensures.length in
     let len : length c.as_slice.result.now ≡ length p = ap length (c.as_slice.ensures ∙ c.first_line-n.ensures.same) in
@@ -87,6 +89,7 @@ reads-preserved g c =
       buffered = search rules;
       end = read.end;
       begun = λ _. inv.begun (search rules);
+      order = λ left said may. c.read_on.ensures.order left said (inv.order left said may);
       fewer = omega (arith, read.fewer, reads, inv.fewer);
       dropped = (more.0, omega (arith, more.1, read.left, ap length none, ap (λ k. READ_SIZE * k) reads, inv.dropped.1));
     }
@@ -96,9 +99,9 @@ returns-in_err-read_on-clause-stopped g c = λ is.
     let old = c.args.buffers.now.pending in
     let p = c.reads.buffers.pending in
     let inv = c.reads.invariant in
-    let had = g.S.Source.remaining c.args.reader.now in
-    let mid = g.S.Source.remaining c.reads.reader in
-    let has = g.S.Source.remaining c.read_on.new.reader in
+    let had = g.I.Input.remaining c.args.reader.now in
+    let mid = g.I.Input.remaining c.reads.reader in
+    let has = g.I.Input.remaining c.read_on.new.reader in
     let n : c.first_line-n.result ≡ line_len p = c.first_line-n.ensures.length in
     let len : length c.as_slice.result.now ≡ length p = ap length (c.as_slice.ensures ∙ c.first_line-n.ensures.same) in
     let all : line_len p ≡ length p = omega (arith, n, len, c.first_line-n.ensures.within, c.if-whole.false) in
@@ -107,3 +110,18 @@ returns-in_err-read_on-clause-stopped g c = λ is.
     let stop = c.in_err-read_on.ensures.stopped (ap Err same) in
     let line = stopped_in_line old p had mid has inv.dropped.0 all stop.2 in
     (record { more = inv.dropped.0.more; read = line.0; one = line.1; going = stop.1 }, stop.3)
+
+-- what came is the front of the line
+pub read_on-requires-clause-order : goal.read_on-requires-clause-order
+read_on-requires-clause-order g c =
+    let old = c.args.buffers.now.pending in
+    let p = c.reads.buffers.pending in
+    let inv = c.reads.invariant in
+    let had = g.I.Input.remaining c.args.reader.now in
+    let mid = g.I.Input.remaining c.reads.reader in
+    let said = g.H.Host.output c.args.host.now in
+    let n : c.first_line-n.result ≡ line_len p = c.first_line-n.ensures.length in
+    let len : length c.as_slice.result.now ≡ length p = ap length (c.as_slice.ensures ∙ c.first_line-n.ensures.same) in
+    let all : line_len p ≡ length p = omega (arith, n, len, c.first_line-n.ensures.within, c.if-whole.false) in
+    let line = stopped_in_line old p had mid mid inv.dropped.0 all (keeps_same mid) in
+    inv.order mid said (c.requires.order inv.dropped.0.more mid line.0 (inv.begun (search rules)) line.1)

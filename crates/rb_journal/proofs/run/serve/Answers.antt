@@ -30,7 +30,7 @@ batches-init g c =
     let host = g.H.Host in
     let answers = g.R.JournaledResponder.answers in
     let was = c.args.journal.now.host in
-    let rest = g.S.Source.remaining c.args.reader.now in
+    let rest = g.I.Input.remaining c.args.reader.now in
     let buffers = c.args.buffers.now in
     let begin = g.R.JournaledResponder.state c.args.responder.now in
     let lines = recovered (host.content was) in
@@ -48,6 +48,7 @@ batches-init g c =
       end = c.requires.end;
       number = omega (arith, c.new-work.ensures.number);
       count = omega (arith, c.new-work.ensures.count);
+      order = λ still said may. may;
       later = omega arith;
       follows = subst (λ n. Follows answers input begin lines output n at rest buffers.ended) c.new-work.ensures.number follows;
       any_moment = started host.moment host.left_since was (IsRunOfBatches answers c.args.number input begin lines output)
@@ -63,7 +64,7 @@ batches-init g c =
 -- at each moment of the calls so far, and of the batch that was answered now
 moments : (g : Over) (c : After-answer_group g) → LeavesOnly g.H.Host.moment g.H.Host.left_since c.args.journal.now.host
     c.answer_group.new.journal.host (IsRunOfBatches g.R.JournaledResponder.answers c.args.number
-    (served_input c.args.buffers.now.pending (g.S.Source.remaining c.args.reader.now))
+    (served_input c.args.buffers.now.pending (g.I.Input.remaining c.args.reader.now))
     (g.R.JournaledResponder.state c.args.responder.now) (recovered (g.H.Host.content c.args.journal.now.host))
     (g.H.Host.output c.args.journal.now.host))
 moments g c =
@@ -73,7 +74,7 @@ moments g c =
 -- and that leaves a run of turns
 turned : (g : Over) (c : After-answer_group g) → LeavesOnly g.H.Host.moment g.H.Host.left_since c.args.journal.now.host
     c.answer_group.new.journal.host (IsRunOfTurns g.R.JournaledResponder.answers c.args.number
-    (served_input c.args.buffers.now.pending (g.S.Source.remaining c.args.reader.now))
+    (served_input c.args.buffers.now.pending (g.I.Input.remaining c.args.reader.now))
     (g.R.JournaledResponder.state c.args.responder.now) (recovered (g.H.Host.content c.args.journal.now.host))
     (g.H.Host.output c.args.journal.now.host))
 turned g c =
@@ -81,17 +82,17 @@ turned g c =
 
 -- how far the run has come
 here : (g : Over) (c : In_ok-answer_group g) → Follows g.R.JournaledResponder.answers
-    (served_input c.args.buffers.now.pending (g.S.Source.remaining c.args.reader.now))
+    (served_input c.args.buffers.now.pending (g.I.Input.remaining c.args.reader.now))
     (g.R.JournaledResponder.state c.args.responder.now) (recovered (g.H.Host.content c.args.journal.now.host))
     (g.H.Host.output c.args.journal.now.host) c.args.number
     (point_of (g.R.JournaledResponder.state c.answer_group.new.responder) (recovered (g.H.Host.content c.answer_group.new.journal.host))
     (g.H.Host.output c.answer_group.new.journal.host) c.answer_group.new.work c.answer_group.new.buffers.pending)
-    (g.S.Source.remaining c.batches.reader) c.answer_group.new.buffers.ended
+    (g.I.Input.remaining c.batches.reader) c.answer_group.new.buffers.ended
 here g c =
     group_follows c.batches.invariant.follows c.batches.invariant.end c.in_ok-answer_group.ensures.answered c.answer_group.ensures.ended
 
 -- the input has ended only if all of it was read
-ended_here : (g : Over) (c : After-answer_group g) → c.answer_group.new.buffers.ended ≡ true → IsAtEnd (g.S.Source.remaining c.batches.reader)
+ended_here : (g : Over) (c : After-answer_group g) → c.answer_group.new.buffers.ended ≡ true → IsAtEnd (g.I.Input.remaining c.batches.reader)
 ended_here g c ended = c.batches.invariant.end (sym c.answer_group.ensures.ended ∙ ended)
 
 pub returns-in_err-answer_group-clause-any_moment : goal.returns-in_err-answer_group-clause-any_moment
@@ -141,8 +142,8 @@ returns-in_err-read_on-clause-text g c = λ at_rest.
     let failed = c.in_err-read_on.ensures.stopped (ap Err same) in
     let going : c.answer_group.new.buffers.ended ≡ false = c.if-buffers.false in
     let waits = rw c.in-Nothing.is at c.in_ok-answer_group.ensures.waiting in
-    let left = g.S.Source.remaining c.read_on.new.reader in
-    let input = served_input c.args.buffers.now.pending (g.S.Source.remaining c.args.reader.now) in (
+    let left = g.I.Input.remaining c.read_on.new.reader in
+    let input = served_input c.args.buffers.now.pending (g.I.Input.remaining c.args.reader.now) in (
       follows.turns,
       put_out _ _ _ _ _ _ _ _ _ follows,
       subst (λ r. EndsAs c.args.number follows.turns input left r) (sym (passed ∙ ap Err same))
@@ -160,10 +161,11 @@ batches-preserved-in-Line g c =
       same = group.same;
       batch = group.batch;
       buffered = group.buffered;
-      counted = subst (λ n. Counts (g.S.Source.calls c.batches.reader) n) (sym group.reads) inv.counted;
+      counted = subst (λ n. Counts (g.I.Input.calls c.batches.reader) n) (sym group.reads) inv.counted;
       end = ended_here g at.After-answer_group;
       number = omega (arith, group.number, inv.number, ap (λ k. READ_SIZE * k) group.reads);
       count = group.count;
+      order = inv.order;
       later = omega (arith, inv.later, group.later);
       follows = here g at.In_ok-answer_group;
       any_moment = moments g at.After-answer_group;
@@ -186,6 +188,7 @@ batches-preserved g c =
       end = read.end;
       number = omega (arith, read.left, group.number, inv.number, ap (λ k. READ_SIZE * k) group.reads);
       count = group.count;
+      order = λ still said may. c.read_on.ensures.order still said (inv.order still said may);
       later = omega (arith, inv.later, group.later);
       follows = follows_read _ _ _ _ _ _ _ _ _ _ _ _ (here g at.In_ok-answer_group) read.read (λ still. going) refl refl refl refl refl;
       any_moment = moments g at.After-answer_group;
@@ -196,7 +199,7 @@ batches-preserved g c =
 
 long_moments : (g : Over) (c : After-answer_long_line g) → LeavesOnly g.H.Host.moment g.H.Host.left_since c.args.journal.now.host
     c.answer_long_line.new.journal.host (IsRunOfBatches g.R.JournaledResponder.answers c.args.number
-    (served_input c.args.buffers.now.pending (g.S.Source.remaining c.args.reader.now))
+    (served_input c.args.buffers.now.pending (g.I.Input.remaining c.args.reader.now))
     (g.R.JournaledResponder.state c.args.responder.now) (recovered (g.H.Host.content c.args.journal.now.host))
     (g.H.Host.output c.args.journal.now.host))
 long_moments g c =
@@ -206,7 +209,7 @@ long_moments g c =
 
 long_turned : (g : Over) (c : After-answer_long_line g) → LeavesOnly g.H.Host.moment g.H.Host.left_since c.args.journal.now.host
     c.answer_long_line.new.journal.host (IsRunOfTurns g.R.JournaledResponder.answers c.args.number
-    (served_input c.args.buffers.now.pending (g.S.Source.remaining c.args.reader.now))
+    (served_input c.args.buffers.now.pending (g.I.Input.remaining c.args.reader.now))
     (g.R.JournaledResponder.state c.args.responder.now) (recovered (g.H.Host.content c.args.journal.now.host))
     (g.H.Host.output c.args.journal.now.host))
 long_turned g c =
@@ -242,8 +245,8 @@ returns-in_err-answer_long_line-in-Long-clause-text g c = λ at_rest.
     let stop = c.in_err-answer_long_line-in-Long.ensures.stopped (ap Err same) in
     let follows = read_follows (here g at.In_ok-answer_group) (ended_here g at.After-answer_group) stop.0.more _ _ stop.0.read
     c.answer_long_line.ensures.was_going in
-    let left = g.S.Source.remaining c.answer_long_line.new.reader in
-    let input = served_input c.args.buffers.now.pending (g.S.Source.remaining c.args.reader.now) in (
+    let left = g.I.Input.remaining c.answer_long_line.new.reader in
+    let input = served_input c.args.buffers.now.pending (g.I.Input.remaining c.args.reader.now) in (
       follows.turns,
       rw stop.3 (put_out _ _ _ _ _ _ _ _ _ follows),
       subst (λ r. EndsAs c.args.number follows.turns input left r) (sym (passed ∙ ap Err same))
@@ -268,8 +271,39 @@ batches-preserved-in-Long g c =
       end = long.end;
       number = omega (arith, long.left, long.number, group.number, inv.number, ap (λ k. READ_SIZE * k) group.reads);
       count = long.count;
+      order = λ still said may. c.answer_long_line.ensures.order still said (inv.order still said may);
       later = omega (arith, inv.later, group.later, long.later);
       follows = follows_steps _ _ _ _ _ _ _ _ _ _ follows steps long.end;
       any_moment = long_moments g at.After-answer_long_line;
       intact = then_intact (then_intact inv.intact c.answer_group.ensures.intact) c.answer_long_line.ensures.intact;
     }
+
+-- ---- when it reads
+
+-- all lines that have come whole are answered
+pub read_on-requires-clause-order : goal.read_on-requires-clause-order
+read_on-requires-clause-order g c =
+    let at = goal.at.read_on-requires-clause-order g c in
+    let follows = here g at.In_ok-answer_group in
+    let still = g.I.Input.remaining c.batches.reader in
+    let said = g.H.Host.output c.answer_group.new.journal.host in
+    let waits = rw c.in-Nothing.is at c.in_ok-answer_group.ensures.waiting in
+    c.batches.invariant.order still said (c.requires.order still said (record {
+      turns = follows.turns;
+      are = follows.are;
+      answered = ends_read _ _ _ _ _ _ _ still still _ follows c.if-buffers.false waits.0 (keeps_same still);
+      put_out = follows.output_is;
+    }))
+
+-- and so they are while the front of one line more has come
+pub answer_long_line-requires-clause-order : goal.answer_long_line-requires-clause-order
+answer_long_line-requires-clause-order g c = λ more still read going one.
+    let at = goal.at.answer_long_line-requires-clause-order g c in
+    let follows = read_follows (here g at.In_ok-answer_group) (ended_here g at.After-answer_group) more still false read (λ _. going) in
+    let said = g.H.Host.output c.answer_group.new.journal.host in
+    c.batches.invariant.order still said (c.requires.order still said (record {
+      turns = follows.turns;
+      are = follows.are;
+      answered = ends_read _ _ _ _ _ _ _ still still _ follows refl one (keeps_same still);
+      put_out = follows.output_is;
+    }))

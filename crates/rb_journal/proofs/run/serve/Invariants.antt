@@ -1,5 +1,5 @@
 -- Between two batches: all that was answered is committed and put out.
-use Rattle.std.proofs.Common.{◌≡◌, ◌≤◌, ◌+◌, [], true}
+use Rattle.std.proofs.Common.{◌≡◌, ◌≤◌, ◌+◌, [], true, ℕ, List, Option}
 use Rattle.std.specs.Io.KnownBytes.{IsAtEnd}
 use Rattle.rb_journal.specs.Host.{LeavesOnly}
 use Rattle.rb_journal.specs.Lines.{IsIntact, recovered}
@@ -14,7 +14,7 @@ abbrev pub invariant-batches : goal.invariant-batches
 invariant-batches g l =
     let host = g.H.Host in
     let answers = g.R.JournaledResponder.answers in
-    let input = served_input l.fn.buffers.pending (g.S.Source.remaining l.fn.reader) in
+    let input = served_input l.fn.buffers.pending (g.I.Input.remaining l.fn.reader) in
     let lines = recovered (host.content l.fn.journal.host) in
     let output = host.output l.fn.journal.host in
     let begin = g.R.JournaledResponder.state l.fn.responder in
@@ -23,15 +23,17 @@ invariant-batches g l =
       same : g.R.JournaledResponder.lines (g.R.JournaledResponder.state l.responder) ≡ recovered (host.content l.journal.host);
       batch : l.work.batch.bytes.items ≡ [];
       buffered : l.buffers.buffered.items ≡ [];
-      counted : Counts (g.S.Source.calls l.reader) l.buffers.reads;
-      end : l.buffers.ended ≡ true → IsAtEnd (g.S.Source.remaining l.reader);
+      counted : Counts (g.I.Input.calls l.reader) l.buffers.reads;
+      end : l.buffers.ended ≡ true → IsAtEnd (g.I.Input.remaining l.reader);
       number : l.work.number + left l.buffers ≤ l.fn.number + left l.fn.buffers;
       count : l.work.count ≤ l.work.number;
+      order : (still : Option (List ℕ)) (said : List ℕ) → g.I.Input.may_read l.fn.reader still said
+          → g.I.Input.may_read l.reader still said;
       later : host.faults l.fn.journal.host ≤ host.faults l.journal.host;
       follows : Follows answers input begin lines output l.fn.number
           (point_of (g.R.JournaledResponder.state l.responder) (recovered (host.content l.journal.host))
           (host.output l.journal.host) l.work l.buffers.pending)
-          (g.S.Source.remaining l.reader) l.buffers.ended;
+          (g.I.Input.remaining l.reader) l.buffers.ended;
       any_moment : LeavesOnly host.moment host.left_since l.fn.journal.host l.journal.host (IsRunOfBatches answers l.fn.number input begin lines output);
       intact : LeavesOnly host.moment host.left_since l.fn.journal.host l.journal.host (λ f d. IsIntact f);
     }
