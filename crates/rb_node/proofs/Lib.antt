@@ -1,8 +1,13 @@
+mod Again
+mod Answered
 mod Applied
+mod Ascending
 mod Failed
+mod Index
 mod JournalLines
 mod OneAnswer
 mod Ready
 mod Recorded
 mod Replayed
 mod Spelled
+mod QuestionTexts

@@ -1,6 +1,7 @@
 -- A site has one answer to a line.
-use Rattle.std.proofs.Common.{◌≡◌, ℕ, false, List, [], ◌∷◌, inl, inr, refl, sym, ap, subst, ◌∙◌}
-use Rattle.std.specs.Prelude.{map, Some}
+use Rattle.std.proofs.Common.{◌≡◌, ℕ, Bool, true, false, cond, List, [], ◌∷◌, inl, inr, refl, sym, ap, subst, ◌∙◌}
+use Rattle.std.specs.Prelude.{map, Some, None}
+use Rattle.std.specs.Str.{is_utf8}
 use Rattle.std.proofs.lemmas.List.{append_cancel_left}
 use Rattle.rb_money.specs.Settings.{Settings}
 use Rattle.rb_shadow.specs.Operations.{clock_of}
@@ -10,8 +11,14 @@ use Rattle.rb_site.specs.declared.event.Event.{Event}
 use Rattle.rb_site.specs.declared.event.Event.TheVariants.{Apply}
 use Rattle.rb_site.specs.Events.{ModelSite, after_event, after_events, is_full, replies_to_events, reply_to, sent_at}
 use Rattle.rb_site.specs.Seen.{SeenSite, next_sites, state_of}
-use Rattle.rb_node.specs.Answers.{AreReadyInTurn, IsAllApplied, IsNextName, answer_json, entry_lines, line_of}
+use Rattle.rb_history.specs.declared.question.Question.{Question}
+use Rattle.rb_history.specs.Entries.{event_of_line}
+use Rattle.rb_history.specs.Questions.{question_of_line}
+use Rattle.rb_history.proofs.Public.Questions.{question_no_event}
+use Rattle.rb_node.specs.Answers.{AreReadyInTurn, IsAllApplied, IsNextName, IsSiteAnswer, answer_json, entry_lines, event_on, line_of}
 use Rattle.rb_node.specs.Laws.{AnswersAreOne}
+use Rattle.rb_node.specs.LineAnswers.{question_on, question_text}
+use Rattle.rb_node.proofs.Replayed.{event_is}
 
 -- where all is applied, nothing is next
 no_more : (s : Settings) (t : ModelSite) (x : OpName) → is_full s t ≡ false → IsNextName t x → IsAllApplied s t → ⊥
@@ -31,9 +38,10 @@ same_names s t (x ∷ xs) (y ∷ ys) a b c d =
     let rest : xs ≡ ys = same_names s (after_event s t (Apply x)) xs ys a.2 (subst P (sym same) b.2) c (subst Q (sym same) d) in
     ap (λ n. n ∷ xs) same ∙ ap (λ ns. y ∷ ns) rest
 
--- two answers to a line are one
-pub one_answer : AnswersAreOne
-one_answer old new other line text words entries rows a b = (
+-- two answers to an event are one
+one_event : (old new other : SeenSite) (line text words entries rows : List ℕ) → IsSiteAnswer old new line text entries
+    → IsSiteAnswer old other line words rows → (text ≡ words) × (entries ≡ rows) × (new ≡ other)
+one_event old new other line text words entries rows a b = (
   a.text_is ∙ ap (λ e. text_of e a.applied) event ∙ ap (text_of b.event) names ∙ sym b.text_is,
   a.entries_are ∙ ap (entry_lines s old.me) recorded ∙ sym b.entries_are,
   site,
@@ -65,3 +73,35 @@ one_answer old new other line text words entries rows a b = (
     recorded : a.recorded ≡ b.recorded
     recorded = append_cancel_left old.entries a.recorded b.recorded
         (sym a.recorded_are ∙ ap (λ (y : SeenSite). y.entries) site ∙ b.recorded_are)
+
+-- ---- questions
+
+-- what is on a line, the line is
+question_is : (l : List ℕ) (q : Question) → question_on l ≡ Some q → question_of_line l ≡ Some q
+unfolding question_on
+question_is l q is = at (is_utf8 l) is
+  where
+    at : (b : Bool) → cond b (question_of_line l) None ≡ Some q → question_of_line l ≡ Some q
+    at true h = h
+    at false h = absurd (cc)
+
+-- a line isn't both a question and an event
+not_both : (s : Settings) (l : List ℕ) (e : Event) (q : Question) → event_on s l ≡ Some e → question_on l ≡ Some q → ⊥
+not_both s l e q event question =
+    let none : event_of_line s l ≡ None = question_no_event s l q (question_is l q question) in
+    let some : event_of_line s l ≡ Some e = event_is s l e event in
+    absurd (cc)
+
+-- two answers to a line are one
+pub one_answer : AnswersAreOne
+one_answer old new other line text words entries rows (inl a) (inl b) = one_event old new other line text words entries rows a b
+one_answer old new other line text words entries rows (inl a) (inr b) =
+    absurd (not_both old.settings line a.event b.question a.is_event b.is_question)
+one_answer old new other line text words entries rows (inr a) (inl b) =
+    absurd (not_both old.settings line b.event a.question b.is_event a.is_question)
+one_answer old new other line text words entries rows (inr a) (inr b) =
+    let same : a.question ≡ b.question = (let e : Some a.question ≡ Some b.question = sym a.is_question ∙ b.is_question in cc) in (
+      a.text_is ∙ ap (question_text old) same ∙ sym b.text_is,
+      a.entries_are ∙ sym b.entries_are,
+      a.after ∙ sym b.after,
+    )

@@ -1,6 +1,6 @@
 -- What an answer recorded is replayed from its lines.
 use Rattle.std.proofs.Common.{◌≡◌, ◌<◌, ℕ, Bool, true, false, cond, List, [], ◌∷◌, ◌++◌, refl, sym, ap, subst, ◌∙◌}
-use Rattle.std.proofs.Common.{append_assoc, append-nil}
+use Rattle.std.proofs.Common.{append_assoc, append-nil, inl, inr}
 use Rattle.std.specs.Prelude.{map, Some, None}
 use Rattle.std.specs.Str.{is_utf8}
 use Rattle.std.proofs.lemmas.List.{append_cancel_left}
@@ -65,7 +65,7 @@ ready_fits held s c me low before (x ∷ xs) turn =
     )
 
 -- what is on a line, the line is
-event_is : (s : Settings) (l : List ℕ) (e : Event) → event_on s l ≡ Some e → event_of_line s l ≡ Some e
+pub event_is : (s : Settings) (l : List ℕ) (e : Event) → event_on s l ≡ Some e → event_of_line s l ≡ Some e
 unfolding event_on
 event_is s l e is = at (is_utf8 l) is
   where
@@ -183,9 +183,10 @@ stayed old new e (x ∷ xs) recorded full turn after are =
     let free : is_full s (state_of old) ≡ false = ap (is_full s) (sym kept) ∙ turn.0 in
     absurd (cc)
 
--- an answer's entries
-pub answers_replayed : LineLaws → AnswersAreReplayed
-answers_replayed laws old new line text entries configured within answer =
+-- what the answer to an event recorded
+event_replayed : LineLaws → (old new : SeenSite) (line text entries : List ℕ) → IsConfigured old.settings → old.me < old.settings.sites
+    → (answer : IsSiteAnswer old new line text entries) → AreReplayed old answer.recorded new
+event_replayed laws old new line text entries configured within answer =
     by (is_full old.settings (state_of old)) refl
   where
     es : List Event
@@ -200,3 +201,18 @@ answers_replayed laws old new line text entries configured within answer =
     by false q = gone_through laws.entries laws.lines old new es answer.recorded
         (record { configured = configured; within = within }) (q, ready_free old.settings _ answer.applied answer.in_turn) answer.after
         answer.recorded_are fits
+
+-- an answer's entries
+pub answers_replayed : LineLaws → AnswersAreReplayed
+answers_replayed laws old new line text entries configured within (inl answer) = record {
+  recorded = answer.recorded;
+  recorded_are = answer.recorded_are;
+  entries_are = answer.entries_are;
+  replayed = event_replayed laws old new line text entries configured within answer;
+}
+answers_replayed laws old new line text entries configured within (inr answer) = record {
+  recorded = [];
+  recorded_are = ap (λ (y : SeenSite). y.entries) answer.after ∙ sym (append-nil old.entries);
+  entries_are = answer.entries_are;
+  replayed = answer.after;
+}

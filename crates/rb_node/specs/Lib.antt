@@ -1,5 +1,9 @@
+pub mod About
 pub mod Answers
 pub mod Faults
+pub mod Index
 pub mod Laws
+pub mod LineAnswers
 pub mod Replays
+pub mod Resends
 pub mod Steps

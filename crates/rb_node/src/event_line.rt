@@ -12,8 +12,9 @@ ghost use Rattle.rb_site.specs.Seen.{state_of};
 ghost use Rattle.rb_history.specs.Adds.{Adds};
 ghost use Rattle.rb_history.specs.Replies.{reply_json};
 ghost use Rattle.rb_history.specs.Entries.{event_json};
-ghost use Rattle.rb_node.specs.Answers.{IsAllApplied, IsNextName, IsSiteAnswer, event_on, messages_json};
+ghost use Rattle.rb_node.specs.Answers.{IsAllApplied, IsNextName, event_on, messages_json};
 ghost use Rattle.rb_node.specs.Faults.{IsLineFault};
+ghost use Rattle.rb_node.specs.LineAnswers.{IsLineAnswer, question_on};
 ghost use Rattle.rb_node.specs.Steps.{AnswersEvent, Applies, AppliesOne};
 
 use crate::{Node, NodeFault};
@@ -168,32 +169,18 @@ impl Node {
         append(text, "}\n")
     }
 
-    /// Answers the line of an event: its answer, `{"reply":R,"sends":[M..],"then":[A..]}`, is added to the answers with
-    /// a line feed, and the lines of the entries that it recorded to the entries, each with a line feed. R is the
-    /// reply, each M a message that was sent, as the event's line of the sites that it goes to, and each A the reply of
-    /// an application that followed: whatever is held and ready is applied, by home, of one home the blue ones before
-    /// the red ones, and of one colour by number, until nothing is ready or the history is full.
-    ///
-    /// Errors: `BadLine` if the line is no event, and nothing has changed then; a line that isn't UTF-8 takes no
-    /// memory, and is always that. `OutOfMemory`, after which nothing more may be asked of the site: it may come with
-    /// any other line, as the JSON reader may want memory for it, and what is written may. Each leaves answers and
-    /// entries as they were.
-    pub fn answer(
+    /// One event, answered. `OutOfMemory` leaves answers and entries as they were.
+    fn answer_whole(
         &mut self,
-        line: &[u8],
+        event: Event,
         answers: &mut Vec<u8>,
         entries: &mut Vec<u8>,
     ) -> Result<(), NodeFault>
-        ensures answered { OnOk result ((text : List ℕ) × (lines : List ℕ)
-            × IsSiteAnswer self.old.site self.new.site line.now text lines
-            × (answers.new.items ≡ answers.old.items ++ text) × (entries.new.items ≡ entries.old.items ++ lines)) }
-        ensures bad { result ≡ Err NodeFault.BadLine
-            → (event_on self.old.site.settings line.now ≡ None) × (self.new ≡ self.old) }
-        ensures not_text { is_utf8 line.now ≡ false → result ≡ Err NodeFault.BadLine }
+        ensures answered { OnOk result (AnswersEvent self.old.site self.new.site event answers.old.items
+            answers.new.items entries.old.items entries.new.items) }
         ensures err { OnErr result ((answers.new.items ≡ answers.old.items) × (entries.new.items ≡ entries.old.items)) }
-        ensures refusals { IfErr result IsLineFault }
+        ensures memory { IfErr result (λ why. why ≡ NodeFault.OutOfMemory) }
     {
-        let event = self.event_of(line)?;
         let (answered, recorded) = (answers.len(), entries.len());
         match self.answer_event(event, answers, entries) {
             Ok(()) => Ok(()),
@@ -202,6 +189,44 @@ impl Node {
                 entries.truncate(recorded);
                 Err(NodeFault::OutOfMemory)
             }
+        }
+    }
+
+    /// Answers a line: its answer is added to the answers, each line of it with a line feed, and the lines of the
+    /// entries that it recorded to the entries, each with a line feed.
+    ///
+    /// An event is answered by `{"reply":R,"sends":[M..],"then":[A..]}`. R is the reply, each M a message that was
+    /// sent, as the event's line of the sites that it goes to, and each A the reply of an application that followed:
+    /// whatever is held and ready is applied, by home, of one home the blue ones before the red ones, and of one colour
+    /// by number, until nothing is ready or the history is full.
+    ///
+    /// A question leaves the site as it was, and isn't recorded. `{"about":"site"}` has a reply `{"about":..}` of what
+    /// the site applied and holds, and `{"resend":N}` (N 0 to 100,000,000) a reply `{"resent":K}` behind K lines
+    /// `{"sends":[M..]}`, one for each of the last N entries that sent any message.
+    ///
+    /// Errors: `BadLine` if the line is no event and no question, and nothing has changed then; a line that isn't UTF-8
+    /// takes no memory, and is always that. `OutOfMemory`, after which nothing more may be asked of the site: it may
+    /// come with any other line, as the JSON reader may want memory for it, and what is written may. Each leaves
+    /// answers and entries as they were.
+    pub fn answer(
+        &mut self,
+        line: &[u8],
+        answers: &mut Vec<u8>,
+        entries: &mut Vec<u8>,
+    ) -> Result<(), NodeFault>
+        ensures answered { OnOk result ((text : List ℕ) × (lines : List ℕ)
+            × IsLineAnswer self.old.site self.new.site line.now text lines
+            × (answers.new.items ≡ answers.old.items ++ text) × (entries.new.items ≡ entries.old.items ++ lines)) }
+        ensures bad { result ≡ Err NodeFault.BadLine → (event_on self.old.site.settings line.now ≡ None)
+            × (question_on line.now ≡ None) × (self.new ≡ self.old) }
+        ensures not_text { is_utf8 line.now ≡ false → result ≡ Err NodeFault.BadLine }
+        ensures err { OnErr result ((answers.new.items ≡ answers.old.items) × (entries.new.items ≡ entries.old.items)) }
+        ensures refusals { IfErr result IsLineFault }
+    {
+        match self.event_of(line) {
+            Ok(event) => self.answer_whole(event, answers, entries),
+            Err(NodeFault::BadLine) => self.answer_question(line, answers),
+            Err(fault) => Err(fault),
         }
     }
 }

@@ -3,10 +3,15 @@
 //! Tests: tests/sites.py, tests/crash.py; examples/tools/check.py runs the rows of a site.
 #![tactic(auto)]
 
+mod about;
 mod event_line;
 mod fault;
+mod indexed_site;
 mod node;
+mod question;
 mod replay;
+mod resend;
+mod sent_entry;
 mod step;
 
 ghost use Rattle.rb_node.specs.Laws.{AnswersAreOne, AnswersAreReplayed, ConfigsAreJournalLines};

@@ -7,9 +7,10 @@ ghost use Rattle.rb_history.specs.ConfigLines.{config_json};
 ghost use Rattle.rb_node.specs.Answers.{line_of};
 
 use crate::fault::NodeFault;
+use crate::indexed_site::IndexedSite;
 use rb_history::{LineFault, open_config, write_config};
 use rb_money::Config;
-use rb_site::{ErasedEntry, Message, Site};
+use rb_site::Message;
 use std::alloc::{AllocError, Global};
 use std::marker::Model;
 
@@ -18,7 +19,7 @@ use std::marker::Model;
 pub struct Node {
     pub(crate) alloc: Global,
     pub(crate) config: Config,
-    pub(crate) site: Site<ErasedEntry>,
+    pub(crate) site: IndexedSite,
     /// The messages of the last event.
     pub(crate) sent: Vec<Message>,
     /// The last entry, written to compare it with its line; it keeps its memory from one entry to the next.
@@ -57,7 +58,7 @@ impl Node {
         if me >= config.sites() {
             return Err(NodeFault::NoSite);
         }
-        let site = Site::open_keeping(alloc, &config, me)?;
+        let site = IndexedSite::open(alloc, &config, me)?;
         Ok(Node {
             alloc,
             config,
@@ -99,6 +100,6 @@ impl Node {
             sent: _,
             written: _,
         } = self;
-        let _report = site.close();
+        site.close();
     }
 }

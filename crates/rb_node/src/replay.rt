@@ -22,7 +22,11 @@ use rb_site::{Entry, Message, Reply};
 use std::alloc::AllocError;
 
 /// The messages as a line, if there are any.
-fn append_sends(out: &mut Vec<u8>, config: &Config, messages: &[Message]) -> Result<(), AllocError>
+pub(crate) fn append_sends(
+    out: &mut Vec<u8>,
+    config: &Config,
+    messages: &[Message],
+) -> Result<(), AllocError>
     ensures { Adds result out.old.items out.new.items (sent_line config.now messages.now) }
 {
     if messages.is_empty() {

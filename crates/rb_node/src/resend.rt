@@ -1,0 +1,96 @@
+//! The messages of the last entries, once more, read out of the ledger.
+ghost use Rattle.std.specs.Prelude.{◌≡◌, ◌++◌, OnOk};
+ghost use Rattle.rb_history.specs.Adds.{Adds};
+ghost use Rattle.rb_history.specs.declared.question.Question.TheVariants.{Resend};
+ghost use Rattle.rb_site.specs.Seen.{state_of};
+ghost use Rattle.rb_node.specs.Answers.{sent_line};
+ghost use Rattle.rb_node.specs.Index.{lines_again, messages_of};
+ghost use Rattle.rb_node.specs.LineAnswers.{question_text};
+ghost use Rattle.rb_node.specs.declared.sent_entry.Sent.TheVariants.{Operations as TheOperations};
+
+use crate::Node;
+use crate::replay::append_sends;
+use crate::sent_entry::{Sent, SentEntry};
+use rb_history::write::append::append_number;
+use rb_ledger::OperationList;
+use rb_site::Message;
+use std::alloc::AllocError;
+
+/// Adds operations to messages: those from one number of them to another.
+fn push_operations(
+    messages: &mut Vec<Message>,
+    operations: &OperationList,
+    first: u32,
+    end: u32,
+) -> Result<(), AllocError>
+    ensures { OnOk result (messages.new.items ≡ messages.old.items
+        ++ messages_of operations.now.items (TheOperations first end)) }
+{
+    let count = end.saturating_sub(first);
+    for k in 0..count {
+        if let Some(shadow) = operations.get(first as usize + k as usize) {
+            messages.push(Message::Shadow(shadow))?;
+        }
+    }
+    Ok(())
+}
+
+/// Adds the messages of an entry to others.
+fn push_sent(
+    messages: &mut Vec<Message>,
+    operations: &OperationList,
+    sent: Sent,
+) -> Result<(), AllocError>
+    ensures { OnOk result (messages.new.items ≡ messages.old.items ++ messages_of operations.now.items sent) }
+{
+    match sent {
+        Sent::Operations { first, end } => push_operations(messages, operations, first, end)?,
+        Sent::Token(message) => messages.push(Message::Token(message))?,
+    }
+    Ok(())
+}
+
+impl Node {
+    /// The line of an entry's messages. They take the place of those in `messages`.
+    fn append_again(
+        &self,
+        out: &mut Vec<u8>,
+        messages: &mut Vec<Message>,
+        sent: Sent,
+    ) -> Result<(), AllocError>
+        ensures { Adds result out.old.items out.new.items
+            (sent_line self.now.site.settings (messages_of (state_of self.now.site).ops sent)) }
+    {
+        messages.clear();
+        push_sent(messages, self.site.ledger().entries(), sent)?;
+        append_sends(out, &self.config, messages.as_slice())
+    }
+
+    /// The lines of the messages of entries.
+    fn append_all_again(&self, out: &mut Vec<u8>, entries: &[SentEntry]) -> Result<(), AllocError>
+        ensures { Adds result out.old.items out.new.items
+            (lines_again self.now.site.settings (state_of self.now.site).ops entries.now) }
+    {
+        let mut messages = Vec::new(self.alloc);
+        for entry in entries {
+            self.append_again(out, &mut messages, entry.sent)?;
+        }
+        Ok(())
+    }
+
+    /// The messages of up to `most` of the last entries, a line for each that sent any, and then the answer's line,
+    /// which says how many these are.
+    pub(crate) fn append_resent(&self, out: &mut Vec<u8>, most: u32) -> Result<(), AllocError>
+        ensures { Adds result out.old.items out.new.items (question_text self.now.site (Resend most)) }
+    {
+        let skipped = self.site.len().saturating_sub(most);
+        let entries = self.site.sent_since(skipped);
+        self.append_all_again(out, entries)?;
+        append_number(
+            out,
+            "{\"reply\":{\"resent\":",
+            entries.len() as u64,
+            "},\"sends\":[],\"then\":[]}\n",
+        )
+    }
+}
