@@ -23,7 +23,7 @@ use Rattle.rb_money.specs.declared.limits.TheConstants.{MOST_HISTORY, MOST_SITES
 use Rattle.rb_cli.specs.declared.words.TheConstants.{MOST_TELLERS}
 use Rattle.rb_cli.specs.Words.{AreFit, Asked, IsInRange, IsNumberWithin, IsSwitchWord, command_line, option_rule, site_line}
 use Rattle.rb_cli.specs.Words.{switch_at, switch_rule}
-use Rattle.rb_cli.specs.Words.{threads_line, within, numeral_value, words_of_matches, script, audit, migrate, threads}
+use Rattle.rb_cli.specs.Words.{threads_line, within, numeral_value, words_of_matches, script, audit, histories, migrate, threads}
 use Rattle.rb_cli.specs.Words.{site}
 use Rattle.rb_cli.proofs.Options.{HasText, at_option, fits, given_text, none_missing, leaf_passes, number_of_text}
 use Rattle.rb_cli.proofs.Passing.{Each, HasOptions, Passes, found_in, never, none_of}
@@ -296,18 +296,21 @@ each_asks : (name : Text) → IsOther name → Each (AsksBy name) (built command
 each_asks name other = (
   plain_asks name (new_app (codes "script")) script (λ its_rows. refl) tt refl refl,
   (
-    plain_asks name (new_app (codes "audit")) audit (λ its_rows. refl) tt refl refl,
+    plain_asks name (new_app (codes "histories")) histories (λ its_rows. refl) tt refl refl,
     (
-      plain_asks name (new_app (codes "migrate")) migrate (λ its_rows. refl) tt refl refl,
+      plain_asks name (new_app (codes "audit")) audit (λ its_rows. refl) tt refl refl,
       (
-        (λ words none named.
-            let done = leaf_passes (leaf threads_line) threads_options words none in
-            threads_asks (rows_after (leaf threads_line).rules [] words) done.0 done.1),
+        plain_asks name (new_app (codes "migrate")) migrate (λ its_rows. refl) tt refl refl,
         (
           (λ words none named.
-              let done = leaf_passes (leaf site_line) site_options words none in
-              site_asks (rows_after (leaf site_line).rules [] words) done.0 done.1),
-          ((λ words none named. absurd (no_help name other (or_false _ named))), tt),
+              let done = leaf_passes (leaf threads_line) threads_options words none in
+              threads_asks (rows_after (leaf threads_line).rules [] words) done.0 done.1),
+          (
+            (λ words none named.
+                let done = leaf_passes (leaf site_line) site_options words none in
+                site_asks (rows_after (leaf site_line).rules [] words) done.0 done.1),
+            ((λ words none named. absurd (no_help name other (or_false _ named))), tt),
+          ),
         ),
       ),
     ),

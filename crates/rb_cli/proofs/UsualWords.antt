@@ -28,10 +28,10 @@ use Rattle.clap.specs.declared.error.kind.ErrorKind.TheVariants.{ArgumentConflic
 use Rattle.rb_money.specs.declared.limits.TheConstants.{MOST_HISTORY, MOST_SITES}
 use Rattle.rb_cli.specs.declared.words.TheConstants.{MOST_TELLERS}
 use Rattle.rb_cli.specs.Words.{Ask, Asked, AskForJournal, AskForSite, AskForThreads, IsFileName, as_asked, command_line}
-use Rattle.rb_cli.specs.Words.{numeral_value, option_rule, script, audit, migrate, site, site_line, switch_rule, threads}
-use Rattle.rb_cli.specs.Words.{threads_line, words_of_matches}
+use Rattle.rb_cli.specs.Words.{numeral_value, option_rule, script, audit, histories, migrate, site, site_line, switch_rule}
+use Rattle.rb_cli.specs.Words.{threads, threads_line, words_of_matches}
 use Rattle.rb_cli.specs.declared.words.Words.{Words}
-use Rattle.rb_cli.specs.declared.words.Words.TheVariants.{Script, Audit, Migrate, Threads, Site}
+use Rattle.rb_cli.specs.declared.words.Words.TheVariants.{Script, Histories, Audit, Migrate, Threads, Site}
 use Rattle.rb_cli.proofs.GivenOptions.{AreGiven, Given, IsNamed, IsPlain, IsSwitch, at, rows_with, spelled, switch, takes_given, valued}
 use Rattle.rb_cli.proofs.GivenOptions.{waiting_at}
 use Rattle.rb_cli.proofs.Options.{no_plus}
@@ -658,6 +658,10 @@ script_taken : TakesAs (codes "script" ∷ []) script
 unfolding clap_on_literals
 script_taken = (refl, refl)
 
+histories_taken : TakesAs (codes "histories" ∷ []) histories
+unfolding clap_on_literals
+histories_taken = (refl, refl)
+
 audit_taken : TakesAs (codes "audit" ∷ []) audit
 unfolding clap_on_literals
 audit_taken = (refl, refl)
@@ -670,6 +674,7 @@ migrate_taken = (refl, refl)
 pub usual_words : (words : List Text) (asked : Words) → Ask words asked
     → (fault_of command_line words ≡ []) × (words_of_matches (subcommand_of command_line words) ≡ Some (as_asked asked))
 usual_words words Script ask = subst (λ ws. TakesAs ws script) (sym ask) script_taken
+usual_words words Histories ask = subst (λ ws. TakesAs ws histories) (sym ask) histories_taken
 usual_words words Audit ask = subst (λ ws. TakesAs ws audit) (sym ask) audit_taken
 usual_words words Migrate ask = subst (λ ws. TakesAs ws migrate) (sym ask) migrate_taken
 usual_words words (Threads k m n) ask = usual_threads words k m n ask

@@ -12,7 +12,7 @@ use Rattle.clap.specs.declared.builder.value_parser.ValueParser.TheVariants.{Sig
 use Rattle.rb_money.specs.declared.limits.TheConstants.{MOST_HISTORY, MOST_SITES}
 use Rattle.rb_cli.specs.declared.words.TheConstants.{MOST_TELLERS}
 use Rattle.rb_cli.specs.declared.words.Words.{Words}
-use Rattle.rb_cli.specs.declared.words.Words.TheVariants.{Script, Audit, Migrate, Threads, Site}
+use Rattle.rb_cli.specs.declared.words.Words.TheVariants.{Script, Histories, Audit, Migrate, Threads, Site}
 
 -- ---- words in their usual spelling: each option's name, and its value behind it, in a word of its own
 
@@ -68,6 +68,7 @@ pub record AskForSite (words : List (List ℕ)) (me : ℕ) (journal : List ℕ) 
 -- what the words after the program's name ask for
 abbrev pub Ask : List (List ℕ) → Words → Type 0
 Ask words Script = words ≡ codes "script" ∷ []
+Ask words Histories = words ≡ codes "histories" ∷ []
 Ask words Audit = words ≡ codes "audit" ∷ []
 Ask words Migrate = words ≡ codes "migrate" ∷ []
 Ask words (Threads sites tellers seed) = AskForThreads words sites tellers seed
@@ -110,8 +111,9 @@ site_line =
 abbrev pub plain_line : App
 plain_line =
     with_subcommand
-    (with_subcommand (with_subcommand (record { top = top_line; subs = [] }) (new_app (codes "script")).top) (new_app (codes "audit")).top)
-    (new_app (codes "migrate")).top
+    (with_subcommand
+    (with_subcommand (with_subcommand (record { top = top_line; subs = [] }) (new_app (codes "script")).top) (new_app (codes "histories")).top)
+    (new_app (codes "audit")).top) (new_app (codes "migrate")).top
 
 -- the command line: a subcommand for each thing
 abbrev pub command_line : App
@@ -122,6 +124,7 @@ command_line = with_subcommand (with_subcommand plain_line threads_line.top) sit
 -- what is asked for, with the file's name as text
 pub data Asked : Type 0 where
   script : Asked
+  histories : Asked
   audit : Asked
   migrate : Asked
   threads : ℕ → ℕ → ℕ → Asked
@@ -129,6 +132,7 @@ pub data Asked : Type 0 where
 
 abbrev pub as_asked : Words → Asked
 as_asked Script = script
+as_asked Histories = histories
 as_asked Audit = audit
 as_asked Migrate = migrate
 as_asked (Threads sites tellers seed) = threads sites tellers seed
@@ -167,9 +171,9 @@ site_asked rows = with_site_options (number_at (codes "me") rows) (first_of (cod
 -- what a command with its options asks for
 abbrev pub words_of_command : Text → List Row → Option Asked
 words_of_command name rows =
-    if bytes_eq name (codes "script") then Some script else if bytes_eq name (codes "audit") then Some audit
-    else if bytes_eq name (codes "migrate") then Some migrate else if bytes_eq name (codes "threads") then threads_asked rows
-    else if bytes_eq name (codes "site") then site_asked rows else None
+    if bytes_eq name (codes "script") then Some script else if bytes_eq name (codes "histories") then Some histories
+    else if bytes_eq name (codes "audit") then Some audit else if bytes_eq name (codes "migrate") then Some migrate
+    else if bytes_eq name (codes "threads") then threads_asked rows else if bytes_eq name (codes "site") then site_asked rows else None
 
 -- what the command that a parse met asks for, with what it found of its options
 abbrev pub words_of_matches : Option (Text × List Row) → Option Asked

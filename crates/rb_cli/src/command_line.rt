@@ -91,6 +91,20 @@ fn script<'a>(alloc: Global) -> Command<'a>
     )
 }
 
+/// The command `histories`.
+fn histories<'a>(alloc: Global) -> Command<'a>
+    ensures shape { app_of result ≡ new_app (codes "histories") }
+    ensures local { (out-Command result).has_globals ≡ false }
+{
+    part(
+        alloc,
+        "histories",
+        texts::HISTORIES_USAGE,
+        texts::HISTORIES,
+        texts::HISTORIES_HELP,
+    )
+}
+
 /// The command `audit`.
 fn audit<'a>(alloc: Global) -> Command<'a>
     ensures shape { app_of result ≡ new_app (codes "audit") }
@@ -125,6 +139,13 @@ pub fn command_line<'a>(alloc: Global) -> Result<Command<'a>, AllocError>
 {
     let threads = threads(alloc)?;
     let site = site(alloc)?;
-    let parts = vec![in alloc; script(alloc), audit(alloc), migrate(alloc), threads, site]?;
+    let parts = vec![in alloc;
+        script(alloc),
+        histories(alloc),
+        audit(alloc),
+        migrate(alloc),
+        threads,
+        site,
+    ]?;
     top(alloc).subcommands(parts)
 }

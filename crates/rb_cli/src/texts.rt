@@ -10,6 +10,9 @@ pub const ABOUT: &str =
 /// How `script` is used.
 pub const SCRIPT_USAGE: &str = "rbbank script < COMMANDS";
 
+/// How `histories` is used.
+pub const HISTORIES_USAGE: &str = "rbbank histories < COMMANDS";
+
 /// How `audit` is used.
 pub const AUDIT_USAGE: &str = "rbbank audit < HISTORIES";
 
@@ -24,6 +27,10 @@ pub const THREADS_USAGE: &str = "rbbank threads --sites K --tellers T --seed S";
 
 /// What `script` does.
 pub const SCRIPT: &str = "Answers the commands on standard input, a line of JSON each";
+
+/// What `histories` does.
+pub const HISTORIES: &str =
+    "Runs the commands on standard input as script does, and writes the sites' histories";
 
 /// What `audit` does.
 pub const AUDIT: &str =
@@ -111,6 +118,34 @@ Refusals:
 
 Statuses:
   0  every line was answered
+  2  a bad line, no configuration, or wrong words
+  3  a read or a write failed
+  4  out of memory
+
+All lines, limits, refusals and statuses: docs/FORMAT.md"#;
+
+/// A script with the histories of its sites, and the statuses.
+pub const HISTORIES_HELP: &str =
+    r#"The input is a script: its first line is the configuration, and each later line a command at a site:
+
+  {"accounts":[["ann",0]],"sites":2,"version":1}
+  {"deposit":["ann",500],"site":0}
+  {"balance":"ann","site":1}
+
+No command is answered. After the last one come the configuration's line, with all its keys, and the
+histories, those of site 0 first: a line for each command that a site recorded, with its reply, and in
+place of a delivery with the message:
+
+  {"accounts":[["ann",0]],"blue":1000000,"epoch":4000000000,"history":100000000,"inbox":4096,
+    "red":1000000,"sites":2,"version":1}
+  {"event":{"deposit":["ann",500]},"reply":{"kind":"deposit","name":"B0.1"},"site":0}
+  {"event":{"balance":"ann"},"reply":{"balance":0},"site":1}
+
+What is indented further here is the rest of the line above it. An audit accepts these lines, unless
+one is longer than a line may be. At a bad line nothing is written.
+
+Statuses:
+  0  the histories were written
   2  a bad line, no configuration, or wrong words
   3  a read or a write failed
   4  out of memory

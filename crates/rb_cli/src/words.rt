@@ -18,6 +18,8 @@ pub const MOST_TELLERS: u32 = 64;
 pub enum Words<'a> {
     /// To answer the script on standard input.
     Script,
+    /// To run the script on standard input, and write the histories of its sites.
+    Histories,
     /// To audit the histories on standard input.
     Audit,
     /// To write the histories on standard input again, in the newest version of their lines.
@@ -95,6 +97,7 @@ fn asked_by<'a>(matches: &ArgMatches<'a>) -> Option<Words<'a>>
     let (name, given) = matches.subcommand()?;
     match name {
         "script" => Some(Words::Script),
+        "histories" => Some(Words::Histories),
         "audit" => Some(Words::Audit),
         "migrate" => Some(Words::Migrate),
         "threads" => threads(given),

@@ -21,8 +21,9 @@ returns c =
     IfOk-weaker c.subcommands.result (Adds c.in_ok-parts.parts.items) (λ it. app_of it ≡ command_line) (λ it in_turn.
     let all = subst (λ parts. Adds parts it) c.in_ok-parts.ensures.items in_turn in
     let one = added _ _ all.0 _ _ c.top.ensures c.script.ensures.shape c.script.ensures.local all.1 in
-    let two = added _ _ all.2.0 _ _ one c.audit.ensures.shape c.audit.ensures.local all.2.1 in
-    let three = added _ _ all.2.2.0 _ _ two c.migrate.ensures.shape c.migrate.ensures.local all.2.2.1 in
-    let four = added _ _ all.2.2.2.0 _ _ three threads.shape threads.local all.2.2.2.1 in
-    let five = added _ _ all.2.2.2.2.0 _ _ four site.shape site.local all.2.2.2.2.1 in
-    ap app_of (sym all.2.2.2.2.2) ∙ five) c.subcommands.ensures
+    let two = added _ _ all.2.0 _ _ one c.histories.ensures.shape c.histories.ensures.local all.2.1 in
+    let three = added _ _ all.2.2.0 _ _ two c.audit.ensures.shape c.audit.ensures.local all.2.2.1 in
+    let four = added _ _ all.2.2.2.0 _ _ three c.migrate.ensures.shape c.migrate.ensures.local all.2.2.2.1 in
+    let five = added _ _ all.2.2.2.2.0 _ _ four threads.shape threads.local all.2.2.2.2.1 in
+    let six = added _ _ all.2.2.2.2.2.0 _ _ five site.shape site.local all.2.2.2.2.2.1 in
+    ap app_of (sym all.2.2.2.2.2.2) ∙ six) c.subcommands.ensures
