@@ -1,7 +1,7 @@
 #!/usr/bin/env python3
 """Runs every script, all histories, every migration and every site of examples/ through a built program, and compares
 what it writes, what it says on standard error, its status, and a site's journal. What the program's own help shows is
-run as well, its version is looked at, and a run of tellers is audited.
+run as well, its version is looked at, and the histories of every script and runs of tellers are audited.
 
 usage: check.py [--quiet] PROGRAM      (--quiet prints only what is different)
 """
@@ -90,6 +90,20 @@ def tellers(program, sites, count):
     return fine and audit.stdout.startswith('{"order":[') and len(calls) == 100 * count
 
 
+def histories(program, path):
+    """Whether an audit finds an order of the histories of a script, and these are those that are stored, if any are; or
+    they end in the script's fault."""
+    with open(path, "rb") as given:
+        run = subprocess.run([program, "histories"], stdin=given, capture_output=True)
+    _, fault, status = expected(path.removesuffix(".jsonl"))
+    if status:
+        return (run.stdout, run.stderr, run.returncode) == (b"", fault, status)
+    name = os.path.basename(path).removesuffix(".jsonl") + ".histories.jsonl"
+    audit = subprocess.run([program, "audit"], input=run.stdout, capture_output=True)
+    fine = (run.stderr, run.returncode, audit.stderr, audit.returncode) == (b"", 0, b"", 0)
+    return fine and audit.stdout.startswith(b'{"order":[') and stored(bank.example(name), run.stdout) == run.stdout
+
+
 def main():
     words = [word for word in sys.argv[1:] if word != "--quiet"]
     if len(words) != 1 or words[0] in ("-h", "--help"):
@@ -100,7 +114,10 @@ def main():
     paths = bank.examples()
     same = [is_same(words[0], path) for path in paths]
     results = list(zip(map(os.path.basename, paths), same))
-    results += [(command + " --help", helps(words[0], command)) for command in ["script", "audit", "migrate", "site"]]
+    commands = ["script", "histories", "audit", "migrate", "site"]
+    results += [(command + " --help", helps(words[0], command)) for command in commands]
+    scripts = [path for path in paths if bank.word_of(path) == "script"]
+    results += [(os.path.basename(path) + ", its histories", histories(words[0], path)) for path in scripts]
     results.append(("--version", tells_version(words[0])))
     for sites, count in [(2, 1), (3, 4), (8, 16), (16, 16)]:
         results.append((f"threads at {sites} sites, audited", tellers(words[0], sites, count)))

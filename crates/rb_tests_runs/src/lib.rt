@@ -23,6 +23,8 @@ mod flags;
 #[cfg(test)]
 mod gates;
 #[cfg(test)]
+mod histories;
+#[cfg(test)]
 mod links;
 #[cfg(test)]
 mod migrations;

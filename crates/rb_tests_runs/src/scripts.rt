@@ -6,7 +6,7 @@ use crate::checks::{equal, holds};
 use rb_lines::{
     FromBytes, ReadFailed, ScriptFault, Sink, Source, ToBytes, WriteFailed, message, status,
 };
-use rb_runs::{run_audit, run_migrate, run_script};
+use rb_runs::{run_audit, run_histories, run_migrate, run_script};
 use rb_tests::rows::row_named;
 use std::alloc::{AllocError, Global};
 use std::cell::RefCell;
@@ -14,7 +14,7 @@ use std::process::Abort;
 use std::test::Fail;
 
 /// A deposit, and its way to the other site.
-const DEPOSIT: &str = r#"{"accounts":[["ann",0]],"sites":2,"version":1}
+pub const DEPOSIT: &str = r#"{"accounts":[["ann",0]],"sites":2,"version":1}
 {"deposit":["ann",500],"site":0}
 {"balance":"ann","site":0}
 {"balance":"ann","site":1}
@@ -32,7 +32,7 @@ const REPLIES: &str = r#"{"kind":"deposit","name":"B0.1"}
 "#;
 
 /// A deposit, and then a bad line.
-const DEPOSIT_AND_BAD: &str = r#"{"accounts":[["ann",0]],"sites":2,"version":1}
+pub const DEPOSIT_AND_BAD: &str = r#"{"accounts":[["ann",0]],"sites":2,"version":1}
 {"deposit":["ann",500],"site":0}
 deposit"#;
 
@@ -59,6 +59,7 @@ const BALANCE_REPLY: &str = "{\"balance\":0}\n";
 #[derive(Clone, Copy)]
 pub enum Program {
     Script,
+    Histories,
     Audit,
     Migration,
 }
@@ -90,7 +91,8 @@ pub const TEN: Ends = Ends { left: 10, ..WHOLE };
 
 const NONE: Ends = Ends { left: 0, ..WHOLE };
 
-/// What a run over this text answers, and what it writes. An audit answers 1 for an order and 0 for a fault.
+/// What a run over this text answers, and what it writes. An audit answers 1 for an order and 0 for a fault, and
+/// histories that are written 0.
 pub fn ran(
     alloc: Global,
     program: Program,
@@ -101,6 +103,7 @@ pub fn ran(
     let mut writer = ToBytes::up_to(alloc, 7, ends.left);
     let answer = match program {
         Program::Script => run_script(alloc, &mut reader, &mut writer),
+        Program::Histories => run_histories(alloc, &mut reader, &mut writer).map(|()| 0),
         Program::Audit => run_audit(alloc, &mut reader, &mut writer).map(u64::from),
         Program::Migration => run_migrate(alloc, &mut reader, &mut writer),
     };

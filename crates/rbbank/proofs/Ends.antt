@@ -10,8 +10,8 @@ use Rattle.rb_lines.specs.Messages.{status_of}
 use Rattle.rb_run_site.specs.declared.fault.SiteFault.{SiteFault}
 use Rattle.rbbank.specs.declared.on_disk.RanOnDisk.{RanOnDisk}
 use Rattle.rbbank.specs.declared.on_streams.Streamed.{Streamed}
-use Rattle.rbbank.specs.declared.on_streams.Streamed.TheVariants.{Script, Audit, Migrate, Threads, SiteAsked}
-use Rattle.rbbank.specs.Statuses.{IsEnd, IsEndOf, IsEndOfAudit, IsEndOfScript, IsEndOfSite, IsEndOfThreads, IsEndOfWords}
+use Rattle.rbbank.specs.declared.on_streams.Streamed.TheVariants.{Script, Histories, Audit, Migrate, Threads, SiteAsked}
+use Rattle.rbbank.specs.Statuses.{IsEnd, IsEndOf, IsEndOfAudit, IsEndOfHistories, IsEndOfScript, IsEndOfSite, IsEndOfWords}
 use Rattle.rbbank.specs.Statuses.{IsReportedStatus, status_of_unread}
 
 -- memory ran out
@@ -31,9 +31,9 @@ audit_end n (Ok true) e = inl e
 audit_end n (Ok false) e = inr (inl e)
 audit_end n (Err fault) e = fault_end n fault e
 
-threads_end : (n : ℕ) (ran : Result Unit ScriptFault) → IsEndOfThreads ran n → IsEnd n
-threads_end n (Ok u) e = inl e
-threads_end n (Err fault) e = fault_end n fault e
+histories_end : (n : ℕ) (ran : Result Unit ScriptFault) → IsEndOfHistories ran n → IsEnd n
+histories_end n (Ok u) e = inl e
+histories_end n (Err fault) e = fault_end n fault e
 
 site_end : (n : ℕ) (ran : Result ℕ SiteFault) → IsEndOfSite ran n → IsEnd n
 site_end n (Ok count) e = inl e
@@ -44,9 +44,10 @@ site_end n (Err fault) (inr e) = no_memory n e
 pub any_end : (n : ℕ) (streamed : Streamed) (input left : Option (List ℕ)) (site : Option RanOnDisk)
     → IsEndOf streamed input left site n → IsEnd n
 any_end n (Script ran) input left site e = script_end n ran e
+any_end n (Histories ran) input left site e = histories_end n ran e
 any_end n (Audit ran) input left site e = audit_end n ran e
 any_end n (Migrate ran) input left site e = script_end n ran e
-any_end n (Threads ran) input left site e = threads_end n ran e
+any_end n (Threads ran) input left site e = histories_end n ran e
 any_end n (SiteAsked me journal is_new resend) input left (Some ran) e = site_end n ran.ended e.1
 any_end n (SiteAsked me journal is_new resend) input left None e = absurd e
 

@@ -2,20 +2,22 @@
 use Rattle.std.specs.Prelude.{◌≡◌, ◌≢◌, ℕ, List, [], Option, IfSome, Err}
 use Rattle.rb_lines.specs.declared.fault.ScriptFault.TheVariants.{Gather}
 use Rattle.rb_cli.specs.declared.words.Words.{Words}
-use Rattle.rb_cli.specs.declared.words.Words.TheVariants.{Script, Audit, Migrate, Threads, Site}
+use Rattle.rb_cli.specs.declared.words.Words.TheVariants.{Script, Histories, Audit, Migrate, Threads, Site}
 use Rattle.rb_runs.specs.Script.{ScriptEndsAs}
+use Rattle.rb_runs.specs.Recording.{HistoriesEndAs}
 use Rattle.rb_runs.specs.Audit.{AuditEndsAs}
 use Rattle.rb_runs.specs.Migration.{MigrationEndsAs}
 use Rattle.rb_run_threads.specs.Runs.{ThreadsEndAs}
 use Rattle.rbbank.specs.declared.on_streams.Streamed.{Streamed}
-use Rattle.rbbank.specs.declared.on_streams.Streamed.TheVariants.{Script as ScriptRan, Audit as AuditRan, Migrate as MigrationRan}
-use Rattle.rbbank.specs.declared.on_streams.Streamed.TheVariants.{Threads as TellersRan, SiteAsked}
+use Rattle.rbbank.specs.declared.on_streams.Streamed.TheVariants.{Script as ScriptRan, Histories as HistoriesRan, Audit as AuditRan}
+use Rattle.rbbank.specs.declared.on_streams.Streamed.TheVariants.{Migrate as MigrationRan, Threads as TellersRan, SiteAsked}
 
--- what was asked for was done, by the definition of its own run: a script on the reader's bytes, an audit of them or a
--- migration, wherever these bytes are known, none of which gathers histories, or a run of tellers, which reads nothing;
--- or a site is to run as asked, and nothing was read or written
+-- what was asked for was done, by the definition of its own run: a script on the reader's bytes, with its replies or its
+-- histories, an audit of them or a migration, wherever these bytes are known, none of which gathers histories, or a run
+-- of tellers, which reads nothing; or a site is to run as asked, and nothing was read or written
 abbrev pub DoesAsAsked : Words → Streamed → Option (List ℕ) → Option (List ℕ) → List ℕ → Type 0
 DoesAsAsked Script (ScriptRan r) bytes left text = (r ≢ Err Gather) × IfSome bytes (λ input. ScriptEndsAs r input left text)
+DoesAsAsked Histories (HistoriesRan r) bytes left text = (r ≢ Err Gather) × IfSome bytes (λ input. HistoriesEndAs r input left text)
 DoesAsAsked Audit (AuditRan r) bytes left text = (r ≢ Err Gather) × IfSome bytes (λ input. AuditEndsAs r input left text)
 DoesAsAsked Migrate (MigrationRan r) bytes left text = (r ≢ Err Gather) × IfSome bytes (λ input. MigrationEndsAs r input left text)
 DoesAsAsked (Threads sites tellers seed) (TellersRan r) bytes left text = ThreadsEndAs r sites tellers seed text × (left ≡ bytes)

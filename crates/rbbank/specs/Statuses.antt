@@ -12,7 +12,7 @@ use Rattle.rb_run_site.specs.Faults.{site_status_of}
 use Rattle.rbbank.specs.OnDisk.{IsRunOn}
 use Rattle.rbbank.specs.declared.on_disk.RanOnDisk.{RanOnDisk}
 use Rattle.rbbank.specs.declared.on_streams.Streamed.{Streamed}
-use Rattle.rbbank.specs.declared.on_streams.Streamed.TheVariants.{Script, Audit, Migrate, Threads, SiteAsked}
+use Rattle.rbbank.specs.declared.on_streams.Streamed.TheVariants.{Script, Histories, Audit, Migrate, Threads, SiteAsked}
 
 -- the status if the words can't be read
 abbrev pub status_of_unread : IoErrorKind → ℕ
@@ -44,23 +44,25 @@ IsEndOfAudit (Ok true) n = n ≡ 0
 IsEndOfAudit (Ok false) n = n ≡ 1
 IsEndOfAudit (Err fault) n = IsReportedStatus (status_of fault) n
 
--- a run of threads ends in 0 if its histories were written, else in its fault's status or 4
-abbrev pub IsEndOfThreads : Result Unit ScriptFault → ℕ → Type 0
-IsEndOfThreads (Ok u) n = n ≡ 0
-IsEndOfThreads (Err fault) n = IsReportedStatus (status_of fault) n
+-- a run of threads, or of a script whose histories are asked for, ends in 0 if its histories were written, else in its
+-- fault's status or 4
+abbrev pub IsEndOfHistories : Result Unit ScriptFault → ℕ → Type 0
+IsEndOfHistories (Ok u) n = n ≡ 0
+IsEndOfHistories (Err fault) n = IsReportedStatus (status_of fault) n
 
 -- a site ends in 0 if its lines were all answered, else in its fault's status or 4
 abbrev pub IsEndOfSite : Result ℕ SiteFault → ℕ → Type 0
 IsEndOfSite (Ok count) n = n ≡ 0
 IsEndOfSite (Err fault) n = IsReportedStatus (site_status_of fault) n
 
--- a script, an audit, a migration or a run of threads ends as it does by what it came to; a site that was asked for ran,
--- as its words say, over the file that they name, and ends as it does by what that came to
+-- a script, its histories, an audit, a migration or a run of threads ends as it does by what it came to; a site that was
+-- asked for ran, as its words say, over the file that they name, and ends as it does by what that came to
 abbrev pub IsEndOf : Streamed → Option (List ℕ) → Option (List ℕ) → Option RanOnDisk → ℕ → Type 0
 IsEndOf (Script ran) input left site n = IsEndOfScript ran n
+IsEndOf (Histories ran) input left site n = IsEndOfHistories ran n
 IsEndOf (Audit ran) input left site n = IsEndOfAudit ran n
 IsEndOf (Migrate ran) input left site n = IsEndOfScript ran n
-IsEndOf (Threads ran) input left site n = IsEndOfThreads ran n
+IsEndOf (Threads ran) input left site n = IsEndOfHistories ran n
 IsEndOf (SiteAsked me journal is_new resend) input left (Some ran) n =
     IsRunOn me journal.now is_new resend input left ran.disk ran.ended × IsEndOfSite ran.ended n
 IsEndOf (SiteAsked me journal is_new resend) input left None n = ⊥

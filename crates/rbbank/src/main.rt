@@ -9,7 +9,7 @@ ghost use Rattle.std.specs.Process.{exit_status};
 ghost use Rattle.clap.specs.Words.{kind_of};
 ghost use Rattle.rb_lines.specs.Messages.{status_of};
 ghost use Rattle.rb_lines.specs.declared.fault.ScriptFault.TheVariants.{Write as NotWritten};
-ghost use Rattle.rbbank.specs.Statuses.{IsEnd, IsEndOf, IsEndOfAudit, IsEndOfScript, IsEndOfThreads, IsEndOfWords};
+ghost use Rattle.rbbank.specs.Statuses.{IsEnd, IsEndOf, IsEndOfAudit, IsEndOfHistories, IsEndOfScript, IsEndOfWords};
 ghost use Rattle.rbbank.specs.Statuses.{IsSiteAsked};
 ghost use Rattle.rbbank.specs.Statuses.{IsReportedStatus, status_of_unread};
 
@@ -55,7 +55,7 @@ pub(crate) fn print_line(rt: &HostRuntime, line: Result<String, AllocError>, sta
     }
 }
 
-/// Says why a script, an audit, a migration or a run of threads stopped.
+/// Says why a script, its histories, an audit, a migration or a run of threads stopped.
 fn report_fault(rt: &HostRuntime, fault: ScriptFault) -> ExitCode
     ensures { IsReportedStatus (status_of fault) (exit_status result) }
 {
@@ -121,9 +121,9 @@ fn end_of_audit(rt: &HostRuntime, ran: Result<bool, ScriptFault>) -> ExitCode
     }
 }
 
-/// How a run of threads ends the program.
-fn end_of_threads(rt: &HostRuntime, ran: Result<(), ScriptFault>) -> ExitCode
-    ensures { IsEndOfThreads ran (exit_status result) }
+/// How a run that writes histories ends the program: of a script, or of threads.
+fn end_of_histories(rt: &HostRuntime, ran: Result<(), ScriptFault>) -> ExitCode
+    ensures { IsEndOfHistories ran (exit_status result) }
 {
     match ran {
         Ok(()) => ExitCode::SUCCESS,
@@ -153,9 +153,10 @@ fn end<S: Source>(rt: &HostRuntime, reader: &mut S, streamed: Streamed) -> Ended
 {
     match streamed {
         Streamed::Script(ran) => without_site(end_of_script(rt, ran)),
+        Streamed::Histories(ran) => without_site(end_of_histories(rt, ran)),
         Streamed::Audit(ran) => without_site(end_of_audit(rt, ran)),
         Streamed::Migrate(ran) => without_site(end_of_script(rt, ran)),
-        Streamed::Threads(ran) => without_site(end_of_threads(rt, ran)),
+        Streamed::Threads(ran) => without_site(end_of_histories(rt, ran)),
         Streamed::SiteAsked {
             me,
             journal,

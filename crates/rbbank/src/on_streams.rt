@@ -13,7 +13,7 @@ use rb_branch::NoGate;
 use rb_cli::{Words, read_words};
 use rb_lines::{ScriptFault, Sink, Source};
 use rb_run_threads::run_threads;
-use rb_runs::{run_audit, run_migrate, run_script};
+use rb_runs::{run_audit, run_histories, run_migrate, run_script};
 use std::alloc::Global;
 use std::sync::Wait;
 use std::thread::Threads;
@@ -23,6 +23,8 @@ use std::thread::Threads;
 pub enum Streamed<'a> {
     /// A script was answered.
     Script(Result<u64, ScriptFault>),
+    /// A script's histories were written.
+    Histories(Result<(), ScriptFault>),
     /// Histories were audited.
     Audit(Result<bool, ScriptFault>),
     /// Histories were written again.
@@ -67,6 +69,7 @@ pub fn run_on_streams<'a, H: Threads + Wait + Sync, S: Source, W: Sink>(
 {
     match read_words(alloc, words) {
         Ok(Words::Script) => Ok(Streamed::Script(run_script(alloc, reader, writer))),
+        Ok(Words::Histories) => Ok(Streamed::Histories(run_histories(alloc, reader, writer))),
         Ok(Words::Audit) => Ok(Streamed::Audit(run_audit(alloc, reader, writer))),
         Ok(Words::Migrate) => Ok(Streamed::Migrate(run_migrate(alloc, reader, writer))),
         Ok(

@@ -1,6 +1,7 @@
 # Made by examples/tools/from_help.py from the help of the program.
 complete -c rbbank -f
 complete -c rbbank -n '__fish_use_subcommand' -a script -d 'Answers the commands on standard input, a line of JSON each'
+complete -c rbbank -n '__fish_use_subcommand' -a histories -d 'Runs the commands on standard input as script does, and writes the sites\' histories'
 complete -c rbbank -n '__fish_use_subcommand' -a audit -d 'Says whether one world can have recorded the sites\' histories on standard input'
 complete -c rbbank -n '__fish_use_subcommand' -a migrate -d 'Writes the sites\' histories on standard input again, in the newest version of their lines'
 complete -c rbbank -n '__fish_use_subcommand' -a threads -d 'Runs tellers in threads at the sites of a bank, and writes the sites\' histories'
@@ -9,6 +10,7 @@ complete -c rbbank -n '__fish_use_subcommand' -a help -d 'Print this message or 
 complete -c rbbank -n '__fish_use_subcommand' -s h -l help -d 'Print help'
 complete -c rbbank -n '__fish_use_subcommand' -s V -l version -d 'Print version'
 complete -c rbbank -n '__fish_seen_subcommand_from script' -s h -l help -d 'Print help'
+complete -c rbbank -n '__fish_seen_subcommand_from histories' -s h -l help -d 'Print help'
 complete -c rbbank -n '__fish_seen_subcommand_from audit' -s h -l help -d 'Print help'
 complete -c rbbank -n '__fish_seen_subcommand_from migrate' -s h -l help -d 'Print help'
 complete -c rbbank -n '__fish_seen_subcommand_from threads' -l sites -x -d 'How many sites there are, 2 to 16'
@@ -20,4 +22,4 @@ complete -c rbbank -n '__fish_seen_subcommand_from site' -l journal -r -F -d 'Th
 complete -c rbbank -n '__fish_seen_subcommand_from site' -l new -d 'Makes the file, or takes an empty one; without it the file must be there'
 complete -c rbbank -n '__fish_seen_subcommand_from site' -l resend -x -d 'How many of the last entries have their messages written again, 0 to 100000000; all without it'
 complete -c rbbank -n '__fish_seen_subcommand_from site' -s h -l help -d 'Print help'
-complete -c rbbank -n '__fish_seen_subcommand_from help' -a 'script audit migrate threads site help'
+complete -c rbbank -n '__fish_seen_subcommand_from help' -a 'script histories audit migrate threads site help'
