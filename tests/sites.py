@@ -5,9 +5,9 @@ usage: sites.py [--quiet] PROGRAM      (--quiet prints only what is different)
 
 Which of the operations that are ready at once is applied first; a journal cut at each byte, and with any bytes behind
 its space; a restart after each line; lines one at a time and all at once; many large answers in little memory; a new
-journal where one is there, and none where it has to be; another bank's journal; a folder, a device and a full disk as
-journal; a second process; output that can't be written; wrong words; where strace is there, the order of writes and
-syncs; the pipes that docs/RUNNING.md shows.
+journal where one is there, and none where it has to be; another bank's journal; a damaged one; a folder, a device and a
+full disk as journal; a second process; output that can't be written; wrong words; where strace is there, the order of
+writes and syncs; the pipes that docs/RUNNING.md shows.
 """
 import errno
 import itertools
@@ -122,7 +122,11 @@ def torn(sites):
     for number, tail in enumerate(behind):
         name = f"bytes behind the space, {number}"
         yield name, sites.run(BANK, journal + tail, resend=0) == (b"", "", 0, journal)
-    for number, tail in enumerate([b"", b" ", b' "accounts":[', b" \n" + journal, b" \0\0"]):
+    for number, tail in enumerate([b" ", b"\0", b"\0" * first, b"\0\n{}\n"]):
+        name = f"bytes in place of the space, {number}"
+        yield name, sites.run(BANK, journal[:-1] + tail, resend=0) == (b"", "", 0, journal)
+    # The first write leaves a gate, and behind it up to as many bytes as the configuration's line has.
+    for number, tail in enumerate([b"", b" ", b"\0", b" \0\0", b" " + journal[1:first] + b" ", b"\0" + b"\n" * first]):
         yield f"no line yet, {number}", sites.run(BANK, tail) == (b"", "", 0, journal[:first] + AT_REST)
     # What is behind goes on from the lines that were left.
     answer, errors, status, after = sites.run(BANK + BALANCE, journal[:-30], resend=0)
@@ -244,9 +248,35 @@ def refused_journals(sites):
         before = first + b"\n" + text + AT_REST
         wanted = (b"", f"rbbank: journal line {number}: {fault}\n", 2, before)
         yield f"a journal with {name}", sites.run(BANK, before) == wanted
+    yield from damaged_journals(sites, first, *lines)
     torn_too = first + b"\n" + bad["a wrong reply"][0] + b"{torn"
     wanted = (b"", "rbbank: journal line 2: wrong reply\n", 2, torn_too)
     yield "a journal with a wrong reply and a torn end", sites.run(BANK, torn_too) == wanted
+
+
+def damaged_journals(sites, first, one, two):
+    """Journals with a byte that no crash leaves where a line or the gate should begin."""
+    damaged = {
+        "a blank line": (one + b"\n" + two + AT_REST, 3),
+        "a blank line behind its first": (b"\n" + one + two + AT_REST, 2),
+        "a byte before a line": (one + b"\xef" + two + AT_REST, 3),
+        "another first byte of a line": (one + b"[" + two[1:] + AT_REST, 3),
+        "another byte for its gate": (one + two + b"\t", 4),
+        "a line feed behind its lines": (one + two + b"\n", 4),
+        "notes behind its lines": (one + two + b"some notes\nof mine\n", 4),
+    }
+    for name, (text, number) in damaged.items():
+        before = first + b"\n" + text
+        wanted = (b"", f"rbbank: journal line {number}: damaged\n", 2, before)
+        yield f"a journal with {name}", sites.run(BANK, before) == wanted
+    # A new journal may have a gate and as many bytes as its first line; a file that has more is somebody's.
+    for name, before in [("a space", b" " + b"x" * (len(first) + 2)), ("a NUL", bytes(len(first) + 3)),
+                         ("a space, with lines behind it", b" \n" + first + b"\n" + one + two)]:
+        wanted = (b"", "rbbank: journal line 1: damaged\n", 2, before)
+        yield f"a file that begins with {name}", sites.run(BANK, before) == wanted
+    before = first + b"\n" + two + b"\n" + one
+    wanted = (b"", "rbbank: journal line 2: wrong reply\n", 2, before)
+    yield "a journal with a wrong reply before a blank line", sites.run(BANK, before) == wanted
 
 
 def asked_for(sites):

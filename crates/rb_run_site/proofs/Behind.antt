@@ -11,11 +11,11 @@ use Rattle.rb_run_site.specs.Ends.{AnswersAll, AnswersBehind, IsFullBehind, Runs
 use Rattle.rb_run_site.specs.Faults.{IsOpeningFault}
 use Rattle.rb_run_site.specs.Journals.{SiteAnswers, journal_of}
 use Rattle.rb_run_site.specs.Openings.{OpensSite}
-use Rattle.rb_run_site.specs.Runs.{AreBytesBehind, HasAnswered, IsLeftOrAnswered, IsSiteRun}
+use Rattle.rb_run_site.specs.Runs.{AreBytesBehind, HasAnswered, IsNewOrAnswered, IsSiteRun}
 use Rattle.rb_run_site.specs.Starts.{IsBehind, Starts, WaitsBehind}
 use Rattle.rb_run_site.specs.declared.fault.SiteFault.{SiteFault}
 use Rattle.rb_run_site.specs.declared.fault.SiteFault.TheVariants.{NoConfig, BadConfig, NoSite, AnotherJournal, BadEntry, WrongReply}
-use Rattle.rb_run_site.specs.declared.fault.SiteFault.TheVariants.{NoJournal, JournalThere, InUse}
+use Rattle.rb_run_site.specs.declared.fault.SiteFault.TheVariants.{Damaged, NoJournal, JournalThere, InUse}
 use Rattle.rb_run_site.specs.declared.fault.SiteFault.TheVariants.{BadLine, LongLine, Read, Write, Journal, OutOfMemory}
 
 -- the bytes behind the configuration's line are what waits and what is still to be read
@@ -45,9 +45,9 @@ module _ (me most number : ℕ) (input left : Option (List ℕ)) (file config pe
   }
 
   -- what it may leave at any moment is what the whole run may leave
-  pub run_behind : (output c d : List ℕ) → IsLeftOrAnswered (recovered file) x sends (served_input pending left) output c d
-      → IsSiteRun me most input (recovered file) output c d
-  run_behind output c d (inl at) = inl at
+  pub run_behind : (output c d : List ℕ) → IsNewOrAnswered (recovered file) x sends (served_input pending left) output c d
+      → IsSiteRun me most input file output c d
+  run_behind output c d (inl still) = inl (inr (record { start = x; starts = starts; still_new = still }))
   run_behind output c d (inr has) = inr (record {
     start = x;
     starts = starts;
@@ -96,6 +96,7 @@ ran A B stops (Err NoSite) so a = absurd a
 ran A B stops (Err AnotherJournal) so a = absurd a
 ran A B stops (Err (BadEntry k)) so a = absurd a
 ran A B stops (Err (WrongReply k)) so a = absurd a
+ran A B stops (Err (Damaged k)) so a = absurd a
 ran A B stops (Err Write) so a = tt
 ran A B stops (Err Journal) so a = tt
 ran A B stops (Err OutOfMemory) so a = tt
@@ -112,6 +113,7 @@ stopped_there A stops NoSite is at = at
 stopped_there A stops AnotherJournal is at = at
 stopped_there A stops (BadEntry k) is at = at
 stopped_there A stops (WrongReply k) is at = at
+stopped_there A stops (Damaged k) is at = at
 stopped_there A stops (LongLine k) is at = inr at
 stopped_there A stops Read is at = inr at
 stopped_there A stops OutOfMemory is at = tt

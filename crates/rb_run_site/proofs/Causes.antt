@@ -11,7 +11,7 @@ use Rattle.rb_run_site.specs.Openings.{EndsFile, EndsNode, IsOpeningCause}
 use Rattle.rb_run_site.specs.Starts.{IsOf}
 use Rattle.rb_run_site.specs.declared.fault.SiteFault.{SiteFault}
 use Rattle.rb_run_site.specs.declared.fault.SiteFault.TheVariants.{NoConfig, BadConfig, NoSite, AnotherJournal, BadEntry, WrongReply}
-use Rattle.rb_run_site.specs.declared.fault.SiteFault.TheVariants.{LongLine, Read, OutOfMemory}
+use Rattle.rb_run_site.specs.declared.fault.SiteFault.TheVariants.{Damaged, LongLine, Read, OutOfMemory}
 use Rattle.rb_run_site.proofs.Configured.{next_line}
 
 -- what waits at the front is the input's first line
@@ -52,6 +52,7 @@ module _ (me : ℕ) (input left : Option (List ℕ)) (file : List ℕ) (number :
   node_cause AnotherJournal ends = absurd ends
   node_cause (BadEntry n) ends = absurd ends
   node_cause (WrongReply n) ends = absurd ends
+  node_cause (Damaged n) ends = absurd ends
   node_cause (LongLine n) ends = absurd ends
   node_cause Read ends = absurd ends
   node_cause _ ends = tt
@@ -76,6 +77,12 @@ module _ (me : ℕ) (input left : Option (List ℕ)) (file : List ℕ) (number :
     line = line;
     first = first;
     holds = (old.settings, is.configured, is.within, subst (λ x. EndsFile x file (WrongReply n)) begins ends);
+  }
+  file_cause old is begins (Damaged n) ends = record {
+    number = number;
+    line = line;
+    first = first;
+    holds = (old.settings, is.configured, is.within, subst (λ x. EndsFile x file (Damaged n)) begins ends);
   }
   file_cause old is begins NoConfig ends = absurd ends
   file_cause old is begins (BadConfig n) ends = absurd ends

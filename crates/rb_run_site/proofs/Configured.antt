@@ -59,5 +59,6 @@ opened config me most old new file first sends is begins o = record {
   read = o.read (first_read old me begins);
   journal = o.journal;
   begins = o.begins;
+  undamaged = o.undamaged;
   sends_are = o.sends_are;
 }

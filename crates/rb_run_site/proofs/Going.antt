@@ -1,14 +1,14 @@
 -- A site goes on over its journal: the configuration's line, what is sent again, and then turns.
 use Rattle.std.proofs.Common.{◌≡◌, inl, inr, ℕ, ◌+◌, List, [], ◌∷◌, ◌++◌, length, take, Option, Some, None, Result}
-use Rattle.std.proofs.Common.{refl, sym, ap, subst, ◌∙◌, append_assoc, append-nil}
+use Rattle.std.proofs.Common.{refl, sym, ap, subst, ◌∙◌, append_assoc, append-nil, arith}
 use Rattle.std.specs.Prelude.{IfSome}
 use Rattle.std.proofs.Math.Seq.{take-append-add}
 use Rattle.serde_json.specs.Written.{compact_text}
 use Rattle.rb_money.specs.Settings.{IsConfigured}
 use Rattle.rb_journal.specs.Host.{AddsPrefix}
-use Rattle.rb_journal.specs.Journal.{IsDurable}
-use Rattle.rb_journal.specs.Lines.{IsBatch, recovered}
-use Rattle.rb_journal.proofs.Public.Lines.{line_alone, still_lines}
+use Rattle.rb_journal.specs.Journal.{HasClosedGate, IsAppended, IsDurable, IsLeftAs, IsRepaired}
+use Rattle.rb_journal.specs.Lines.{IsBatch, IsIntact, at_rest, recovered}
+use Rattle.rb_journal.proofs.Public.Lines.{line_alone, recovered-append, short_nothing, still_lines}
 use Rattle.rb_site.specs.Seen.{SeenSite}
 use Rattle.rb_history.specs.ConfigLines.{config_json}
 use Rattle.rb_history.specs.OneLine.{ConfigsAreLines}
@@ -21,11 +21,13 @@ use Rattle.rb_lines.specs.Lines.{lines_of}
 use Rattle.rb_run_site.specs.Ends.{AnswersAll}
 use Rattle.rb_run_site.specs.Faults.{fault_of_serve}
 use Rattle.rb_run_site.specs.Journals.{SiteAnswers, journal_head, journal_of, lines_of_entries}
+use Rattle.rb_run_site.specs.Files.{IsNew, IsUndamaged}
 use Rattle.rb_run_site.specs.Openings.{IsToBegin}
-use Rattle.rb_run_site.specs.Runs.{IsLeftOrAnswered}
+use Rattle.rb_run_site.specs.Runs.{HasAnswered, IsNewOrAnswered}
 use Rattle.rb_run_site.specs.Starts.{IsJournalOf}
 use Rattle.rb_run_site.specs.declared.fault.SiteFault.TheVariants.{Journal as DiskFailed}
 use Rattle.rb_run_site.proofs.EntryLines.{config_is_line}
+use Rattle.rb_run_site.proofs.NewFiles.{closed_new, repaired_new}
 
 -- what a journal is to begin with is whole lines, and with them it is the site's
 pub record Begins (lines : List (List ℕ)) (x : SeenSite) (first : List ℕ) : Type 0 where
@@ -66,24 +68,66 @@ first_none : (input : Option (List ℕ)) → IfSome input (AreFirst {S = SeenSit
 first_none None = tt
 first_none (Some all) = (not_blank (lines_of all), refl)
 
--- while the journal begins and what is sent again goes out, no turn is made
-pub begun : (lines : List (List ℕ)) (x : SeenSite) (first sends reply : List ℕ) (input : Option (List ℕ)) (output c d : List ℕ)
-    → Begins lines x first → reply ≡ sends → IsDurable lines (recovered first) output reply c d
-    → IsLeftOrAnswered lines x sends input output c d
-begun lines x first sends reply input output c d is same (inl at) = inl at
-begun lines x first sends reply input output c d is same (inr at) = inr (record {
+-- the file is the site's journal, and no turn is made
+no_turn : (x : SeenSite) (sends : List ℕ) (input : Option (List ℕ)) (output c d : List ℕ) → recovered c ≡ journal_of x → IsIntact c
+    → AddsPrefix output sends d → HasAnswered x sends input output c d
+no_turn x sends input output c d same intact some = record {
   turns = [];
   are = tt;
   in_order = first_none input;
-  lines_are = at.0 ∙ is.whole ∙ sym (append-nil (journal_of x));
-  output_is = subst (λ l. AddsPrefix output l d) (same ∙ sym (append-nil sends)) at.1;
-})
+  lines_are = same ∙ sym (append-nil (journal_of x));
+  intact = intact;
+  output_is = subst (λ l. AddsPrefix output l d) (sym (append-nil sends)) some;
+}
+
+-- nothing was put out
+silent : (output sends d : List ℕ) → d ≡ output → AddsPrefix output sends d
+silent output sends d same = (0, same ∙ sym (append-nil output))
+
+-- while the file is opened, a new journal is still new, and any other is the site's
+pub opened : (file : List ℕ) (x : SeenSite) (first sends : List ℕ) (input : Option (List ℕ)) (output c d : List ℕ)
+    → IsToBegin (recovered file) x first → IsUndamaged file (journal_head x.settings) → IsLeftAs (recovered file) output c d
+    → IsRepaired file c → (IsIntact file → IsIntact c) → IsNewOrAnswered (recovered file) x sends input output c d
+opened file x first sends input output c d begin (inl new) left repaired ok =
+    inl (record { none = new.0; is_new = repaired_new file c (journal_head x.settings) new repaired; silent = left.1 })
+opened file x first sends input output c d (inl none) (inr some) left repaired ok = absurd (some.0 none.0)
+opened file x first sends input output c d (inr whole) (inr some) left repaired ok =
+    inr (no_turn x sends input output c d (left.0 ∙ whole.0) (ok some.1) (silent output sends d left.1))
+
+-- a file at rest is read as its lines
+rest_is : (first : List ℕ) → recovered (at_rest (recovered first)) ≡ recovered first
+rest_is first = recovered-append first (32 ∷ []) ∙ ap (λ ls. recovered first ++ ls) (short_nothing (32 ∷ []) (omega arith))
+    ∙ append-nil (recovered first)
+
+-- while the journal begins, a new one is still new, or it is the site's
+begun_file : (lines : List (List ℕ)) (x : SeenSite) (first sends : List ℕ) (input : Option (List ℕ)) (output c d : List ℕ)
+    → Begins lines x first → IsToBegin lines x first → recovered c ≡ lines → d ≡ output → IsAppended lines first c → IsIntact c
+    → IsNewOrAnswered lines x sends input output c d
+begun_file lines x first sends input output c d is (inl none) same still (inl shut) intact =
+    let new : IsNew c first = closed_new c first (subst (λ ls. HasClosedGate ls (length first) c) none.0 shut) in
+    inl (record { none = none.0; is_new = subst (λ f. IsNew c f) none.1 new; silent = still })
+begun_file lines x first sends input output c d is (inl none) same still (inr whole) intact =
+    let lines_are : recovered c ≡ journal_of x =
+    ap recovered whole ∙ ap (λ ls. recovered (at_rest (ls ++ recovered first))) none.0 ∙ rest_is first
+    ∙ sym (ap (λ ls. ls ++ recovered first) none.0) ∙ is.whole in
+    inr (no_turn x sends input output c d lines_are intact (silent output sends d still))
+begun_file lines x first sends input output c d is (inr whole) same still appended intact =
+    inr (no_turn x sends input output c d (same ∙ whole.0) intact (silent output sends d still))
+
+-- and while what is sent again goes out, no turn is made
+pub begun : (lines : List (List ℕ)) (x : SeenSite) (first sends reply : List ℕ) (input : Option (List ℕ)) (output c d : List ℕ)
+    → Begins lines x first → IsToBegin lines x first → reply ≡ sends → IsDurable lines (recovered first) output reply c d
+    → IsAppended lines first c → IsIntact c → IsNewOrAnswered lines x sends input output c d
+begun lines x first sends reply input output c d is begin same (inl at) appended intact =
+    begun_file lines x first sends input output c d is begin at.0 at.1 appended intact
+begun lines x first sends reply input output c d is begin same (inr at) appended intact =
+    inr (no_turn x sends input output c d (at.0 ∙ is.whole) intact (subst (λ l. AddsPrefix output l d) same at.1))
 
 -- turns behind what was sent again
 pub answered : (lines : List (List ℕ)) (x : SeenSite) (sends : List ℕ) (input : Option (List ℕ)) (output : List ℕ)
     (mid : List (List ℕ)) (so_far c d : List ℕ) → journal_of x ≡ mid → so_far ≡ output ++ sends
-    → IsRunOfTurns SiteAnswers input x mid so_far c d → IsLeftOrAnswered lines x sends input output c d
-answered lines x sends input output mid so_far c d same said run =
+    → IsRunOfTurns SiteAnswers input x mid so_far c d → IsIntact c → IsNewOrAnswered lines x sends input output c d
+answered lines x sends input output mid so_far c d same said run intact =
     let run : IsRunOfTurns SiteAnswers input x (journal_of x) (output ++ sends) c d =
     subst (λ l. IsRunOfTurns SiteAnswers input x (journal_of x) l c d) said
     (subst (λ ls. IsRunOfTurns SiteAnswers input x ls so_far c d) (sym same) run) in
@@ -92,6 +136,7 @@ answered lines x sends input output mid so_far c d same said run =
       are = run.are;
       in_order = run.in_order;
       lines_are = run.lines_are;
+      intact = intact;
       output_is = further output sends (texts run.turns) d run.output_is;
     })
 
@@ -110,10 +155,10 @@ all_answered x sends number input left output now said mid so_far ended same is 
 
 -- the same lines and output at the start
 pub from_same : (lines : List (List ℕ)) (x : SeenSite) (sends : List ℕ) (input : Option (List ℕ)) (output : List ℕ)
-    (mid : List (List ℕ)) (so_far c d : List ℕ) → mid ≡ lines → so_far ≡ output → IsLeftOrAnswered mid x sends input so_far c d
-    → IsLeftOrAnswered lines x sends input output c d
+    (mid : List (List ℕ)) (so_far c d : List ℕ) → mid ≡ lines → so_far ≡ output → IsNewOrAnswered mid x sends input so_far c d
+    → IsNewOrAnswered lines x sends input output c d
 from_same lines x sends input output mid so_far c d same said run =
-    subst (λ l. IsLeftOrAnswered lines x sends input l c d) said (subst (λ ls. IsLeftOrAnswered ls x sends input so_far c d) same run)
+    subst (λ l. IsNewOrAnswered lines x sends input l c d) said (subst (λ ls. IsNewOrAnswered ls x sends input so_far c d) same run)
 
 -- only a failed journal is reported as one
 pub only_journal : (f : ServeFault) → fault_of_serve f ≡ DiskFailed → f ≡ JournalStopped

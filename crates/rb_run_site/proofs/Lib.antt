@@ -4,6 +4,7 @@ mod Causes
 mod Configured
 mod EntryLines
 mod Going
+mod NewFiles
 mod Stopped
 mod Opened
 mod Buffered

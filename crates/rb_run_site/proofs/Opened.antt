@@ -1,7 +1,7 @@
 -- A file's entries, replayed.
 use Rattle.std.proofs.Common.{◌≡◌, ◌-◌, ℕ, List, [], ◌∷◌, ◌++◌, length, refl, sym, ap, subst, ◌∙◌, inr}
 use Rattle.std.proofs.lemmas.List.{length-map}
-use Rattle.rb_journal.specs.Lines.{recovered}
+use Rattle.rb_journal.specs.Lines.{IsIntact, recovered}
 use Rattle.rb_site.specs.Events.{first_site}
 use Rattle.rb_site.specs.Seen.{IsReplayed, SeenSite, first_seen, state_of}
 use Rattle.rb_site.specs.Histories.{events_of}
@@ -15,11 +15,11 @@ use Rattle.rb_run_site.proofs.EntryLines.{fed}
 use Rattle.rb_run_site.proofs.Stepped.{all_replayed}
 use Rattle.rb_run_site.proofs.Turned.{me_kept, settings_kept}
 
--- the file's lines are replayed: it is the journal of the site after them
+-- the lines of a file that isn't damaged are replayed: it is the journal of the site after them
 pub replayed_file : (old new : SeenSite) (file entries sends sends_after : List ℕ) (most count : ℕ) → old ≡ first_seen old.settings old.me
-    → BeginsWith file (journal_head old.settings) entries → count ≡ length (recovered entries) → sends ≡ []
+    → IsIntact file → BeginsWith file (journal_head old.settings) entries → count ≡ length (recovered entries) → sends ≡ []
     → ReplaysLines old new (recovered entries) (count - most) sends sends_after → OpensFile old new file [] sends_after most
-replayed_file old new file entries sends sends_after most count first begins counted none r =
+replayed_file old new file entries sends sends_after most count first intact begins counted none r =
     let s : new.settings ≡ old.settings = ap (λ (x : SeenSite). x.settings) r.goes_on.after ∙ settings_kept old (events_of r.entries) in
     let m : new.me ≡ old.me = ap (λ (x : SeenSite). x.me) r.goes_on.after ∙ me_kept old (events_of r.entries) in
     let has : new.entries ≡ r.entries = r.goes_on.entries ∙ ap (λ (x : SeenSite). x.entries ++ r.entries) first in
@@ -39,6 +39,7 @@ replayed_file old new file entries sends sends_after most count first begins cou
           (subst (λ c. Each (IsReadBack c old.me) r.entries) (sym s) r.read));
       journal = inr journal;
       begins = inr (journal, refl);
+      undamaged = inr (λ nothing. absurd (cc (journal, nothing)), intact);
       sends_are = r.sends_are ∙ ap (λ l. l ++ resent old.settings (state_of old) (count - most) r.entries) none
           ∙ ap (λ t. resent old.settings t (count - most) r.entries) (ap state_of first)
           ∙ ap (λ n. resent old.settings (first_site old.me) (n - most) r.entries) many

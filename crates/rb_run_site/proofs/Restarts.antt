@@ -10,7 +10,7 @@ use Rattle.serde_json.specs.Written.{compact_text}
 use Rattle.rb_money.specs.Settings.{IsConfigured, Settings}
 use Rattle.rb_history.specs.Configurations.{config_at, config_on}
 use Rattle.rb_history.specs.Laws.{ReadConfigsAreConfigured}
-use Rattle.rb_journal.specs.Lines.{recovered}
+use Rattle.rb_journal.specs.Lines.{IsIntact, recovered}
 use Rattle.rb_site.specs.declared.entry.Entry.{Entry}
 use Rattle.rb_site.specs.Seen.{IsReplayed, SeenSite, first_seen}
 use Rattle.rb_site.proofs.Public.Seen.{settings-next}
@@ -21,13 +21,14 @@ use Rattle.rb_node.specs.Laws.{AnswersAreReplayed, AreReplayed}
 use Rattle.rb_node.specs.Replays.{IsReadBack, IsReadWhole}
 use Rattle.rb_journal.specs.Turns.{AreTurns, Turn, lines_added, state_after}
 use Rattle.rb_run_site.specs.Journals.{SiteAnswers, journal_head, journal_of, lines_of_entries}
+use Rattle.rb_run_site.specs.Files.{IsNew}
 use Rattle.rb_run_site.specs.Openings.{EndsFile}
-use Rattle.rb_run_site.specs.Restarts.{Again, HasRestarted, Idle, Once, RestartedRunsAreOne, RestartsAreTaken, RestartsGoOn}
+use Rattle.rb_run_site.specs.Restarts.{Again, HasRestarted, NewJournalsAreTaken, Once, RestartedRunsAreOne, RestartsAreTaken, RestartsGoOn}
 use Rattle.rb_run_site.specs.Runs.{HasRun}
 use Rattle.rb_run_site.specs.Starts.{Starts}
 use Rattle.rb_run_site.proofs.EntryLines.{fed}
 use Rattle.rb_run_site.proofs.Stepped.{TakesTurns, are_steps, turn_taken, turns_taken}
-use Rattle.rb_run_site.proofs.Taken.{not_at_fault, same_entry}
+use Rattle.rb_run_site.proofs.Taken.{new_not_at_fault, not_at_fault, same_entry}
 use Rattle.rb_run_site.proofs.Turned.{me_next}
 
 -- ---- turns are read back
@@ -130,6 +131,7 @@ record Whole (me : ℕ) (start : SeenSite) (turns : List (Turn SeenSite)) (file 
   read : IsReadWhole start
   are : AreTurns SiteAnswers start turns
   lines_are : recovered file ≡ journal_of start ++ lines_added turns
+  intact : IsIntact file
 
 -- a file that isn't without lines is the journal of the site that a run starts with
 its_journal : (me : ℕ) (input : Option (List ℕ)) (lines : List (List ℕ)) (x y : SeenSite) → Starts me input lines x
@@ -174,6 +176,7 @@ longer laws me most input start turns file output c d w run =
       lines_are = run.answered.lines_are ∙ ap (λ y. journal_of y ++ added) same ∙ ap (λ ls. ls ++ added) all.journal
           ∙ append_assoc (journal_of start) (lines_added turns) added
           ∙ ap (λ ls. journal_of start ++ ls) (sym (flat_map-append (λ (t : Turn SeenSite). t.added) turns us));
+      intact = run.answered.intact;
     }
 
 whole : RestartLaws → (me : ℕ) (start : SeenSite) (turns : List (Turn SeenSite)) (file : List ℕ) → HasRestarted me start turns file
@@ -185,19 +188,10 @@ whole laws me start turns file (Once run) = record {
   read = run.starts.read;
   are = run.answered.are;
   lines_are = run.answered.lines_are;
+  intact = run.answered.intact;
 }
 whole laws me start turns file (Again {turns = ts} {file = f} {most = k} {input = i} {output = o} {d = d} before run) =
     longer laws me k i start ts f o file d (whole laws me start ts f before) run
-whole laws me start turns file (Idle {file = f} before same) =
-    let w = whole laws me start turns f before in
-    record {
-      configured = w.configured;
-      number = w.number;
-      replayed = w.replayed;
-      read = w.read;
-      are = w.are;
-      lines_are = same ∙ w.lines_are;
-    }
 
 -- a run over the file that the last crash left starts with the site that the turns led to
 pub goes_on : RestartLaws → RestartsGoOn
@@ -220,5 +214,12 @@ is_taken laws me start turns file runs config number fault of is (s, on, low, en
     let number_is : me ≡ last.me = sym (all.me ∙ w.number) in
     let read = turns_read laws.replays start turns w.replayed w.are w.read in
     let same_settings = subst (λ c. EndsFile (first_seen c me) file fault) settings ends in
-    not_at_fault last file (w.lines_are ∙ sym all.journal) all.replayed read fault is
+    not_at_fault last file (w.lines_are ∙ sym all.journal) w.intact all.replayed read fault is
     (subst (λ i. EndsFile (first_seen last.settings i) file fault) number_is same_settings)
+
+-- nor is the one that a crash left of a new journal
+pub new_is_taken : NewJournalsAreTaken
+new_is_taken me input lines output c d run config number fault of is (s, on, low, ends) =
+    let same : Some s ≡ Some run.start.settings = sym on ∙ of in
+    let settings : s ≡ run.start.settings = cc in
+    new_not_at_fault (first_seen s me) c (subst (λ t. IsNew c (journal_head t)) (sym settings) run.still_new.is_new) fault is ends

@@ -233,9 +233,8 @@ are_steps x turns file is are lines =
     }
 
 -- what has run is steps
-pub stepped_run : (me most : ℕ) (input : Option (List ℕ)) (lines : List (List ℕ)) (output c d : List ℕ)
-    → IsSiteRun me most input lines output c d
-    → IsRunOfSteps me most input lines output c d
-stepped_run me most input lines output c d (inl at) = inl at
-stepped_run me most input lines output c d (inr run) =
+pub stepped_run : (me most : ℕ) (input : Option (List ℕ)) (file output c d : List ℕ) → IsSiteRun me most input file output c d
+    → IsRunOfSteps me most input file output c d
+stepped_run me most input file output c d (inl at) = inl at
+stepped_run me most input file output c d (inr run) =
     inr (run, are_steps run.start run.answered.turns c run.starts.replayed run.answered.are run.answered.lines_are)

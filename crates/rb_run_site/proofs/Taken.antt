@@ -1,13 +1,13 @@
 -- The file that a crash left is never at fault.
 use Rattle.std.proofs.Common.{◌≡◌, ◌≤◌, ℕ, true, List, [], ◌∷◌, ◌++◌, length, refl, sym, ap, subst, ◌∙◌, inl, inr, arith}
-use Rattle.std.proofs.Common.{length-append}
+use Rattle.std.proofs.Common.{◌+◌, length-append, ⊎_elim}
 use Rattle.std.specs.Prelude.{nat_le}
 use Rattle.std.proofs.lemmas.Bool.Decides.{nat_tests}
 use Rattle.std.proofs.lemmas.List.{append_cancel_right}
 use Rattle.json.proofs.Found.{Some_inj}
 use Rattle.serde_json.specs.Written.{compact_text}
 use Rattle.rb_money.specs.Settings.{Settings}
-use Rattle.rb_journal.specs.Lines.{recovered}
+use Rattle.rb_journal.specs.Lines.{IsIntact, recovered}
 use Rattle.rb_site.specs.declared.entry.Entry.{Entry}
 use Rattle.rb_site.specs.Events.{ModelSite, after_event, after_events, first_site, is_full, reply_to}
 use Rattle.rb_site.specs.Histories.{events_of}
@@ -16,13 +16,13 @@ use Rattle.rb_site.proofs.Public.Outcomes.{is_full-state}
 use Rattle.rb_history.specs.Entries.{entry_json, entry_on}
 use Rattle.rb_history.specs.Fits.{Each}
 use Rattle.rb_node.specs.Replays.{IsReadBack, IsReadWhole}
-use Rattle.rb_run_site.specs.Files.{BeginsWith}
+use Rattle.rb_run_site.specs.Files.{BeginsClosed, BeginsWith, IsNew}
 use Rattle.rb_run_site.specs.Journals.{journal_head, journal_of, lines_of_entries}
 use Rattle.rb_run_site.specs.Openings.{EndsFile}
 use Rattle.rb_run_site.specs.Replays.{IsNoEntry, IsOtherwise, StopsReplay}
 use Rattle.rb_run_site.specs.Restarts.{IsFileFault}
 use Rattle.rb_run_site.specs.declared.fault.SiteFault.{SiteFault}
-use Rattle.rb_run_site.specs.declared.fault.SiteFault.TheVariants.{AnotherJournal, BadEntry, WrongReply}
+use Rattle.rb_run_site.specs.declared.fault.SiteFault.TheVariants.{AnotherJournal, BadEntry, Damaged, WrongReply}
 use Rattle.rb_run_site.proofs.EntryLines.{fed}
 use Rattle.rb_run_site.proofs.Configured.{first_replayed}
 use Rattle.rb_run_site.proofs.Replayed.{state_after}
@@ -157,12 +157,27 @@ no_wrong_reply x file entries number w begins stop = by stop.stops
     by (e, line, read, inl full) = not_full x mid ys at.next at.rest w.replayed was s stop.goes_on.entries at.is full
     by (e, line, read, inr other) = other (given e (equal e line read))
 
--- so the file isn't at fault
-pub not_at_fault : (x : SeenSite) (file : List ℕ) → recovered file ≡ journal_of x → IsReplayed x → IsReadWhole x → (fault : SiteFault)
-    → IsFileFault fault → EndsFile (first_seen x.settings x.me) file fault → ⊥
-not_at_fault x file lines is read AnotherJournal of ends = ends.0 _ lines
-not_at_fault x file lines is read (BadEntry n) of (entries, begins, stop) =
+-- so the file isn't at fault, if it isn't damaged
+pub not_at_fault : (x : SeenSite) (file : List ℕ) → recovered file ≡ journal_of x → IsIntact file → IsReplayed x → IsReadWhole x
+    → (fault : SiteFault) → IsFileFault fault → EndsFile (first_seen x.settings x.me) file fault → ⊥
+not_at_fault x file lines intact is read AnotherJournal of ends = ends.0 _ lines
+not_at_fault x file lines intact is read (Damaged n) of (inl ends) = absurd (cc (lines, ends.1.0))
+not_at_fault x file lines intact is read (Damaged n) of (inr ends) = ends.damaged intact
+not_at_fault x file lines intact is read (BadEntry n) of (entries, begins, stop) =
     no_bad_entry x file entries n (record { lines_are = lines; replayed = is; read = read }) begins stop
-not_at_fault x file lines is read (WrongReply n) of (entries, begins, stop) =
+not_at_fault x file lines intact is read (WrongReply n) of (entries, begins, stop) =
     no_wrong_reply x file entries n (record { lines_are = lines; replayed = is; read = read }) begins stop
-not_at_fault x file lines is read _ of ends = absurd of
+not_at_fault x file lines intact is read _ of ends = absurd of
+
+-- nor is a new journal
+pub new_not_at_fault : (old : SeenSite) (file : List ℕ) → IsNew file (journal_head old.settings) → (fault : SiteFault) → IsFileFault fault
+    → EndsFile old file fault → ⊥
+new_not_at_fault old file (none, is) AnotherJournal of ends =
+    let (some, other) = ends.1 none in
+    ⊎_elim some (λ (new : BeginsClosed file × (length file ≤ length (journal_head old.settings) + 1)). other new.0) is
+new_not_at_fault old file (none, inl is) (Damaged n) of (inl ends) = subst BeginsClosed is ends.1.1
+new_not_at_fault old file (none, inr is) (Damaged n) of (inl ends) = omega (arith, is.1, ends.1.2)
+new_not_at_fault old file (none, is) (Damaged n) of (inr ends) = absurd (cc (none, ends.lines_are))
+new_not_at_fault old file (none, is) (BadEntry n) of (entries, begins, stop) = absurd (cc (none, begins.0))
+new_not_at_fault old file (none, is) (WrongReply n) of (entries, begins, stop) = absurd (cc (none, begins.0))
+new_not_at_fault old file new _ of ends = absurd of

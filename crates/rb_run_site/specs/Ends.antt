@@ -12,7 +12,7 @@ use Rattle.rb_run_site.specs.Runs.{AreBytesBehind}
 use Rattle.rb_run_site.specs.Starts.{Starts, sent_again}
 use Rattle.rb_run_site.specs.declared.fault.SiteFault.{SiteFault}
 use Rattle.rb_run_site.specs.declared.fault.SiteFault.TheVariants.{NoConfig, BadConfig, NoSite, AnotherJournal, BadEntry, WrongReply}
-use Rattle.rb_run_site.specs.declared.fault.SiteFault.TheVariants.{NoJournal, JournalThere, InUse}
+use Rattle.rb_run_site.specs.declared.fault.SiteFault.TheVariants.{Damaged, NoJournal, JournalThere, InUse}
 use Rattle.rb_run_site.specs.declared.fault.SiteFault.TheVariants.{BadLine, LongLine, Read, Write, Journal, OutOfMemory}
 
 -- these were the turns of a site: their entries are in the journal and all their text was put out, behind what was sent
@@ -62,6 +62,7 @@ RunsTo answers stops (Err NoSite) = stops NoSite
 RunsTo answers stops (Err AnotherJournal) = stops AnotherJournal
 RunsTo answers stops (Err (BadEntry k)) = stops (BadEntry k)
 RunsTo answers stops (Err (WrongReply k)) = stops (WrongReply k)
+RunsTo answers stops (Err (Damaged k)) = stops (Damaged k)
 RunsTo answers stops (Err Write) = Unit {0}
 RunsTo answers stops (Err Journal) = Unit {0}
 RunsTo answers stops (Err OutOfMemory) = Unit {0}

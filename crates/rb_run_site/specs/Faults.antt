@@ -5,7 +5,7 @@ use Rattle.rb_journal.specs.declared.fault.ServeFault.TheVariants.{BadLine as Ba
 use Rattle.rb_journal.specs.declared.fault.ServeFault.TheVariants.{Write as NotWritten, Journal as DiskFailed, OutOfMemory as NoMemory}
 use Rattle.rb_run_site.specs.declared.fault.SiteFault.{SiteFault}
 use Rattle.rb_run_site.specs.declared.fault.SiteFault.TheVariants.{NoConfig, BadConfig, NoSite, AnotherJournal, BadEntry, WrongReply}
-use Rattle.rb_run_site.specs.declared.fault.SiteFault.TheVariants.{NoJournal, JournalThere, InUse}
+use Rattle.rb_run_site.specs.declared.fault.SiteFault.TheVariants.{Damaged, NoJournal, JournalThere, InUse}
 use Rattle.rb_run_site.specs.declared.fault.SiteFault.TheVariants.{BadLine, LongLine, Read, Write, Journal, OutOfMemory}
 
 -- a fault of a run over lines is one of a site's
@@ -26,6 +26,7 @@ IsOpeningFault NoSite = Unit {0}
 IsOpeningFault AnotherJournal = Unit {0}
 IsOpeningFault (BadEntry n) = Unit {0}
 IsOpeningFault (WrongReply n) = Unit {0}
+IsOpeningFault (Damaged n) = Unit {0}
 IsOpeningFault (LongLine n) = Unit {0}
 IsOpeningFault Read = Unit {0}
 IsOpeningFault OutOfMemory = Unit {0}
@@ -52,6 +53,7 @@ site_reason_of NoSite = codes "no such site"
 site_reason_of AnotherJournal = codes "another bank's journal"
 site_reason_of (BadEntry n) = codes "journal line " ++ decimal n ++ codes ": bad line"
 site_reason_of (WrongReply n) = codes "journal line " ++ decimal n ++ codes ": wrong reply"
+site_reason_of (Damaged n) = codes "journal line " ++ decimal n ++ codes ": damaged"
 site_reason_of NoJournal = codes "no journal"
 site_reason_of JournalThere = codes "there is a journal"
 site_reason_of InUse = codes "journal is in use"
@@ -72,6 +74,7 @@ site_status_of NoSite = 2
 site_status_of AnotherJournal = 2
 site_status_of (BadEntry n) = 2
 site_status_of (WrongReply n) = 2
+site_status_of (Damaged n) = 2
 site_status_of NoJournal = 2
 site_status_of JournalThere = 2
 site_status_of InUse = 2

@@ -1,19 +1,20 @@
 -- A site that is opened over a file, of which nothing is changed yet.
-use Rattle.std.specs.Prelude.{◌≡◌, ◌⊎◌, ◌≤◌, ◌<◌, ℕ, List, [], ◌∷◌, Option, Some, None, IfSome}
+use Rattle.std.specs.Prelude.{◌≡◌, ◌⊎◌, ◌≤◌, ◌<◌, ◌+◌, ℕ, List, [], ◌∷◌, length, Option, Some, None, IfSome}
 use Rattle.rb_money.specs.Settings.{Settings}
 use Rattle.rb_history.specs.Configurations.{config_on}
-use Rattle.rb_journal.specs.Lines.{recovered}
+use Rattle.rb_journal.specs.Lines.{IsDamaged, recovered}
 use Rattle.rb_lines.specs.Lines.{lines_of}
 use Rattle.rb_journal.specs.Turns.{not_blank}
+use Rattle.rb_site.specs.declared.entry.Entry.{Entry}
 use Rattle.rb_site.specs.Seen.{IsReplayed, SeenSite, first_seen}
 use Rattle.rb_node.specs.Replays.{IsReadWhole}
-use Rattle.rb_run_site.specs.Journals.{journal_head, journal_of}
-use Rattle.rb_run_site.specs.Files.{BeginsWith, IsAnother}
+use Rattle.rb_run_site.specs.Journals.{journal_head, journal_of, lines_of_entries}
+use Rattle.rb_run_site.specs.Files.{BeginsWith, IsAnother, IsNoBeginning, IsUndamaged}
 use Rattle.rb_run_site.specs.FirstLines.{HasReadBlanks, IsBehindBlanks, IsLongFirst}
-use Rattle.rb_run_site.specs.Replays.{EndsReplay}
+use Rattle.rb_run_site.specs.Replays.{EndsReplay, GoesOnBy}
 use Rattle.rb_run_site.specs.declared.fault.SiteFault.{SiteFault}
 use Rattle.rb_run_site.specs.declared.fault.SiteFault.TheVariants.{NoConfig, BadConfig, NoSite, AnotherJournal, BadEntry, WrongReply}
-use Rattle.rb_run_site.specs.declared.fault.SiteFault.TheVariants.{LongLine, Read, OutOfMemory}
+use Rattle.rb_run_site.specs.declared.fault.SiteFault.TheVariants.{Damaged, LongLine, Read, OutOfMemory}
 use Rattle.rb_run_site.specs.Starts.{IsJournalOf, IsOf, sent_again}
 
 -- the line that a journal is still to begin with: the configuration's, if it has no line
@@ -28,6 +29,7 @@ pub record OpensFile (old new : SeenSite) (file first sends : List ℕ) (most : 
   pub read : IsReadWhole old → IsReadWhole new
   pub journal : IsJournalOf (recovered file) new
   pub begins : IsToBegin (recovered file) new first
+  pub undamaged : IsUndamaged file (journal_head new.settings)
   pub sends_are : sends ≡ sent_again most new
 
 -- why a site of a line isn't opened: the line, of this number, is no configuration; or it has no such site
@@ -37,9 +39,21 @@ EndsNode line number me NoSite = (s : Settings) × (config_on line ≡ Some s) �
 EndsNode line number me OutOfMemory = Unit {0}
 EndsNode line number me _ = ⊥
 
--- why a file isn't replayed: it is another's, or a line of its entries isn't the site's next
+-- the file's whole lines are all replayed, and behind them, at the place of the line of this number or of the gate, is a
+-- byte that no crash leaves there
+pub record IsDamagedBehind (old : SeenSite) (file : List ℕ) (number : ℕ) : Type 0 where
+  pub entries : List Entry
+  pub new : SeenSite
+  pub goes_on : GoesOnBy old new entries
+  pub lines_are : recovered file ≡ journal_head old.settings ∷ lines_of_entries old.settings old.me entries
+  pub damaged : IsDamaged file
+  pub number_is : number ≡ length (recovered file) + 1
+
+-- why a file isn't replayed: it is another's; a line of its entries isn't the site's next; or it is damaged, at its
+-- beginning or behind its whole lines
 abbrev pub EndsFile : SeenSite → List ℕ → SiteFault → Type 0
 EndsFile old file AnotherJournal = IsAnother file (journal_head old.settings)
+EndsFile old file (Damaged n) = ((n ≡ 1) × IsNoBeginning file (journal_head old.settings)) ⊎ IsDamagedBehind old file n
 EndsFile old file (BadEntry n) = (entries : List ℕ) × BeginsWith file (journal_head old.settings) entries
     × EndsReplay old (recovered entries) (BadEntry n)
 EndsFile old file (WrongReply n) = (entries : List ℕ) × BeginsWith file (journal_head old.settings) entries
@@ -70,6 +84,7 @@ IsOpeningCause me input left file NoSite = HasFirstLine input (λ number line. E
 IsOpeningCause me input left file AnotherJournal = HasFirstLine input (EndsOpening me file AnotherJournal)
 IsOpeningCause me input left file (BadEntry n) = HasFirstLine input (EndsOpening me file (BadEntry n))
 IsOpeningCause me input left file (WrongReply n) = HasFirstLine input (EndsOpening me file (WrongReply n))
+IsOpeningCause me input left file (Damaged n) = HasFirstLine input (EndsOpening me file (Damaged n))
 IsOpeningCause me input left file (LongLine k) = IfSome input (IsLongFirst k)
 IsOpeningCause me input left file Read = IfSome input (HasReadBlanks left)
 IsOpeningCause me input left file _ = Unit {0}
@@ -81,4 +96,5 @@ pub record OpensSite (config : List ℕ) (me most : ℕ) (file : List ℕ) (x : 
   pub read : IsReadWhole x
   pub journal : IsJournalOf (recovered file) x
   pub begins : IsToBegin (recovered file) x first
+  pub undamaged : IsUndamaged file (journal_head x.settings)
   pub sends_are : sends ≡ sent_again most x

@@ -6,14 +6,14 @@ use Rattle.rb_journal.specs.Turns.{AreTurns, Turn, state_after}
 use Rattle.rb_site.specs.Seen.{SeenSite}
 use Rattle.rb_run_site.specs.Journals.{SiteAnswers}
 use Rattle.rb_run_site.specs.Openings.{EndsOpening}
-use Rattle.rb_run_site.specs.Runs.{HasRun}
+use Rattle.rb_run_site.specs.Runs.{HasBegun, HasRun}
 use Rattle.rb_run_site.specs.Starts.{Starts}
 use Rattle.rb_run_site.specs.Steps.{AreSteps}
 use Rattle.rb_run_site.specs.declared.fault.SiteFault.{SiteFault}
-use Rattle.rb_run_site.specs.declared.fault.SiteFault.TheVariants.{AnotherJournal, BadEntry, WrongReply}
+use Rattle.rb_run_site.specs.declared.fault.SiteFault.TheVariants.{AnotherJournal, BadEntry, Damaged, WrongReply}
 
 -- site `me` ran and crashed, any number of times: the first run started with this site, these are the turns of all runs
--- whose entries the file has that the last crash left
+-- whose entries the file has that the last crash left. A run that changed nothing left the file that it found
 pub data HasRestarted (me : ℕ) : SeenSite → List (Turn SeenSite) → List ℕ → Type 0 where
   -- one run
   Once : {most : ℕ} {input : Option (List ℕ)} {lines : List (List ℕ)} {output c d : List ℕ}
@@ -23,9 +23,6 @@ pub data HasRestarted (me : ℕ) : SeenSite → List (Turn SeenSite) → List �
       {output c d : List ℕ} → HasRestarted me start turns file
       → (run : HasRun me most input (recovered file) output c d)
       → HasRestarted me start (turns ++ run.answered.turns) c
-  -- one run more, which has changed nothing: the file has the lines that it had
-  Idle : {start : SeenSite} {turns : List (Turn SeenSite)} {file c : List ℕ} → HasRestarted me start turns file
-      → recovered c ≡ recovered file → HasRestarted me start turns c
 
 -- the next run, over the file that the last crash left, starts with the very site that all these turns led to: of the
 -- same configuration, and with the same entries
@@ -45,6 +42,7 @@ abbrev pub IsFileFault : SiteFault → Type 0
 IsFileFault AnotherJournal = Unit {0}
 IsFileFault (BadEntry n) = Unit {0}
 IsFileFault (WrongReply n) = Unit {0}
+IsFileFault (Damaged n) = Unit {0}
 IsFileFault _ = ⊥
 
 -- the file that the last crash left is never at fault for a run of the same number with this configuration
@@ -52,3 +50,9 @@ abbrev pub RestartsAreTaken : Type 0
 RestartsAreTaken = (me : ℕ) (start : SeenSite) (turns : List (Turn SeenSite)) (file : List ℕ)
     → HasRestarted me start turns file → (config : List ℕ) (number : ℕ) (fault : SiteFault)
     → config_on config ≡ Some start.settings → IsFileFault fault → ¬ EndsOpening me file fault number config
+
+-- nor is the file that a crash left of a journal that was still new
+abbrev pub NewJournalsAreTaken : Type 0
+NewJournalsAreTaken = (me : ℕ) (input : Option (List ℕ)) (lines : List (List ℕ)) (output c d : List ℕ)
+    → (run : HasBegun me input lines output c d) → (config : List ℕ) (number : ℕ) (fault : SiteFault)
+    → config_on config ≡ Some run.start.settings → IsFileFault fault → ¬ EndsOpening me c fault number config

@@ -8,12 +8,11 @@ use Rattle.rb_site.specs.Events.{first_site}
 use Rattle.rb_site.specs.Histories.{events_of, with_replies}
 use Rattle.rb_site.specs.Seen.{SeenSite, next_sites}
 use Rattle.rb_crashes.specs.Crashes.{Acts, DiskSite, DiskStep, MayAllHappen, Receives, Reports, Syncs, after_steps}
-use Rattle.rb_journal.specs.Journal.{IsLeftAs}
 use Rattle.rb_journal.specs.Lines.{recovered}
 use Rattle.rb_node.specs.Answers.{event_on}
 use Rattle.rb_journal.specs.Turns.{Turn}
 use Rattle.rb_run_site.specs.Journals.{journal_of}
-use Rattle.rb_run_site.specs.Runs.{HasRun}
+use Rattle.rb_run_site.specs.Runs.{HasNotRun, HasRun}
 
 -- a site that restarts with its journal: all of its events are on its disk, and any of them may have been reported
 -- before
@@ -57,8 +56,8 @@ pub record AreSteps (x : SeenSite) (turns : List (Turn SeenSite)) (file : List �
   pub lines_are : recovered file ≡ journal_on_disk x.settings x.me last
   pub reported : last.reported ≡ length last.events
 
--- at any moment nothing has changed yet, or the run of the site is one of steps: so what was put out is a prefix of
--- what is sent again and of the texts of turns whose events are on the disk and count as reported
-abbrev pub IsRunOfSteps : ℕ → ℕ → Option (List ℕ) → List (List ℕ) → List ℕ → List ℕ → List ℕ → Type 0
-IsRunOfSteps me most input lines output c d = IsLeftAs lines output c d
-    ⊎ ((run : HasRun me most input lines output c d) × AreSteps run.start run.answered.turns c)
+-- at any moment nothing has changed yet, or the journal is still new, or the run of the site is one of steps: so what was
+-- put out is a prefix of what is sent again and of the texts of turns whose events are on the disk and count as reported
+abbrev pub IsRunOfSteps : ℕ → ℕ → Option (List ℕ) → List ℕ → List ℕ → List ℕ → List ℕ → Type 0
+IsRunOfSteps me most input file output c d = HasNotRun me input file output c d
+    ⊎ ((run : HasRun me most input (recovered file) output c d) × AreSteps run.start run.answered.turns c)

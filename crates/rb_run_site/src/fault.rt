@@ -24,6 +24,8 @@ pub enum SiteFault {
     BadEntry { line: u64 },
     /// The site gives another reply than a line of the journal has.
     WrongReply { line: u64 },
+    /// A byte that no crash leaves is where this line of the journal, or the gate before it, should begin.
+    Damaged { line: u64 },
     /// The journal isn't there, and no new one was asked for.
     NoJournal,
     /// A new journal was asked for, and there is one.
@@ -59,6 +61,7 @@ impl fmt::Display for SiteFault {
             SiteFault::AnotherJournal => f.write_str("another bank's journal"),
             SiteFault::BadEntry { line } => write!(f, "journal line {line}: bad line"),
             SiteFault::WrongReply { line } => write!(f, "journal line {line}: wrong reply"),
+            SiteFault::Damaged { line } => write!(f, "journal line {line}: damaged"),
             SiteFault::NoJournal => f.write_str("no journal"),
             SiteFault::JournalThere => f.write_str("there is a journal"),
             SiteFault::InUse => f.write_str("journal is in use"),
@@ -114,6 +117,7 @@ pub fn site_status(fault: SiteFault) -> u8
         SiteFault::AnotherJournal => 2,
         SiteFault::BadEntry { line: _ } => 2,
         SiteFault::WrongReply { line: _ } => 2,
+        SiteFault::Damaged { line: _ } => 2,
         SiteFault::NoJournal => 2,
         SiteFault::JournalThere => 2,
         SiteFault::InUse => 2,

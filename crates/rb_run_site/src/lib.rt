@@ -11,7 +11,7 @@ mod replay;
 mod responder;
 mod run;
 
-ghost use Rattle.rb_run_site.specs.Restarts.{RestartedRunsAreOne, RestartsAreTaken, RestartsGoOn};
+ghost use Rattle.rb_run_site.specs.Restarts.{NewJournalsAreTaken, RestartedRunsAreOne, RestartsAreTaken, RestartsGoOn};
 
 pub use fault::{SiteFault, site_message, site_status};
 pub use responder::SiteResponder;
@@ -20,11 +20,12 @@ pub use run::{Ran, run_site};
 /// However often a site ran and crashed, each run over the file that the crash before it left: the next run starts with
 /// the very site that all turns led to whose entries the file has, and all turns are one run of a site that doesn't
 /// crash. So what the site answers is what it would have answered without the crashes, after the same events. And that
-/// file is never at fault. All this is of files that have the configuration's line: a run that goes on writes it first.
+/// file is never at fault, nor is one that a crash left before the configuration's line was there.
 pub fn restart_goes_on()
     ensures site { RestartsGoOn }
     ensures run { RestartedRunsAreOne }
     ensures taken { RestartsAreTaken }
+    ensures new { NewJournalsAreTaken }
 {
     rb_history::read_configs_are_configured();
     rb_history::configs_are_read();

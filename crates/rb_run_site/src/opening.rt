@@ -1,5 +1,5 @@
 //! A site is opened before anything of its file changes: its configuration is read, and the journal's entries are
-//! replayed. So a file with a bad line or a wrong reply stays as it was.
+//! replayed. So a file with a bad line or a wrong reply, or one that is damaged, stays as it was.
 ghost use Rattle.std.specs.Prelude.{◌≡◌, ◌+◌, ◌⊎◌, ◌<◌, ◌^◌, ◌≤◌, [], List, ℕ, true, false, length, Err, IfErr, IfOk};
 ghost use Rattle.std.specs.Prelude.{IfSome};
 ghost use Rattle.std.specs.Prelude.{MatchResult};
@@ -21,6 +21,7 @@ use crate::first_line::first_line;
 use crate::replay::{count_lines, replay_all};
 use crate::responder::SiteResponder;
 use rb_history::lines_are_single;
+use rb_journal::damaged_line;
 use rb_lines::{Buffers, Source, ToBytes};
 use rb_node::{Node, NodeFault};
 use std::alloc::Global;
@@ -83,7 +84,10 @@ fn replay_file(
         Some(entries) => {
             let skipped = count_lines(entries).saturating_sub(resend);
             replay_all(node, entries, skipped, sends)?;
-            Ok(Vec::new(alloc))
+            match damaged_line(bytes) {
+                Some(line) => Err(SiteFault::Damaged { line }),
+                None => Ok(Vec::new(alloc)),
+            }
         }
         None => Ok(first),
     }

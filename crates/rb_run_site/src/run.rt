@@ -12,8 +12,9 @@ ghost use Rattle.rb_journal.specs.declared.fault.ServeFault.TheVariants.{Read as
 ghost use Rattle.rb_journal.specs.Run.{served_input};
 ghost use Rattle.rb_run_site.specs.Ends.{AnswersAll, AnswersBehind, IsAtRest, IsFullBehind, RunsTo};
 ghost use Rattle.rb_run_site.specs.Openings.{IsOpeningCause, IsToBegin};
-ghost use Rattle.rb_run_site.specs.Runs.{IsLeftOrAnswered, IsSiteRun};
-ghost use Rattle.rb_run_site.specs.Journals.{SiteAnswers, journal_of};
+ghost use Rattle.rb_run_site.specs.Runs.{IsNewOrAnswered, IsSiteRun};
+ghost use Rattle.rb_run_site.specs.Files.{IsUndamaged};
+ghost use Rattle.rb_run_site.specs.Journals.{SiteAnswers, journal_head, journal_of};
 ghost use Rattle.rb_run_site.specs.Steps.{IsRunOfSteps};
 ghost use Rattle.rb_run_site.specs.Starts.{IsJournalOf};
 ghost use Rattle.rb_run_site.specs.declared.fault.SiteFault.TheVariants.{Journal as DiskFailed, Read as NotRead};
@@ -55,7 +56,7 @@ fn go_on<S: Source, H: Host>(
         (served_input buffers.old.pending (S.remaining reader.old)) (S.remaining reader.new)
         (H.output journal.old.host) (recovered (H.content journal.new.host)) (H.output journal.new.host) result }
     ensures any_moment { LeavesOnly H.moment H.left_since journal.old.host journal.new.host
-        (IsLeftOrAnswered (recovered (H.content journal.old.host)) opened.old.responder.node.site opened.old.sends.items
+        (IsNewOrAnswered (recovered (H.content journal.old.host)) opened.old.responder.node.site opened.old.sends.items
         (served_input buffers.old.pending (S.remaining reader.old)) (H.output journal.old.host)) }
     ensures read { result ≡ Err ReadStopped → (S.failed reader.new ≡ true) ⊎ (S.calls reader.new ≡ MOST_READS) }
     ensures write { result ≡ Err WriteStopped → H.faults journal.old.host < H.faults journal.new.host }
@@ -96,6 +97,7 @@ fn run_opened<S: Source, H: Host>(
     requires durable { Only (H.content host) (H.may_leave host) }
     requires begins { IsToBegin (recovered bytes.items) opened.responder.node.site opened.first.items }
     requires journal { IsJournalOf (recovered bytes.items) opened.responder.node.site }
+    requires undamaged { IsUndamaged bytes.items (journal_head opened.responder.node.site.settings) }
     requires counted { Counts (S.calls reader.old) buffers.old.reads }
     requires end { buffers.old.ended ≡ true → IsAtEnd (S.remaining reader.old) }
     requires buffered { buffers.old.buffered.items ≡ [] }
@@ -107,7 +109,7 @@ fn run_opened<S: Source, H: Host>(
         × IsAtRest (H.content result.host) (H.may_leave result.host))
         (λ _. ⊥) result.ended }
     ensures any_moment { LeavesOnly H.moment H.left_since host result.host
-        (IsLeftOrAnswered (recovered bytes.items) opened.responder.node.site opened.sends.items
+        (IsNewOrAnswered (recovered bytes.items) opened.responder.node.site opened.sends.items
         (served_input buffers.old.pending (S.remaining reader.old)) (H.output host)) }
     ensures read { result.ended ≡ Err NotRead → (S.failed reader.new ≡ true) ⊎ (S.calls reader.new ≡ MOST_READS) }
     ensures write { result.ended ≡ Err NotWritten → H.faults host < H.faults result.host }
@@ -173,13 +175,13 @@ pub fn run_site<S: Source, H: Host>(
         result.ended }
 
     // A crash at any moment leaves a journal that some first lines of the input have, and nothing was put out that it
-    // takes back.
+    // takes back. It is the file as it was, or one that isn't damaged.
     ensures any_moment { LeavesOnly H.moment H.left_since host result.host
-        (IsSiteRun me resend (S.remaining reader.old) (recovered bytes.items) (H.output host)) }
+        (IsSiteRun me resend (S.remaining reader.old) bytes.items (H.output host)) }
 
     // And that is a run of steps of a site with a disk, as the laws of worlds whose sites crash have them.
     ensures steps { LeavesOnly H.moment H.left_since host result.host
-        (IsRunOfSteps me resend (S.remaining reader.old) (recovered bytes.items) (H.output host)) }
+        (IsRunOfSteps me resend (S.remaining reader.old) bytes.items (H.output host)) }
 
     // A failed read, a failed write and a failed journal are reported only for their causes, and at most `MOST_READS`
     // are made.

@@ -78,8 +78,8 @@ module _ {R P : Type 0} where
         (λ end. AnswersBehind me most input left (recovered (file_of start)) [] (recovered (file_of disk)) (output_of (disk_log disk)) end
         × IsAtRest (file_of disk) (leaves (disk_log disk)))
         (λ fault. (disk ≡ start) × IsOpeningCause me input left (file_of start) fault) ended
-    pub any_moment : LeavesOnly moment_of crash_left_of start disk (IsSiteRun me most input (recovered (file_of start)) [])
-    pub steps : LeavesOnly moment_of crash_left_of start disk (IsRunOfSteps me most input (recovered (file_of start)) [])
+    pub any_moment : LeavesOnly moment_of crash_left_of start disk (IsSiteRun me most input (file_of start) [])
+    pub steps : LeavesOnly moment_of crash_left_of start disk (IsRunOfSteps me most input (file_of start) [])
     pub write : ended ≡ Err Write → faults_of (disk_log start) < faults_of (disk_log disk)
     pub journal : ended ≡ Err Journal → (faults_of (disk_log start) < faults_of (disk_log disk))
         ⊎ IsFullBehind me input (recovered (file_of start))

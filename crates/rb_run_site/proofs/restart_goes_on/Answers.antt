@@ -1,4 +1,4 @@
-use Rattle.rb_run_site.proofs.Restarts.{goes_on, is_taken, one_run}
+use Rattle.rb_run_site.proofs.Restarts.{goes_on, is_taken, new_is_taken, one_run}
 use Rattle.rb_run_site.proofs.restart_goes_on.Goals as goal
 
 pub returns-clause-site : goal.returns-clause-site
@@ -21,3 +21,6 @@ returns-clause-taken c = is_taken (record {
   configured = c.read_configs_are_configured.ensures;
   replays = c.replays_back.ensures;
 })
+
+pub returns-clause-new : goal.returns-clause-new
+returns-clause-new c = new_is_taken

@@ -1,4 +1,4 @@
-use Rattle.std.proofs.Common.{◌≡◌, ◌∙◌, ℕ, List, [], ◌∷◌, ◌==◌, false, length, Some, None, refl, sym, take}
+use Rattle.std.proofs.Common.{◌≡◌, ◌∙◌, ℕ, List, [], ◌∷◌, ◌==◌, false, length, Some, None, sym, take}
 use Rattle.std.proofs.lemmas.Bool.Decides.{Decides-eqb}
 use Rattle.std.proofs.lemmas.Slice.Eq.{strip_prefix_is}
 use Rattle.rb_run_site.proofs.Prefixes.{begins, others}
@@ -18,8 +18,6 @@ returns-in-Some c =
 pub returns-in-None : goal.returns-in-None
 returns-in-None c =
     let lines = take c.end_of_lines.result c.args.bytes.now in
-    let apart = strip_prefix_is Decides-eqb lines c.args.first.now None c.in-None.ensures.cases in (
-      refl,
-      others c.args.bytes.now c.args.first.now (λ rest e. apart rest (c.end_of_lines.ensures.lines ∙ e))
-          (λ e. some lines (c.end_of_lines.ensures.lines ∙ e) (sym c.is_empty.ensures ∙ c.if-is_empty.false)),
-    )
+    let apart = strip_prefix_is Decides-eqb lines c.args.first.now None c.in-None.ensures.cases in
+    others c.args.bytes.now c.args.first.now (λ rest e. apart rest (c.end_of_lines.ensures.lines ∙ e))
+    (λ e. some lines (c.end_of_lines.ensures.lines ∙ e) (sym c.is_empty.ensures ∙ c.if-is_empty.false))

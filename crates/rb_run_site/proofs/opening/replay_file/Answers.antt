@@ -17,8 +17,8 @@ entries_in-requires c =
     let ok = subst IsConfigured c.config.ensures c.sites-sites.ensures.configured in
     (compact_text (config_json s), config_is_line c.lines_are_single.ensures.configs s ok, c.deref.ensures.value ∙ c.in_ok-first.ensures)
 
-pub returns-in_ok-replay_all-in-Some : goal.returns-in_ok-replay_all-in-Some
-returns-in_ok-replay_all-in-Some c =
+pub returns-in-Some : goal.returns-in-Some
+returns-in-Some c =
     let old = c.args.node.now.site in
     let new = c.replay_all.new.node.site in
     let file = c.args.bytes.now in
@@ -30,4 +30,4 @@ returns-in_ok-replay_all-in-Some c =
     skipped c.in_ok-replay_all-in-Some.ensures in
     subst (λ f. OpensFile old new file f c.replay_all.new.sends.items c.args.resend) (sym c.new.ensures.items)
     (replayed_file old new file c.in-Some.entries.now c.args.sends.now.items c.replay_all.new.sends.items c.args.resend c.count_lines.result
-    c.requires.first begins c.count_lines.ensures c.requires.none replayed)
+    c.requires.first c.in-None-damaged_line.ensures begins c.count_lines.ensures c.requires.none replayed)

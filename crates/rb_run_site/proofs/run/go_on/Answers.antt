@@ -1,15 +1,15 @@
 -- A site goes on over its journal.
 use Rattle.std.proofs.Common.{arith, ◌≡◌, ◌∙◌, ◌++◌, ◌<◌, ⊎_elim, inl, inr, sym, ap, subst}
 use Rattle.rb_money.specs.Settings.{IsConfigured}
-use Rattle.rb_journal.specs.Journal.{IsDurable}
-use Rattle.rb_journal.specs.Lines.{recovered}
+use Rattle.rb_journal.specs.Journal.{IsAppended, IsDurable}
+use Rattle.rb_journal.specs.Lines.{IsIntact, recovered}
 use Rattle.rb_journal.specs.Ends.{IsFull}
 use Rattle.rb_journal.specs.Run.{IsRunOfTurns, served_input}
 use Rattle.rb_run_site.specs.Journals.{SiteAnswers, journal_of}
 use Rattle.rb_run_site.specs.Openings.{IsToBegin}
-use Rattle.rb_run_site.specs.Runs.{IsLeftOrAnswered}
+use Rattle.rb_run_site.specs.Runs.{IsNewOrAnswered}
 use Rattle.rb_run_site.proofs.Going.{all_answered, answered, begins, begun}
-use Rattle.rb_journal.proofs.Public.Moments.{runs_on, weaker}
+use Rattle.rb_journal.proofs.Public.Moments.{both, runs_on, weaker}
 use Rattle.rb_run_site.proofs.run.go_on.Goals as goal
 
 pub commit_and_put_out-requires-clause-lines : goal.commit_and_put_out-requires-clause-lines
@@ -35,9 +35,13 @@ returns-in_err-commit_and_put_out-clause-any_moment g c =
     let input = served_input c.args.buffers.now.pending (g.S.Source.remaining c.args.reader.now) in
     let is = begins c.lines_are_single.ensures.configs lines x first (subst IsConfigured c.config.ensures c.sites-sites.ensures.configured)
     c.requires.journal (subst (λ f. IsToBegin lines x f) (sym c.deref.ensures.value) c.requires.begins) in
-    weaker host.moment host.left_since was mid (IsDurable lines (recovered first) output c.deref-2.result.now)
-    (IsLeftOrAnswered lines x sends input output) c.commit_and_put_out.ensures.any_moment
-    (λ f d at. begun lines x first sends c.deref-2.result.now input output f d is c.deref-2.ensures.value at)
+    let begin : IsToBegin lines x first = subst (λ f. IsToBegin lines x f) (sym c.deref.ensures.value) c.requires.begins in
+    weaker host.moment host.left_since was mid
+    (λ f d. IsDurable lines (recovered first) output c.deref-2.result.now f d × (IsAppended lines first f × IsIntact f))
+    (IsNewOrAnswered lines x sends input output)
+    (both host.moment host.left_since was mid (IsDurable lines (recovered first) output c.deref-2.result.now)
+    (λ f d. IsAppended lines first f × IsIntact f) c.commit_and_put_out.ensures.any_moment c.commit_and_put_out.ensures.appended)
+    (λ f d at. begun lines x first sends c.deref-2.result.now input output f d is begin c.deref-2.ensures.value at.0 at.1.0 at.1.1)
 
 pub serve-requires-clause-same : goal.serve-requires-clause-same
 serve-requires-clause-same g c =
@@ -81,14 +85,20 @@ returns-clause-any_moment g c =
     let input = served_input c.args.buffers.now.pending (g.S.Source.remaining c.args.reader.now) in
     let is = begins c.lines_are_single.ensures.configs lines x first (subst IsConfigured c.config.ensures c.sites-sites.ensures.configured)
     c.requires.journal (subst (λ f. IsToBegin lines x f) (sym c.deref.ensures.value) c.requires.begins) in
-    let so_far = weaker host.moment host.left_since was mid (IsDurable lines (recovered first) output c.deref-2.result.now)
-    (IsLeftOrAnswered lines x sends input output) c.commit_and_put_out.ensures.any_moment
-    (λ f d at. begun lines x first sends c.deref-2.result.now input output f d is c.deref-2.ensures.value at) in
-    runs_on host.moment host.left_since was mid new.journal.host (IsLeftOrAnswered lines x sends input output)
-    (IsRunOfTurns SiteAnswers input x (recovered (host.content mid)) (host.output mid)) so_far c.serve.ensures.any_moment
+    let begin : IsToBegin lines x first = subst (λ f. IsToBegin lines x f) (sym c.deref.ensures.value) c.requires.begins in
+    let so_far = weaker host.moment host.left_since was mid
+    (λ f d. IsDurable lines (recovered first) output c.deref-2.result.now f d × (IsAppended lines first f × IsIntact f))
+    (IsNewOrAnswered lines x sends input output)
+    (both host.moment host.left_since was mid (IsDurable lines (recovered first) output c.deref-2.result.now)
+    (λ f d. IsAppended lines first f × IsIntact f) c.commit_and_put_out.ensures.any_moment c.commit_and_put_out.ensures.appended)
+    (λ f d at. begun lines x first sends c.deref-2.result.now input output f d is begin c.deref-2.ensures.value at.0 at.1.0 at.1.1) in
+    runs_on host.moment host.left_since was mid new.journal.host (IsNewOrAnswered lines x sends input output)
+    (λ f d. IsRunOfTurns SiteAnswers input x (recovered (host.content mid)) (host.output mid) f d × IsIntact f) so_far
+    (both host.moment host.left_since mid new.journal.host (IsRunOfTurns SiteAnswers input x (recovered (host.content mid)) (host.output mid))
+    (λ f d. IsIntact f) c.serve.ensures.any_moment c.serve.ensures.intact)
     (λ f d run. answered lines x sends input output (recovered (host.content mid)) (host.output mid) f d
     (sym (c.in_ok-commit_and_put_out.ensures.lines ∙ is.whole))
-    (c.in_ok-commit_and_put_out.ensures.output ∙ ap (λ l. host.output was ++ l) c.deref-2.ensures.value) run)
+    (c.in_ok-commit_and_put_out.ensures.output ∙ ap (λ l. host.output was ++ l) c.deref-2.ensures.value) run.0 run.1)
 
 pub returns-clause-journal : goal.returns-clause-journal
 returns-clause-journal g c = λ failed.

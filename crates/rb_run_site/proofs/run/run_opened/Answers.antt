@@ -1,8 +1,8 @@
 -- The file is opened, and then the site goes on.
 use Rattle.std.proofs.Common.{rules, arith, ◌≡◌, ◌<◌, ◌∙◌, ⊎_elim, inl, inr, Err, ap, subst, sym}
 use Rattle.rb_journal.specs.Host.{LeavesOnly}
-use Rattle.rb_journal.specs.Journal.{IsLeftAs}
-use Rattle.rb_journal.specs.Lines.{recovered}
+use Rattle.rb_journal.specs.Journal.{IsLeftAs, IsRepaired}
+use Rattle.rb_journal.specs.Lines.{IsIntact, recovered}
 use Rattle.rb_journal.specs.Ends.{IsFull}
 use Rattle.rb_journal.specs.Run.{served_input}
 use Rattle.rb_journal.specs.declared.fault.ServeFault.TheVariants.{Journal as JournalStopped}
@@ -12,32 +12,37 @@ use Rattle.rb_run_site.specs.Faults.{fault_of_serve}
 use Rattle.rb_run_site.specs.Journals.{SiteAnswers, journal_of}
 use Rattle.rb_run_site.specs.declared.fault.SiteFault.TheVariants.{Journal as DiskFailed, Read as NotRead}
 use Rattle.rb_run_site.specs.Openings.{IsToBegin}
-use Rattle.rb_run_site.specs.Runs.{IsLeftOrAnswered}
-use Rattle.rb_run_site.proofs.Going.{from_same, only_journal}
+use Rattle.rb_run_site.specs.Runs.{IsNewOrAnswered}
+use Rattle.rb_run_site.proofs.Going.{from_same, only_journal, opened}
 use Rattle.rb_run_site.proofs.Stopped.{never_read, not_begun, only_disk, stopped}
-use Rattle.rb_journal.proofs.Public.Moments.{runs_on, weaker}
+use Rattle.rb_journal.proofs.Public.Moments.{both as two, runs_on, weaker}
 use Rattle.rb_run_site.proofs.run.run_opened.Given.{Over}
 use Rattle.rb_run_site.proofs.run.run_opened.Goals.{After-go_on-ended, After-from-in-Err-2}
 use Rattle.rb_run_site.proofs.run.run_opened.Goals as goal
 
--- while the file is opened, a crash leaves its lines
+-- while the file is opened, a crash leaves a new journal, or the site's
 over_file : (g : Over) (c : After-go_on-ended g) → LeavesOnly g.H.Host.moment g.H.Host.left_since c.args.host c.in-Ok.journal.host
-    (IsLeftAs (recovered c.args.bytes.items) (g.H.Host.output c.args.host))
+    (IsNewOrAnswered (recovered c.args.bytes.items) c.args.opened.responder.node.site c.args.opened.sends.items
+    (served_input c.args.buffers.now.pending (g.S.Source.remaining c.args.reader.now)) (g.H.Host.output c.args.host))
 over_file g c =
-    subst (λ f. LeavesOnly g.H.Host.moment g.H.Host.left_since c.args.host c.in-Ok.journal.host
-    (IsLeftAs (recovered f) (g.H.Host.output c.args.host)))
-    c.deref.ensures.value c.in-Ok.ensures.any_moment
+    let host = g.H.Host in
+    let was = c.args.host in
+    let file = c.args.bytes.items in
+    let both = subst (λ f. LeavesOnly host.moment host.left_since was c.in-Ok.journal.host
+    (λ e d. IsLeftAs (recovered f) (host.output was) e d × (IsRepaired f e × (IsIntact f → IsIntact e)))) c.deref.ensures.value
+    (two host.moment host.left_since was c.in-Ok.journal.host _ _ c.in-Ok.ensures.any_moment c.in-Ok.ensures.repaired) in
+    weaker host.moment host.left_since was c.in-Ok.journal.host _ _ both
+    (λ e d at. opened file c.args.opened.responder.node.site c.args.opened.first.items c.args.opened.sends.items _ (host.output was) e d
+    c.requires.begins c.requires.undamaged at.0 at.1.0 at.1.1)
 
--- a crash leaves the journal and the output as they were, or with some of the lines answered
+-- a crash leaves a new journal, or the site's with some of the lines answered
 run : (g : Over) (c : After-go_on-ended g) → LeavesOnly g.H.Host.moment g.H.Host.left_since c.args.host
     c.go_on-ended.new.journal.host
-    (IsLeftOrAnswered (recovered c.args.bytes.items) c.args.opened.responder.node.site c.args.opened.sends.items
+    (IsNewOrAnswered (recovered c.args.bytes.items) c.args.opened.responder.node.site c.args.opened.sends.items
     (served_input c.args.buffers.now.pending (g.S.Source.remaining c.args.reader.now)) (g.H.Host.output c.args.host))
 run g c =
     let host = g.H.Host in
-    runs_on host.moment host.left_since _ c.in-Ok.journal.host _ _ _
-    (weaker host.moment host.left_since _ _ _ _ (over_file g c) (λ f d at. inl at))
-    c.go_on-ended.ensures.any_moment
+    runs_on host.moment host.left_since _ c.in-Ok.journal.host _ _ _ (over_file g c) c.go_on-ended.ensures.any_moment
     (λ f d run. from_same _ _ _ _ _ _ _ f d (c.in-Ok.ensures.lines ∙ ap recovered c.deref.ensures.value) c.in-Ok.ensures.output run)
 
 -- why the file can't be opened is passed on
@@ -106,14 +111,16 @@ pub returns-in-Err-clause-any_moment : goal.returns-in-Err-clause-any_moment
 returns-in-Err-clause-any_moment g c =
     let host = g.H.Host in
     let was = c.args.host in
-    let lines = recovered c.args.bytes.items in
-    let opened = c.args.opened in
+    let file = c.args.bytes.items in
+    let of = c.args.opened in
     let input = served_input c.args.buffers.now.pending (g.S.Source.remaining c.args.reader.now) in
-    let kept = subst (λ f. LeavesOnly host.moment host.left_since was c.in-Err.host (IsLeftAs (recovered f) (host.output was)))
-    c.deref.ensures.value c.in-Err.ensures.any_moment_err in
-    weaker host.moment host.left_since was c.in-Err.host (IsLeftAs lines (host.output was))
-    (IsLeftOrAnswered lines opened.responder.node.site opened.sends.items input (host.output was)) kept
-    (λ f d at. inl at)
+    let both = subst (λ f. LeavesOnly host.moment host.left_since was c.in-Err.host
+    (λ e d. IsLeftAs (recovered f) (host.output was) e d × (IsRepaired f e × (IsIntact f → IsIntact e)))) c.deref.ensures.value
+    (two host.moment host.left_since was c.in-Err.host _ _ c.in-Err.ensures.any_moment_err c.in-Err.ensures.repaired_err) in
+    weaker host.moment host.left_since was c.in-Err.host _
+    (IsNewOrAnswered (recovered file) of.responder.node.site of.sends.items input (host.output was)) both
+    (λ e d at. opened file of.responder.node.site of.first.items of.sends.items input (host.output was) e d
+    c.requires.begins c.requires.undamaged at.0 at.1.0 at.1.1)
 
 pub returns-in-Err-clause-read : goal.returns-in-Err-clause-read
 returns-in-Err-clause-read g c = λ failed.

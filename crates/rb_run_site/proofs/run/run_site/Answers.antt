@@ -1,5 +1,5 @@
 -- A site is opened, and then it goes on.
-use Rattle.std.proofs.Common.{◌≡◌, ◌<◌, ◌∙◌, ⊎_elim, ap, inl, inr, refl, subst, sym, ℕ, List}
+use Rattle.std.proofs.Common.{◌≡◌, ◌<◌, ◌∙◌, ⊎_elim, inl, inr, refl, subst, sym, ℕ, List}
 use Rattle.rb_journal.specs.Host.{LeavesOnly}
 use Rattle.rb_journal.specs.Lines.{recovered}
 use Rattle.rb_journal.specs.Ends.{IsFull}
@@ -27,8 +27,7 @@ opens g c =
 -- a crash while the opened site runs leaves a run of it
 run : (g : Over) (c : After-run_opened g) → LeavesOnly g.H.Host.moment g.H.Host.left_since c.args.host
     c.run_opened.result.host
-    (IsSiteRun c.args.me c.args.resend (g.S.Source.remaining c.args.reader.now) (recovered c.args.bytes.items)
-    (g.H.Host.output c.args.host))
+    (IsSiteRun c.args.me c.args.resend (g.S.Source.remaining c.args.reader.now) c.args.bytes.items (g.H.Host.output c.args.host))
 run g c =
     let is = c.in-Ok.ensures.opened in
     weaker g.H.Host.moment g.H.Host.left_since _ _ _ _ c.run_opened.ensures.any_moment
@@ -36,13 +35,13 @@ run g c =
     c.open_site.new.buffers.pending c.in-Ok.opened.responder.node.site c.in-Ok.opened.first.items
     c.in-Ok.opened.sends.items (opens g c) is.2 _ f d run)
 
--- a crash before the run leaves the lines and the output as they were
+-- a crash before the run leaves the file and the output as they were
 still : (g : Over) (c : After-open_site g) (f d : List ℕ)
     → g.H.Host.left_since c.args.host (g.H.Host.moment c.args.host) f d
-    → (recovered f ≡ recovered c.args.bytes.items) × (d ≡ g.H.Host.output c.args.host)
+    → (f ≡ c.args.bytes.items) × (d ≡ g.H.Host.output c.args.host)
 still g c f d left =
     let now = g.met.H.Host.only_now c.args.host f d left in
-    (ap recovered (c.requires.durable f now.0 ∙ sym c.requires.bytes), now.1)
+    (c.requires.durable f now.0 ∙ sym c.requires.bytes, now.1)
 
 pub returns-in-Ok-clause-ended : goal.returns-in-Ok-clause-ended
 returns-in-Ok-clause-ended g c =
@@ -80,7 +79,7 @@ returns-in-Ok-clause-steps g c =
     let host = g.H.Host in
     let input = g.S.Source.remaining c.args.reader.now in
     weaker host.moment host.left_since c.args.host c.run_opened.result.host _
-    (IsRunOfSteps c.args.me c.args.resend input (recovered c.args.bytes.items) (host.output c.args.host))
+    (IsRunOfSteps c.args.me c.args.resend input c.args.bytes.items (host.output c.args.host))
     (run g (goal.at.returns-in-Ok-clause-steps g c).After-run_opened) (stepped_run c.args.me c.args.resend input _ _)
 
 pub returns-in-Ok-clause-journal : goal.returns-in-Ok-clause-journal
@@ -114,13 +113,13 @@ returns-in-Err-clause-any_moment g c =
     let host = g.H.Host in
     let input = g.S.Source.remaining c.args.reader.now in
     started host.moment host.left_since c.args.host
-    (IsSiteRun c.args.me c.args.resend input (recovered c.args.bytes.items) (host.output c.args.host))
-    (λ f d left. inl (still g (goal.at.returns-in-Err-clause-any_moment g c).After-open_site f d left))
+    (IsSiteRun c.args.me c.args.resend input c.args.bytes.items (host.output c.args.host))
+    (λ f d left. inl (inl (still g (goal.at.returns-in-Err-clause-any_moment g c).After-open_site f d left)))
 
 pub returns-in-Err-clause-steps : goal.returns-in-Err-clause-steps
 returns-in-Err-clause-steps g c =
     let host = g.H.Host in
     let input = g.S.Source.remaining c.args.reader.now in
     started host.moment host.left_since c.args.host
-    (IsRunOfSteps c.args.me c.args.resend input (recovered c.args.bytes.items) (host.output c.args.host))
-    (λ f d left. inl (still g (goal.at.returns-in-Err-clause-steps g c).After-open_site f d left))
+    (IsRunOfSteps c.args.me c.args.resend input c.args.bytes.items (host.output c.args.host))
+    (λ f d left. inl (inl (still g (goal.at.returns-in-Err-clause-steps g c).After-open_site f d left)))
