@@ -6,8 +6,8 @@ usage: sites.py [--quiet] PROGRAM      (--quiet prints only what is different)
 Which of the operations that are ready at once is applied first; a journal cut at each byte, and with any bytes behind
 its space; a restart after each line; lines one at a time and all at once; many large answers in little memory; a new
 journal where one is there, and none where it has to be; another bank's journal; a damaged one; a folder, a device and a
-full disk as journal; a second process; output that can't be written; wrong words; where strace is there, the order of
-writes and syncs; the pipes that docs/RUNNING.md shows.
+full disk as journal; a second process; output that can't be written; lines that are no events, or too long; wrong
+words; where strace is there, the order of writes and syncs; the pipes that docs/RUNNING.md shows.
 """
 import errno
 import itertools
@@ -83,6 +83,7 @@ class Sites:
             if before is not None:
                 write(journal, before)
             at, errors, status = self.at(journal, given, limit, signals, output, **words)
+            errors = errors.replace(folder + os.sep, "")
             return at, errors, status, read(journal) if os.path.exists(journal) else None
 
     def at(self, journal, given, limit=None, signals=True, output=subprocess.PIPE, memory=None, **words):
@@ -108,30 +109,63 @@ def entries(journal):
     return whole_lines(journal).split(b"\n", 1)[1]
 
 
+def behind(journal):
+    """The bytes of a journal that a start cuts off and keeps: those behind its lines, unless they are a gate alone."""
+    rest = journal[len(whole_lines(journal)):]
+    return b"" if rest in (b"", b" ", b"\0") else rest
+
+
+def note(journal, kept="journal.cut"):
+    """What a start says of them."""
+    lines, count = whole_lines(journal).count(b"\n"), len(behind(journal))
+    return f"rbbank: journal line {lines}: {count} bytes behind it cut off, kept in {kept}\n" if count else ""
+
+
 def torn(sites):
     """A journal cut at each byte behind its first line, and with any bytes behind its space."""
     journal = stored("site_deposit.site.journal")
     first = journal.index(b"\n") + 1
     for cut in range(first, len(journal) + 1):
-        kept = whole_lines(journal[:cut]) + AT_REST
-        yield f"cut at byte {cut}", sites.run(BANK, journal[:cut], resend=0) == (b"", "", 0, kept)
+        before, kept = journal[:cut], whole_lines(journal[:cut]) + AT_REST
+        yield f"cut at byte {cut}", sites.run(BANK, before, resend=0) == (b"", note(before), 0, kept)
     pick = random.Random(1)
     line = b'{"event":{"balance":"ann"},"reply":{"balance":500},"site":0}\n'
-    behind = [b"\0" * 5000, line, line[1:], line[1:] + b" ", b"\n" + line, b"\n \n" + line * 3, b"{" * 70000]
-    behind += [bytes(pick.randrange(256) for _ in range(pick.randrange(1, 300))) for _ in range(20)]
-    for number, tail in enumerate(behind):
-        name = f"bytes behind the space, {number}"
-        yield name, sites.run(BANK, journal + tail, resend=0) == (b"", "", 0, journal)
+    tails = [b"\0" * 5000, line, line[1:], line[1:] + b" ", b"\n" + line, b"\n \n" + line * 3, b"{" * 70000]
+    tails += [bytes(pick.randrange(256) for _ in range(pick.randrange(1, 300))) for _ in range(20)]
+    for number, tail in enumerate(tails):
+        name, before = f"bytes behind the space, {number}", journal + tail
+        yield name, sites.run(BANK, before, resend=0) == (b"", note(before), 0, journal)
     for number, tail in enumerate([b" ", b"\0", b"\0" * first, b"\0\n{}\n"]):
-        name = f"bytes in place of the space, {number}"
-        yield name, sites.run(BANK, journal[:-1] + tail, resend=0) == (b"", "", 0, journal)
+        name, before = f"bytes in place of the space, {number}", journal[:-1] + tail
+        yield name, sites.run(BANK, before, resend=0) == (b"", note(before), 0, journal)
     # The first write leaves a gate, and behind it up to as many bytes as the configuration's line has.
     for number, tail in enumerate([b"", b" ", b"\0", b" \0\0", b" " + journal[1:first] + b" ", b"\0" + b"\n" * first]):
-        yield f"no line yet, {number}", sites.run(BANK, tail) == (b"", "", 0, journal[:first] + AT_REST)
+        yield f"no line yet, {number}", sites.run(BANK, tail) == (b"", note(tail), 0, journal[:first] + AT_REST)
     # What is behind goes on from the lines that were left.
     answer, errors, status, after = sites.run(BANK + BALANCE, journal[:-30], resend=0)
     out = b'{"reply":{"balance":500},"sends":[],"then":[]}\n'
-    yield "a torn journal goes on", (answer, errors, status, after) == (out, "", 0, journal)
+    yield "a torn journal goes on", (answer, errors, status, after) == (out, note(journal[:-30]), 0, journal)
+
+
+def kept(sites):
+    """What a start cuts off is added to a file beside the journal, which no more may read than the journal."""
+    journal, tails = stored("site_deposit.site.journal"), [b" {torn", b"", b" ", b"{", b"\0more\n"]
+    with tempfile.TemporaryDirectory() as folder:
+        name = os.path.join(folder, "journal")
+        for number, tail in enumerate(tails):
+            write(name, journal[:-1] + tail)
+            os.chmod(name, 0o640)
+            ended = sites.at(name, BANK, resend=0)
+            fine = ended == (b"", note(journal[:-1] + tail, name + ".cut"), 0) and read(name) == journal
+            yield f"what is cut off is kept, {number}", fine
+        fine = read(name + ".cut") == b"".join(behind(journal[:-1] + tail) for tail in tails)
+        yield "... all of it", fine and os.stat(name + ".cut").st_mode & 0o777 & ~0o640 == 0
+        os.remove(name + ".cut")
+        os.mkdir(name + ".cut")
+        write(name, journal + b"more")
+        _, errors, status = sites.at(name, BANK, resend=0)
+        fine = errors.startswith("rbbank: journal failed") and status == 3
+        yield "what can't be kept isn't cut off", fine and read(name) == journal + b"more"
 
 
 def restarted(sites, bank, events, resend):
@@ -391,8 +425,8 @@ def failed(sites):
     for more in [1, 2, 50, 500]:
         limit = len(journal) + more
         out, errors, status, after = sites.run(deposits, journal, limit, False, resend=0)
-        why = re.fullmatch(r"rbbank: journal failed: \S*/journal: File too large \(os error 27\)\n", errors)
-        fine = (out, status) == (b"", 3) and why is not None and after.startswith(journal[:-1])
+        why = "rbbank: journal failed: journal: File too large (os error 27)\n"
+        fine = (out, errors, status) == (b"", why, 3) and after.startswith(journal[:-1])
         fine = fine and whole_lines(after) == journal[:-1]
         yield f"a disk with {more} bytes left", fine and sites.run(BANK, after, resend=0)[3] == journal
         *run, after = sites.run(deposits, journal, limit, True, resend=0)
@@ -412,28 +446,42 @@ def unwritten(sites):
         yield "an output without a reader", sites.run(given, output=closed) == wanted
 
 
-def lines_at_fault(sites):
-    """Faults of lines are those of a script; what was answered before is in the journal."""
-    journal, out = stored("site_bad_line.site.journal"), stored("site_bad_line.site.expected")
+def no_events(sites):
+    """A line that is no event, or too long, is answered by its number, records nothing and stops nothing."""
+    journal, out = stored("site_deposit.site.journal"), stored("site_deposit.site.expected")
+    first, last = out.splitlines(keepends=True)
     deposit = BANK + b'{"deposit":["ann",500]}\n'
     cases = {
-        "a command with a site": (b'{"balance":"ann","site":0}\n', "line 3: bad line"),
-        "a delivery": (b'{"deliver":1}\n', "line 3: bad line"),
-        "a configuration again": (BANK, "line 3: bad line"),
-        "no UTF-8": (b'{"balance":"\xff"}\n', "line 3: bad line"),
-        "blank lines before": (b"\n \n{}\n", "line 5: bad line"),
-        "a line too long": (b" " * LINE_LIMIT + b"{}\n", "line 3: line too long"),
-        "a line too long, without its end": (b"x" * (LINE_LIMIT + 1), "line 3: line too long"),
+        "a command with a site": (b'{"balance":"ann","site":0}\n', "line", 3),
+        "a delivery": (b'{"deliver":1}\n', "line", 3),
+        "a configuration again": (BANK, "line", 3),
+        "no JSON": (b"GET / HTTP/1.1\n", "line", 3),
+        "no UTF-8": (b'{"balance":"\xff"}\n', "line", 3),
+        "blank lines before": (b"\n \n{}\n", "line", 5),
+        "a line too long": (b" " * LINE_LIMIT + b"{}\n", "long", 3),
+        "blanks too long": (b" " * (LINE_LIMIT + 1) + b"\n", "long", 3),
+        "an event too long": (b'{"deposit":["ann",1]}'.ljust(LINE_LIMIT + 1) + b"\n", "long", 3),
+        "a line of many reads": (b"x" * (20 * LINE_LIMIT) + b"\n", "long", 3),
     }
-    for name, (given, fault) in cases.items():
-        yield f"fault: {name}", sites.run(deposit + given + BALANCE) == (out, f"rbbank: {fault}\n", 2, journal)
+    for name, (given, why, number) in cases.items():
+        wanted = first + b'{"bad":"%s","line":%d}\n' % (why.encode(), number) + last, "", 0, journal
+        yield f"no event: {name}", sites.run(deposit + given + BALANCE) == wanted
+    for name, given, why in [("a bad line", b"{", b"line"), ("a line too long", b"x" * (3 * LINE_LIMIT), b"long")]:
+        answer, *ended, _journal = sites.run(deposit + given)
+        yield f"{name}, without its end", (answer, ended) == (first + b'{"bad":"%s","line":3}\n' % why, ["", 0])
+    given = b"".join(b'{"deposit":["ann",1]}\n{}\n' for _ in range(5_000))
+    answer, errors, status, after = sites.run(BANK + given)
+    numbers = [json.loads(line)["line"] for line in answer.splitlines() if b'"bad"' in line]
+    fine = (errors, status, numbers) == ("", 0, list(range(3, 10_003, 2))) and answer.count(b"\n") == 10_000
+    yield "every other line is no event", fine and after.count(b"\n") == 5_001
     longest = b'{"balance":"ann"}'.ljust(LINE_LIMIT) + b"\n"
-    both = stored("site_deposit.site.expected"), "", 0, stored("site_deposit.site.journal")
-    yield "the longest line", sites.run(deposit + longest) == both
+    yield "the longest line", sites.run(deposit + longest) == (out, "", 0, journal)
     yield "no configuration", sites.run(b"\n")[:3] == (b"", "rbbank: no configuration\n", 2)
     bad = (b"", "rbbank: line 2: bad configuration\n", 2)
     yield "a bad configuration", sites.run(b"\n" + BALANCE, journal)[:3] == bad
     yield "... leaves the journal", sites.run(b"\n" + BALANCE, journal)[3] == journal
+    long = (b"", "rbbank: line 2: line too long\n", 2, journal)
+    yield "a configuration too long", sites.run(b"\n" + BANK[:-1].ljust(LINE_LIMIT + 1) + b"\n", journal) == long
 
 
 def words_at_fault(sites):
@@ -542,8 +590,8 @@ def of_the_page(sites):
     yield "the pipes of docs/RUNNING.md", run.stdout.decode() == out
 
 
-PARTS = [same_however_read, ready_at_once, torn, audited, asked_for, refused_journals, named, not_ready, used_twice,
-         failed, unwritten, lines_at_fault, words_at_fault, many_sites, large_batch, large_answers, in_order,
+PARTS = [same_however_read, ready_at_once, torn, kept, audited, asked_for, refused_journals, named, not_ready,
+         used_twice, failed, unwritten, no_events, words_at_fault, many_sites, large_batch, large_answers, in_order,
          of_the_page]
 
 

@@ -44,7 +44,8 @@ def site_answered(program, path):
                 file.write(before)
         words = [program, "site", *stored(stem + ".words", b"").decode().split(), "--journal", journal]
         run = subprocess.run(words, stdin=given, capture_output=True)
-        return (run.stdout, run.stderr, run.returncode), stored(journal, None)
+        errors = run.stderr.replace((folder + os.sep).encode(), b"")
+        return (run.stdout, errors, run.returncode), stored(journal, None)
 
 
 def is_same(program, path):

@@ -16,7 +16,7 @@ use Rattle.rb_run_site.specs.Starts.{IsBehind, Starts, WaitsBehind}
 use Rattle.rb_run_site.specs.declared.fault.SiteFault.{SiteFault}
 use Rattle.rb_run_site.specs.declared.fault.SiteFault.TheVariants.{NoConfig, BadConfig, NoSite, AnotherJournal, BadEntry, WrongReply}
 use Rattle.rb_run_site.specs.declared.fault.SiteFault.TheVariants.{Damaged, NoJournal, JournalThere, InUse}
-use Rattle.rb_run_site.specs.declared.fault.SiteFault.TheVariants.{BadLine, LongLine, Read, Write, Journal, OutOfMemory}
+use Rattle.rb_run_site.specs.declared.fault.SiteFault.TheVariants.{LongLine, Read, Write, Journal, OutOfMemory}
 
 -- the bytes behind the configuration's line are what waits and what is still to be read
 pub behind_known : (input : Option (List ℕ)) (config : List ℕ) (number : ℕ) (pending : List ℕ) (left : Option (List ℕ))
@@ -45,7 +45,7 @@ module _ (me most number : ℕ) (input left : Option (List ℕ)) (file config pe
   }
 
   -- what it may leave at any moment is what the whole run may leave
-  pub run_behind : (output c d : List ℕ) → IsNewOrAnswered (recovered file) x sends (served_input pending left) output c d
+  pub run_behind : (output c d : List ℕ) → IsNewOrAnswered (recovered file) x sends number (served_input pending left) output c d
       → IsSiteRun me most input file output c d
   run_behind output c d (inl still) = inl (inr (record { start = x; starts = starts; still_new = still }))
   run_behind output c d (inr has) = inr (record {
@@ -54,7 +54,7 @@ module _ (me most number : ℕ) (input left : Option (List ℕ)) (file config pe
     number = number;
     behind = served_input pending left;
     behind_is = behind_known input config number pending left waits;
-    answered = subst (λ s. HasAnswered x s (served_input pending left) output c d) opens.sends_are has;
+    answered = subst (λ s. HasAnswered x s number (served_input pending left) output c d) opens.sends_are has;
   })
 
   -- how it ends is how the whole run ends
@@ -71,7 +71,7 @@ module _ (me most number : ℕ) (input left : Option (List ℕ)) (file config pe
   }
 
   -- where the site's journal is full, the whole run's is
-  pub full_behind : IsFull SiteAnswers (served_input pending left) x (journal_of x) → IsFullBehind me input (recovered file)
+  pub full_behind : IsFull SiteAnswers number (served_input pending left) x (journal_of x) → IsFullBehind me input (recovered file)
   full_behind full = record {
     start = x;
     starts = starts;
@@ -85,9 +85,7 @@ module _ (me most number : ℕ) (input left : Option (List ℕ)) (file config pe
 pub ran : (A B : Result ℕ ServeFault → Type 0) (stops : SiteFault → Type 0) (r : Result ℕ SiteFault)
     → ((e : Result ℕ ServeFault) → A e → B e) → RunsTo A (λ _. ⊥) r → RunsTo B stops r
 ran A B stops (Ok n) so a = so (Ok n) a
-ran A B stops (Err (BadLine k)) so a = so _ a
-ran A B stops (Err (LongLine k)) so (inl a) = inl (so _ a)
-ran A B stops (Err (LongLine k)) so (inr none) = absurd none
+ran A B stops (Err (LongLine k)) so a = absurd a
 ran A B stops (Err Read) so (inl a) = inl (so _ a)
 ran A B stops (Err Read) so (inr none) = absurd none
 ran A B stops (Err NoConfig) so a = absurd a
@@ -114,7 +112,7 @@ stopped_there A stops AnotherJournal is at = at
 stopped_there A stops (BadEntry k) is at = at
 stopped_there A stops (WrongReply k) is at = at
 stopped_there A stops (Damaged k) is at = at
-stopped_there A stops (LongLine k) is at = inr at
+stopped_there A stops (LongLine k) is at = at
 stopped_there A stops Read is at = inr at
 stopped_there A stops OutOfMemory is at = tt
 stopped_there A stops _ is at = absurd is

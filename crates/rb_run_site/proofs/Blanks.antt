@@ -10,9 +10,8 @@ use Rattle.rb_lines.specs.declared.limits.TheConstants.{LINE_LIMIT}
 use Rattle.rb_lines.proofs.Public.LongLines.{long_line}
 use Rattle.rb_lines.proofs.Public.Walks.{Walks}
 use Rattle.rb_lines.proofs.Public.Walks as walk
-use Rattle.rb_journal.specs.Turns.{not_blank}
 use Rattle.rb_run_site.specs.declared.fault.SiteFault.TheVariants.{NoConfig, LongLine, Read, OutOfMemory}
-use Rattle.rb_run_site.specs.FirstLines.{FindsFirst}
+use Rattle.rb_run_site.specs.FirstLines.{FindsFirst, not_blank}
 
 -- blank lines were taken, and the next line has this number
 pub record Blanks (all : List ℕ) (number : ℕ) (pending rest : List ℕ) (ended : Bool) : Type 0 where

@@ -14,9 +14,9 @@ use Rattle.rb_history.specs.ConfigLines.{config_json}
 use Rattle.rb_history.specs.OneLine.{ConfigsAreLines}
 use Rattle.rb_journal.specs.Ends.{EndsAs, IsPutOut}
 use Rattle.rb_journal.specs.Run.{AreFirst, IsRunOfTurns}
-use Rattle.rb_journal.specs.Turns.{Turn, not_blank, texts}
+use Rattle.rb_journal.specs.Turns.{Turn, texts, to_answer}
 use Rattle.rb_journal.specs.declared.fault.ServeFault.{ServeFault}
-use Rattle.rb_journal.specs.declared.fault.ServeFault.TheVariants.{BadLine, LongLine, Read, Write, Journal as JournalStopped, OutOfMemory}
+use Rattle.rb_journal.specs.declared.fault.ServeFault.TheVariants.{Read, Write, Journal as JournalStopped, OutOfMemory}
 use Rattle.rb_lines.specs.Lines.{lines_of}
 use Rattle.rb_run_site.specs.Ends.{AnswersAll}
 use Rattle.rb_run_site.specs.Faults.{fault_of_serve}
@@ -64,17 +64,17 @@ further output sends more d some = (
   some.1 ∙ append_assoc output sends (take some.0 more) ∙ ap (λ l. output ++ l) (sym (take-append-add sends more some.0)),
 )
 
-first_none : (input : Option (List ℕ)) → IfSome input (AreFirst {S = SeenSite} [])
-first_none None = tt
-first_none (Some all) = (not_blank (lines_of all), refl)
+first_none : (number : ℕ) (input : Option (List ℕ)) → IfSome input (AreFirst {S = SeenSite} number [])
+first_none number None = tt
+first_none number (Some all) = (to_answer number (lines_of all), refl)
 
 -- the file is the site's journal, and no turn is made
-no_turn : (x : SeenSite) (sends : List ℕ) (input : Option (List ℕ)) (output c d : List ℕ) → recovered c ≡ journal_of x → IsIntact c
-    → AddsPrefix output sends d → HasAnswered x sends input output c d
-no_turn x sends input output c d same intact some = record {
+no_turn : (x : SeenSite) (sends : List ℕ) (number : ℕ) (input : Option (List ℕ)) (output c d : List ℕ) → recovered c ≡ journal_of x → IsIntact c
+    → AddsPrefix output sends d → HasAnswered x sends number input output c d
+no_turn x sends number input output c d same intact some = record {
   turns = [];
   are = tt;
-  in_order = first_none input;
+  in_order = first_none number input;
   lines_are = same ∙ sym (append-nil (journal_of x));
   intact = intact;
   output_is = subst (λ l. AddsPrefix output l d) (sym (append-nil sends)) some;
@@ -85,14 +85,14 @@ silent : (output sends d : List ℕ) → d ≡ output → AddsPrefix output send
 silent output sends d same = (0, same ∙ sym (append-nil output))
 
 -- while the file is opened, a new journal is still new, and any other is the site's
-pub opened : (file : List ℕ) (x : SeenSite) (first sends : List ℕ) (input : Option (List ℕ)) (output c d : List ℕ)
+pub opened : (file : List ℕ) (x : SeenSite) (first sends : List ℕ) (number : ℕ) (input : Option (List ℕ)) (output c d : List ℕ)
     → IsToBegin (recovered file) x first → IsUndamaged file (journal_head x.settings) → IsLeftAs (recovered file) output c d
-    → IsRepaired file c → (IsIntact file → IsIntact c) → IsNewOrAnswered (recovered file) x sends input output c d
-opened file x first sends input output c d begin (inl new) left repaired ok =
+    → IsRepaired file c → (IsIntact file → IsIntact c) → IsNewOrAnswered (recovered file) x sends number input output c d
+opened file x first sends number input output c d begin (inl new) left repaired ok =
     inl (record { none = new.0; is_new = repaired_new file c (journal_head x.settings) new repaired; silent = left.1 })
-opened file x first sends input output c d (inl none) (inr some) left repaired ok = absurd (some.0 none.0)
-opened file x first sends input output c d (inr whole) (inr some) left repaired ok =
-    inr (no_turn x sends input output c d (left.0 ∙ whole.0) (ok some.1) (silent output sends d left.1))
+opened file x first sends number input output c d (inl none) (inr some) left repaired ok = absurd (some.0 none.0)
+opened file x first sends number input output c d (inr whole) (inr some) left repaired ok =
+    inr (no_turn x sends number input output c d (left.0 ∙ whole.0) (ok some.1) (silent output sends d left.1))
 
 -- a file at rest is read as its lines
 rest_is : (first : List ℕ) → recovered (at_rest (recovered first)) ≡ recovered first
@@ -100,37 +100,37 @@ rest_is first = recovered-append first (32 ∷ []) ∙ ap (λ ls. recovered firs
     ∙ append-nil (recovered first)
 
 -- while the journal begins, a new one is still new, or it is the site's
-begun_file : (lines : List (List ℕ)) (x : SeenSite) (first sends : List ℕ) (input : Option (List ℕ)) (output c d : List ℕ)
+begun_file : (lines : List (List ℕ)) (x : SeenSite) (first sends : List ℕ) (number : ℕ) (input : Option (List ℕ)) (output c d : List ℕ)
     → Begins lines x first → IsToBegin lines x first → recovered c ≡ lines → d ≡ output → IsAppended lines first c → IsIntact c
-    → IsNewOrAnswered lines x sends input output c d
-begun_file lines x first sends input output c d is (inl none) same still (inl shut) intact =
+    → IsNewOrAnswered lines x sends number input output c d
+begun_file lines x first sends number input output c d is (inl none) same still (inl shut) intact =
     let new : IsNew c first = closed_new c first (subst (λ ls. HasClosedGate ls (length first) c) none.0 shut) in
     inl (record { none = none.0; is_new = subst (λ f. IsNew c f) none.1 new; silent = still })
-begun_file lines x first sends input output c d is (inl none) same still (inr whole) intact =
+begun_file lines x first sends number input output c d is (inl none) same still (inr whole) intact =
     let lines_are : recovered c ≡ journal_of x =
     ap recovered whole ∙ ap (λ ls. recovered (at_rest (ls ++ recovered first))) none.0 ∙ rest_is first
     ∙ sym (ap (λ ls. ls ++ recovered first) none.0) ∙ is.whole in
-    inr (no_turn x sends input output c d lines_are intact (silent output sends d still))
-begun_file lines x first sends input output c d is (inr whole) same still appended intact =
-    inr (no_turn x sends input output c d (same ∙ whole.0) intact (silent output sends d still))
+    inr (no_turn x sends number input output c d lines_are intact (silent output sends d still))
+begun_file lines x first sends number input output c d is (inr whole) same still appended intact =
+    inr (no_turn x sends number input output c d (same ∙ whole.0) intact (silent output sends d still))
 
 -- and while what is sent again goes out, no turn is made
-pub begun : (lines : List (List ℕ)) (x : SeenSite) (first sends reply : List ℕ) (input : Option (List ℕ)) (output c d : List ℕ)
+pub begun : (lines : List (List ℕ)) (x : SeenSite) (first sends reply : List ℕ) (number : ℕ) (input : Option (List ℕ)) (output c d : List ℕ)
     → Begins lines x first → IsToBegin lines x first → reply ≡ sends → IsDurable lines (recovered first) output reply c d
-    → IsAppended lines first c → IsIntact c → IsNewOrAnswered lines x sends input output c d
-begun lines x first sends reply input output c d is begin same (inl at) appended intact =
-    begun_file lines x first sends input output c d is begin at.0 at.1 appended intact
-begun lines x first sends reply input output c d is begin same (inr at) appended intact =
-    inr (no_turn x sends input output c d (at.0 ∙ is.whole) intact (subst (λ l. AddsPrefix output l d) same at.1))
+    → IsAppended lines first c → IsIntact c → IsNewOrAnswered lines x sends number input output c d
+begun lines x first sends reply number input output c d is begin same (inl at) appended intact =
+    begun_file lines x first sends number input output c d is begin at.0 at.1 appended intact
+begun lines x first sends reply number input output c d is begin same (inr at) appended intact =
+    inr (no_turn x sends number input output c d (at.0 ∙ is.whole) intact (subst (λ l. AddsPrefix output l d) same at.1))
 
 -- turns behind what was sent again
-pub answered : (lines : List (List ℕ)) (x : SeenSite) (sends : List ℕ) (input : Option (List ℕ)) (output : List ℕ)
+pub answered : (lines : List (List ℕ)) (x : SeenSite) (sends : List ℕ) (number : ℕ) (input : Option (List ℕ)) (output : List ℕ)
     (mid : List (List ℕ)) (so_far c d : List ℕ) → journal_of x ≡ mid → so_far ≡ output ++ sends
-    → IsRunOfTurns SiteAnswers input x mid so_far c d → IsIntact c → IsNewOrAnswered lines x sends input output c d
-answered lines x sends input output mid so_far c d same said run intact =
-    let run : IsRunOfTurns SiteAnswers input x (journal_of x) (output ++ sends) c d =
-    subst (λ l. IsRunOfTurns SiteAnswers input x (journal_of x) l c d) said
-    (subst (λ ls. IsRunOfTurns SiteAnswers input x ls so_far c d) (sym same) run) in
+    → IsRunOfTurns SiteAnswers number input x mid so_far c d → IsIntact c → IsNewOrAnswered lines x sends number input output c d
+answered lines x sends number input output mid so_far c d same said run intact =
+    let run : IsRunOfTurns SiteAnswers number input x (journal_of x) (output ++ sends) c d =
+    subst (λ l. IsRunOfTurns SiteAnswers number input x (journal_of x) l c d) said
+    (subst (λ ls. IsRunOfTurns SiteAnswers number input x ls so_far c d) (sym same) run) in
     inr (record {
       turns = run.turns;
       are = run.are;
@@ -144,7 +144,7 @@ answered lines x sends input output mid so_far c d same said run intact =
 pub all_answered : (x : SeenSite) (sends : List ℕ) (number : ℕ) (input left : Option (List ℕ)) (output : List ℕ) (now : List (List ℕ))
     (said : List ℕ) (mid : List (List ℕ)) (so_far : List ℕ) (ended : Result ℕ ServeFault) → journal_of x ≡ mid → so_far ≡ output ++ sends
     → (turns : List (Turn SeenSite)) × IsPutOut SiteAnswers x mid so_far turns now said
-    × EndsAs SiteAnswers x turns number input left ended
+    × EndsAs number turns input left ended
     → AnswersAll x sends number input left output now said ended
 all_answered x sends number input left output now said mid so_far ended same is (turns, put, ends) = record {
   turns = turns;
@@ -154,16 +154,14 @@ all_answered x sends number input left output now said mid so_far ended same is 
 }
 
 -- the same lines and output at the start
-pub from_same : (lines : List (List ℕ)) (x : SeenSite) (sends : List ℕ) (input : Option (List ℕ)) (output : List ℕ)
-    (mid : List (List ℕ)) (so_far c d : List ℕ) → mid ≡ lines → so_far ≡ output → IsNewOrAnswered mid x sends input so_far c d
-    → IsNewOrAnswered lines x sends input output c d
-from_same lines x sends input output mid so_far c d same said run =
-    subst (λ l. IsNewOrAnswered lines x sends input l c d) said (subst (λ ls. IsNewOrAnswered ls x sends input so_far c d) same run)
+pub from_same : (lines : List (List ℕ)) (x : SeenSite) (sends : List ℕ) (number : ℕ) (input : Option (List ℕ)) (output : List ℕ)
+    (mid : List (List ℕ)) (so_far c d : List ℕ) → mid ≡ lines → so_far ≡ output → IsNewOrAnswered mid x sends number input so_far c d
+    → IsNewOrAnswered lines x sends number input output c d
+from_same lines x sends number input output mid so_far c d same said run =
+    subst (λ l. IsNewOrAnswered lines x sends number input l c d) said (subst (λ ls. IsNewOrAnswered ls x sends number input so_far c d) same run)
 
 -- only a failed journal is reported as one
 pub only_journal : (f : ServeFault) → fault_of_serve f ≡ DiskFailed → f ≡ JournalStopped
-only_journal (BadLine n) is = absurd (cc is)
-only_journal (LongLine n) is = absurd (cc is)
 only_journal Read is = absurd (cc is)
 only_journal Write is = absurd (cc is)
 only_journal JournalStopped is = refl

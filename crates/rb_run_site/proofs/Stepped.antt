@@ -18,9 +18,10 @@ use Rattle.rb_crashes.specs.Crashes.{DiskSite, DiskStep, MayAllHappen, MayHappen
 use Rattle.rb_crashes.proofs.Public.{after_both, both_may}
 use Rattle.rb_journal.specs.Lines.{recovered}
 use Rattle.rb_journal.specs.Turns.{AreTurns, Turn, lines_added, state_after}
-use Rattle.rb_run_site.specs.Journals.{SiteAnswers, journal_of}
+use Rattle.rb_lines.specs.Lines.{is_long}
+use Rattle.rb_run_site.specs.Journals.{IsAnswer, SiteAnswers, journal_of}
 use Rattle.rb_run_site.specs.Runs.{IsSiteRun}
-use Rattle.rb_run_site.specs.Steps.{AreSteps, AreStepsOf, IsRunOfSteps, IsTurnInSteps, journal_on_disk, restarted, step_of}
+use Rattle.rb_run_site.specs.Steps.{AreEventsOf, AreSteps, AreStepsOf, IsRunOfSteps, IsTurnInSteps, journal_on_disk, restarted, step_of}
 use Rattle.rb_run_site.proofs.Turned.{me_kept, settings_kept}
 
 -- the events of a site, with these numbers of those on the disk and of those reported
@@ -114,6 +115,24 @@ events_recorded s x (e ∷ es) k r same is =
 
 -- ---- one turn
 
+-- the events of a turn's line lead to the site after it
+record HasEvents (x : SeenSite) (t : Turn SeenSite) : Type 0 where
+  events : List Event
+  on_line : AreEventsOf x.settings t.line events
+  after : t.after ≡ next_sites x events
+
+events_in : (x : SeenSite) (t : Turn SeenSite) → SiteAnswers x t.number t.line t.added t.text t.after → HasEvents x t
+events_in x t a = by (is_long t.line) refl a.answered
+  where
+    by : (b : Bool) → is_long t.line ≡ b → IsAnswer b x t.number t.line t.added t.text t.after → HasEvents x t
+    by true long bad = record { events = []; on_line = inr (refl, inr long); after = bad.same }
+    by false short (inl own) = record {
+      events = own.event ∷ map Apply own.applied;
+      on_line = inl (own.event, own.applied, own.is_event, refl);
+      after = own.after;
+    }
+    by false short (inr bad) = record { events = []; on_line = inr (refl, inl bad.0); after = bad.1.same }
+
 -- the steps of a turn lead from a site that restarts to one that does
 pub record TakesTurn (s : Settings) (x : SeenSite) (t : Turn SeenSite) : Type 0 where
   pub steps : List DiskStep
@@ -126,10 +145,10 @@ pub record TakesTurn (s : Settings) (x : SeenSite) (t : Turn SeenSite) : Type 0 
 
 -- a turn is steps
 pub turn_taken : (s : Settings) (x : SeenSite) (t : Turn SeenSite) → s ≡ x.settings → IsReplayed x
-    → SiteAnswers x t.line t.added t.text t.after → TakesTurn s x t
+    → SiteAnswers x t.number t.line t.added t.text t.after → TakesTurn s x t
 turn_taken s x t same is a = record {
   steps = map step_of es ++ (Syncs m ∷ Reports m ∷ []);
-  theirs = record { event = a.answered.event; on_line = a.answered.is_event; applied = a.answered.applied; after = next; steps_are = refl };
+  theirs = record { events = es; on_line = (events_in x t a).on_line; after = next; steps_are = refl };
   after = after_both s (restarted x) (map step_of es) (Syncs m ∷ Reports m ∷ [])
       ∙ ap (λ d. after_steps s d (Syncs m ∷ Reports m ∷ [])) recorded;
   may = both_may s (restarted x) (map step_of es) (Syncs m ∷ Reports m ∷ []) some.may
@@ -141,7 +160,7 @@ turn_taken s x t same is a = record {
 }
   where
     es : List Event
-    es = a.answered.event ∷ map Apply a.answered.applied
+    es = (events_in x t a).events
 
     n : ℕ
     n = length x.entries
@@ -150,7 +169,7 @@ turn_taken s x t same is a = record {
     m = length t.after.entries
 
     next : t.after ≡ next_sites x es
-    next = a.answered.after
+    next = (events_in x t a).after
 
     some : Records s x es n n
     some = events_recorded s x es n n same is

@@ -5,7 +5,7 @@ use Rattle.rb_journal.specs.declared.host.HostError.TheVariants.{Memory, DiskFai
 use Rattle.rb_journal.specs.Ends.{EndsAtRest}
 use Rattle.rb_journal.specs.Faults.{fault_of_host}
 use Rattle.rb_journal.specs.declared.fault.ServeFault.{ServeFault}
-use Rattle.rb_journal.specs.declared.fault.ServeFault.TheVariants.{BadLine, LongLine, Read, Write, Journal, OutOfMemory}
+use Rattle.rb_journal.specs.declared.fault.ServeFault.TheVariants.{Read, Write, Journal, OutOfMemory}
 use Rattle.rb_run_site.specs.Ends.{RunsTo}
 use Rattle.rb_run_site.specs.Faults.{fault_of_serve}
 use Rattle.rb_run_site.specs.declared.fault.SiteFault.{SiteFault}
@@ -17,8 +17,6 @@ pub stopped : (A : Result ℕ ServeFault → Type 0) (fault : ServeFault) (f : S
 stopped A fault f is ends = subst (λ why. RunsTo A (λ _. ⊥) (Err why)) (sym is) (by fault ends)
   where
     by : (why : ServeFault) → (EndsAtRest {T = ℕ} (Err why) → A (Err why)) → RunsTo A (λ _. ⊥) (Err (fault_of_serve why))
-    by (BadLine n) ends = ends tt
-    by (LongLine n) ends = inl (ends tt)
     by Read ends = inl (ends tt)
     by Write ends = tt
     by Journal ends = tt

@@ -1,6 +1,6 @@
 -- An answer of a site is a turn of it over its journal.
-use Rattle.std.proofs.Common.{◌≡◌, ℕ, Bool, true, false, cond, List, [], ◌∷◌, ◌++◌, refl, sym, ap, subst, ◌∙◌}
-use Rattle.std.specs.Prelude.{map}
+use Rattle.std.proofs.Common.{◌≡◌, ℕ, Bool, true, false, cond, List, [], ◌∷◌, ◌++◌, None, refl, sym, ap, subst, ◌∙◌, append-nil, inl, inr}
+use Rattle.std.specs.Prelude.{codes, map}
 use Rattle.std.specs.List.{concat}
 use Rattle.std.proofs.lemmas.List.{map-append}
 use Rattle.rb_money.specs.Settings.{IsConfigured}
@@ -13,8 +13,12 @@ use Rattle.rb_site.proofs.Public.Seen.{settings-next}
 use Rattle.rb_history.specs.OneLine.{EntriesAreLines}
 use Rattle.rb_journal.specs.Lines.{IsBatch, recovered}
 use Rattle.rb_journal.specs.Turns.{IsTurn}
-use Rattle.rb_node.specs.Answers.{IsSiteAnswer}
-use Rattle.rb_run_site.specs.Journals.{SiteAnswers, journal_head, journal_of, lines_of_entries}
+use Rattle.rb_lines.specs.Lines.{is_long}
+use Rattle.rb_lines.specs.declared.limits.TheConstants.{LINE_LIMIT}
+use Rattle.std.proofs.Common.{◌≤◌, length, arith}
+use Rattle.std.proofs.lemmas.Bool.Decides.{nat_tests}
+use Rattle.rb_node.specs.Answers.{IsSiteAnswer, event_on, line_of}
+use Rattle.rb_run_site.specs.Journals.{IsAnswer, IsBadAnswer, SiteAnswers, bad_json, journal_head, journal_of, lines_of_entries}
 use Rattle.rb_run_site.proofs.EntryLines.{are_theirs, fed, joined_lines}
 
 -- events keep a site's configuration and its number
@@ -50,12 +54,16 @@ pub batched : EntriesAreLines → (old new : SeenSite) (line text entries : List
 batched are old new line text entries ok a =
     subst IsBatch (sym a.entries_are) (are_theirs are old.settings ok old.me a.recorded).batch
 
--- the site took the line: it is a turn
-pub turned : EntriesAreLines → (old new : SeenSite) (line words entries text text_after : List ℕ) (batch batch_after : List (List ℕ)) →
-    IsConfigured old.settings → IsSiteAnswer old new line words entries → text_after ≡ text ++ words → batch_after ≡ batch
-    ++ recovered entries
-    → IsTurn SiteAnswers old new (journal_of old) (journal_of new) batch batch_after line text text_after
-turned are old new line words entries text text_after batch batch_after ok a said more =
+-- a line that isn't too long
+pub short_line : (l : List ℕ) → length l ≤ LINE_LIMIT → is_long l ≡ false
+short_line l few = grind (arith, nat_tests)
+
+-- the site took the line of an event: it is a turn
+pub turned : EntriesAreLines → (old new : SeenSite) (number : ℕ) (line words entries text text_after : List ℕ)
+    (batch batch_after : List (List ℕ)) → IsConfigured old.settings → is_long line ≡ false → IsSiteAnswer old new line words entries
+    → text_after ≡ text ++ words → batch_after ≡ batch ++ recovered entries
+    → IsTurn SiteAnswers old new (journal_of old) (journal_of new) batch batch_after number line text text_after
+turned are old new number line words entries text text_after batch batch_after ok short a said more =
     let added = lines_of_entries old.settings old.me a.recorded in
     let theirs = are_theirs are old.settings ok old.me a.recorded in
     let lines : recovered entries ≡ added = ap recovered a.entries_are ∙ theirs.lines in
@@ -69,10 +77,44 @@ turned are old new line words entries text text_after batch batch_after ok a sai
       words = words;
       answered = record {
         configured = ok;
-        answered = subst (IsSiteAnswer old new line words) bytes a;
+        answered = subst (λ b. IsAnswer b old number line added words new) (sym short) (inl (subst (IsSiteAnswer old new line words) bytes a));
         after = grown;
       };
       lines_are = grown;
       batch_is = more ∙ ap (λ ls. batch ++ ls) lines;
       text_is = said;
     }
+
+-- the site answered that a line is no event, for this reason: it is a turn that changes nothing
+not_taken : (old new : SeenSite) (number : ℕ) (why line text text_after : List ℕ) (batch batch_after : List (List ℕ)) → IsConfigured old.settings
+    → (IsBadAnswer why old new number [] (line_of (bad_json why number)) → IsAnswer (is_long line) old number line [] (line_of (bad_json why number)) new)
+    → new ≡ old → text_after ≡ text ++ line_of (bad_json why number) → batch_after ≡ batch
+    → IsTurn SiteAnswers old new (journal_of old) (journal_of new) batch batch_after number line text text_after
+not_taken old new number why line text text_after batch batch_after ok is same said kept =
+    let grown : journal_of new ≡ journal_of old ++ [] = ap journal_of same ∙ sym (append-nil (journal_of old)) in
+    record {
+      added = [];
+      words = line_of (bad_json why number);
+      answered = record { configured = ok; answered = is (record { text_is = refl; same = same; none = refl }); after = grown };
+      lines_are = grown;
+      batch_is = kept ∙ sym (append-nil batch);
+      text_is = said;
+    }
+
+-- the line is no event
+pub bad_line : (old new : SeenSite) (number : ℕ) (line text text_after : List ℕ) (batch batch_after : List (List ℕ)) → IsConfigured old.settings
+    → is_long line ≡ false → event_on old.settings line ≡ None → new ≡ old
+    → text_after ≡ text ++ line_of (bad_json (codes "line") number) → batch_after ≡ batch
+    → IsTurn SiteAnswers old new (journal_of old) (journal_of new) batch batch_after number line text text_after
+bad_line old new number line text text_after batch batch_after ok short none same said kept =
+    not_taken old new number (codes "line") line text text_after batch batch_after ok
+    (λ bad. subst (λ b. IsAnswer b old number line [] (line_of (bad_json (codes "line") number)) new) (sym short) (inr (none, bad)))
+    same said kept
+
+-- the line is too long
+pub long_line : (old new : SeenSite) (number : ℕ) (line text text_after : List ℕ) (batch : List (List ℕ)) → IsConfigured old.settings
+    → is_long line ≡ true → new ≡ old → text_after ≡ text ++ line_of (bad_json (codes "long") number)
+    → IsTurn SiteAnswers old new (journal_of old) (journal_of new) batch batch number line text text_after
+long_line old new number line text text_after batch ok long same said =
+    not_taken old new number (codes "long") line text text_after batch batch ok
+    (λ bad. subst (λ b. IsAnswer b old number line [] (line_of (bad_json (codes "long") number)) new) (sym long) bad) same said refl

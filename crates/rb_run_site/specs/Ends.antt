@@ -6,14 +6,14 @@ use Rattle.rb_site.specs.Seen.{SeenSite}
 use Rattle.rb_journal.specs.Ends.{EndsAs, IsFull, IsPutOut}
 use Rattle.rb_journal.specs.Turns.{Turn}
 use Rattle.rb_journal.specs.declared.fault.ServeFault.{ServeFault}
-use Rattle.rb_journal.specs.declared.fault.ServeFault.TheVariants.{BadLine as BadInput, LongLine as LongInput, Read as NotRead}
+use Rattle.rb_journal.specs.declared.fault.ServeFault.TheVariants.{Read as NotRead}
 use Rattle.rb_run_site.specs.Journals.{SiteAnswers, journal_of}
 use Rattle.rb_run_site.specs.Runs.{AreBytesBehind}
 use Rattle.rb_run_site.specs.Starts.{Starts, sent_again}
 use Rattle.rb_run_site.specs.declared.fault.SiteFault.{SiteFault}
 use Rattle.rb_run_site.specs.declared.fault.SiteFault.TheVariants.{NoConfig, BadConfig, NoSite, AnotherJournal, BadEntry, WrongReply}
 use Rattle.rb_run_site.specs.declared.fault.SiteFault.TheVariants.{Damaged, NoJournal, JournalThere, InUse}
-use Rattle.rb_run_site.specs.declared.fault.SiteFault.TheVariants.{BadLine, LongLine, Read, Write, Journal, OutOfMemory}
+use Rattle.rb_run_site.specs.declared.fault.SiteFault.TheVariants.{LongLine, Read, Write, Journal, OutOfMemory}
 
 -- these were the turns of a site: their entries are in the journal and all their text was put out, behind what was sent
 -- again; the run over these bytes, whose first line has this number, ended so
@@ -21,7 +21,7 @@ pub record AnswersAll (x : SeenSite) (sends : List ℕ) (number : ℕ) (bytes le
     (said : List ℕ) (ended : Result ℕ ServeFault) : Type 0 where
   pub turns : List (Turn SeenSite)
   pub put : IsPutOut SiteAnswers x (journal_of x) (output ++ sends) turns now said
-  pub ends : EndsAs SiteAnswers x turns number bytes left ended
+  pub ends : EndsAs number turns bytes left ended
 
 -- the site that the input's first line and the journal's lines say answered what is behind, and the run over that ended
 -- so
@@ -42,19 +42,18 @@ pub record IsFullBehind (me : ℕ) (input : Option (List ℕ)) (lines : List (Li
   pub number : ℕ
   pub behind : Option (List ℕ)
   pub behind_is : IfSome input (AreBytesBehind number behind)
-  pub full : IsFull SiteAnswers behind start (journal_of start)
+  pub full : IsFull SiteAnswers number behind start (journal_of start)
 
 -- the file is whole lines and a closed gate, all of it on the disk
 abbrev pub IsAtRest : List ℕ → (List ℕ → Type 0) → Type 0
 IsAtRest file may_leave = (file ≡ at_rest (recovered file)) × Only file may_leave
 
--- how a run ends: it answered all lines, or those before a line or a read that was at fault; or it stopped in the
--- opening, for this fault. A line that is too long and a failed read come in either. Of a failed write, a failed
--- journal and of running out of memory nothing is said here
+-- how a run ends: it answered all lines, or those before a read that failed; or it stopped in the opening, for this
+-- fault. A failed read comes in either. Of a failed write, a failed journal and of running out of memory nothing is said
+-- here
 abbrev pub RunsTo : (Result ℕ ServeFault → Type 0) → (SiteFault → Type 0) → Result ℕ SiteFault → Type 0
 RunsTo answers stops (Ok n) = answers (Ok n)
-RunsTo answers stops (Err (BadLine k)) = answers (Err (BadInput k))
-RunsTo answers stops (Err (LongLine k)) = answers (Err (LongInput k)) ⊎ stops (LongLine k)
+RunsTo answers stops (Err (LongLine k)) = stops (LongLine k)
 RunsTo answers stops (Err Read) = answers (Err NotRead) ⊎ stops Read
 RunsTo answers stops (Err NoConfig) = stops NoConfig
 RunsTo answers stops (Err (BadConfig k)) = stops (BadConfig k)

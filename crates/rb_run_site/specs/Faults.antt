@@ -1,17 +1,15 @@
 -- What a run of a site that stops says on standard error, and its status.
 use Rattle.std.specs.Prelude.{ℕ, List, ◌++◌, codes, decimal}
 use Rattle.rb_journal.specs.declared.fault.ServeFault.{ServeFault}
-use Rattle.rb_journal.specs.declared.fault.ServeFault.TheVariants.{BadLine as BadInput, LongLine as LongInput, Read as NotRead}
+use Rattle.rb_journal.specs.declared.fault.ServeFault.TheVariants.{Read as NotRead}
 use Rattle.rb_journal.specs.declared.fault.ServeFault.TheVariants.{Write as NotWritten, Journal as DiskFailed, OutOfMemory as NoMemory}
 use Rattle.rb_run_site.specs.declared.fault.SiteFault.{SiteFault}
 use Rattle.rb_run_site.specs.declared.fault.SiteFault.TheVariants.{NoConfig, BadConfig, NoSite, AnotherJournal, BadEntry, WrongReply}
 use Rattle.rb_run_site.specs.declared.fault.SiteFault.TheVariants.{Damaged, NoJournal, JournalThere, InUse}
-use Rattle.rb_run_site.specs.declared.fault.SiteFault.TheVariants.{BadLine, LongLine, Read, Write, Journal, OutOfMemory}
+use Rattle.rb_run_site.specs.declared.fault.SiteFault.TheVariants.{LongLine, Read, Write, Journal, OutOfMemory}
 
 -- a fault of a run over lines is one of a site's
 abbrev pub fault_of_serve : ServeFault → SiteFault
-fault_of_serve (BadInput n) = BadLine n
-fault_of_serve (LongInput n) = LongLine n
 fault_of_serve NotRead = Read
 fault_of_serve NotWritten = Write
 fault_of_serve DiskFailed = Journal
@@ -30,7 +28,6 @@ IsOpeningFault (Damaged n) = Unit {0}
 IsOpeningFault (LongLine n) = Unit {0}
 IsOpeningFault Read = Unit {0}
 IsOpeningFault OutOfMemory = Unit {0}
-IsOpeningFault (BadLine n) = ⊥
 IsOpeningFault NoJournal = ⊥
 IsOpeningFault JournalThere = ⊥
 IsOpeningFault InUse = ⊥
@@ -57,7 +54,6 @@ site_reason_of (Damaged n) = codes "journal line " ++ decimal n ++ codes ": dama
 site_reason_of NoJournal = codes "no journal"
 site_reason_of JournalThere = codes "there is a journal"
 site_reason_of InUse = codes "journal is in use"
-site_reason_of (BadLine n) = codes "line " ++ decimal n ++ codes ": bad line"
 site_reason_of (LongLine n) = codes "line " ++ decimal n ++ codes ": line too long"
 site_reason_of Read = codes "read failed"
 site_reason_of Write = codes "write failed"
@@ -78,7 +74,6 @@ site_status_of (Damaged n) = 2
 site_status_of NoJournal = 2
 site_status_of JournalThere = 2
 site_status_of InUse = 2
-site_status_of (BadLine n) = 2
 site_status_of (LongLine n) = 2
 site_status_of Read = 3
 site_status_of Write = 3

@@ -1,10 +1,14 @@
 -- The first line of an input that isn't blank.
-use Rattle.std.specs.Prelude.{◌≡◌, ℕ, ◌+◌, true, List, [], ◌∷◌, ◌++◌, length, Option, Some, Result, Ok, Err}
-use Rattle.rb_lines.specs.Lines.{is_long, lines_of, whole_lines}
-use Rattle.rb_journal.specs.Turns.{not_blank}
+use Rattle.std.specs.Prelude.{◌≡◌, ℕ, ◌+◌, not, true, List, [], ◌∷◌, ◌++◌, length, Option, Some, Result, Ok, Err}
+use Rattle.std.specs.List.{filter}
+use Rattle.rb_lines.specs.Lines.{is_blank, is_long, lines_of, whole_lines}
 use Rattle.rb_run_site.specs.declared.fault.SiteFault.{SiteFault}
 use Rattle.rb_run_site.specs.declared.fault.SiteFault.TheVariants.{NoConfig}
 use Rattle.rb_run_site.specs.declared.fault.SiteFault.TheVariants.{LongLine, Read, OutOfMemory}
+
+-- the lines that aren't blank
+abbrev pub not_blank : List (List ℕ) → List (List ℕ)
+not_blank lines = filter (λ line. not (is_blank line)) lines
 
 -- only blank lines are before these lines of the input, the first of which has this number
 pub record IsBehindBlanks (number : ℕ) (later : List (List ℕ)) (input : List ℕ) : Type 0 where

@@ -1,12 +1,15 @@
 -- The journal of a site, and the answers of a site over it.
-use Rattle.std.specs.Prelude.{◌≡◌, ℕ, List, ◌∷◌, ◌++◌, map}
+use Rattle.std.specs.Prelude.{◌≡◌, ◌⊎◌, ℕ, Bool, true, false, List, [], ◌∷◌, ◌++◌, map, codes, None}
 use Rattle.std.specs.List.{concat}
+use Rattle.serde_json.specs.Data.{Data, member, no_members, object, string}
+use Rattle.rb_lines.specs.Lines.{is_long}
 use Rattle.rb_money.specs.Settings.{IsConfigured, Settings}
 use Rattle.rb_site.specs.declared.entry.Entry.{Entry}
 use Rattle.rb_site.specs.Seen.{SeenSite}
 use Rattle.rb_history.specs.ConfigLines.{config_json}
 use Rattle.rb_history.specs.Entries.{entry_json}
-use Rattle.rb_node.specs.Answers.{IsSiteAnswer, line_of}
+use Rattle.rb_history.specs.Values.{number_json}
+use Rattle.rb_node.specs.Answers.{IsSiteAnswer, event_on, line_of}
 
 -- the line of a configuration, with its line feed
 abbrev pub journal_head : Settings → List ℕ
@@ -20,8 +23,26 @@ lines_of_entries s me xs = map (λ x. line_of (entry_json s me x)) xs
 abbrev pub journal_of : SeenSite → List (List ℕ)
 journal_of x = journal_head x.settings ∷ lines_of_entries x.settings x.me x.entries
 
--- the site answers the line by this text and is then the second; the lines of its new entries are these
-pub record SiteAnswers (old : SeenSite) (line : List ℕ) (added : List (List ℕ)) (text : List ℕ) (new : SeenSite) : Type 0 where
+-- a word for why a line is no event, and the line's number in the input; the keys in byte order
+abbrev pub bad_json : List ℕ → ℕ → Data
+bad_json why number = object (member (codes "bad") (string why) (member (codes "line") (number_json number) no_members))
+
+-- a line is answered by why it is no event, and the site stays as it was
+pub record IsBadAnswer (why : List ℕ) (old new : SeenSite) (number : ℕ) (added : List (List ℕ)) (text : List ℕ) : Type 0 where
+  pub text_is : text ≡ line_of (bad_json why number)
+  pub same : new ≡ old
+  pub none : added ≡ []
+
+-- the answer to the line of this number, by whether it is too long: if so it is no event, whatever it is; else it is
+-- answered as an event, or it is none
+abbrev pub IsAnswer : Bool → SeenSite → ℕ → List ℕ → List (List ℕ) → List ℕ → SeenSite → Type 0
+IsAnswer true old number line added text new = IsBadAnswer (codes "long") old new number added text
+IsAnswer false old number line added text new = IsSiteAnswer old new line text (concat added)
+    ⊎ ((event_on old.settings line ≡ None) × IsBadAnswer (codes "line") old new number added text)
+
+-- the site answers the line of this number by this text and is then the second; the lines of its new entries are these
+pub record SiteAnswers (old : SeenSite) (number : ℕ) (line : List ℕ) (added : List (List ℕ)) (text : List ℕ) (new : SeenSite) :
+    Type 0 where
   pub configured : IsConfigured old.settings
-  pub answered : IsSiteAnswer old new line text (concat added)
+  pub answered : IsAnswer (is_long line) old number line added text new
   pub after : journal_of new ≡ journal_of old ++ added

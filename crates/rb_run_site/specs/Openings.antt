@@ -4,13 +4,12 @@ use Rattle.rb_money.specs.Settings.{Settings}
 use Rattle.rb_history.specs.Configurations.{config_on}
 use Rattle.rb_journal.specs.Lines.{IsDamaged, recovered}
 use Rattle.rb_lines.specs.Lines.{lines_of}
-use Rattle.rb_journal.specs.Turns.{not_blank}
 use Rattle.rb_site.specs.declared.entry.Entry.{Entry}
 use Rattle.rb_site.specs.Seen.{IsReplayed, SeenSite, first_seen}
 use Rattle.rb_node.specs.Replays.{IsReadWhole}
 use Rattle.rb_run_site.specs.Journals.{journal_head, journal_of, lines_of_entries}
 use Rattle.rb_run_site.specs.Files.{BeginsWith, IsAnother, IsNoBeginning, IsUndamaged}
-use Rattle.rb_run_site.specs.FirstLines.{HasReadBlanks, IsBehindBlanks, IsLongFirst}
+use Rattle.rb_run_site.specs.FirstLines.{HasReadBlanks, IsBehindBlanks, IsLongFirst, not_blank}
 use Rattle.rb_run_site.specs.Replays.{EndsReplay, GoesOnBy}
 use Rattle.rb_run_site.specs.declared.fault.SiteFault.{SiteFault}
 use Rattle.rb_run_site.specs.declared.fault.SiteFault.TheVariants.{NoConfig, BadConfig, NoSite, AnotherJournal, BadEntry, WrongReply}

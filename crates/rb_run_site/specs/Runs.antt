@@ -16,12 +16,12 @@ AreBytesBehind number behind input = (bytes : List ℕ) × (behind ≡ Some byte
     × (config : List ℕ) × IsBehind config number (lines_of bytes) input
 
 -- the file is the journal of a site with the entries of some turns, which answer the first lines of these bytes, in
--- order, and skip none that isn't blank; what was put out is a prefix of what is sent again, and then of the texts of
--- these turns; and the file isn't damaged
-pub record HasAnswered (x : SeenSite) (sends : List ℕ) (bytes : Option (List ℕ)) (output c d : List ℕ) : Type 0 where
+-- order, and skip none that has an answer; the first has this number. A prefix of what is sent again, and then of the
+-- texts of these turns, was put out; and the file isn't damaged
+pub record HasAnswered (x : SeenSite) (sends : List ℕ) (number : ℕ) (bytes : Option (List ℕ)) (output c d : List ℕ) : Type 0 where
   pub turns : List (Turn SeenSite)
   pub are : AreTurns SiteAnswers x turns
-  pub in_order : IfSome bytes (AreFirst turns)
+  pub in_order : IfSome bytes (AreFirst number turns)
   pub lines_are : recovered c ≡ journal_of x ++ lines_added turns
   pub intact : IsIntact c
   pub output_is : AddsPrefix output (sends ++ texts turns) d
@@ -33,8 +33,9 @@ pub record IsStillNew (lines : List (List ℕ)) (x : SeenSite) (output c d : Lis
   pub silent : d ≡ output
 
 -- a journal that had these lines is still new; or a site has answered
-abbrev pub IsNewOrAnswered : List (List ℕ) → SeenSite → List ℕ → Option (List ℕ) → List ℕ → List ℕ → List ℕ → Type 0
-IsNewOrAnswered lines x sends bytes output c d = IsStillNew lines x output c d ⊎ HasAnswered x sends bytes output c d
+abbrev pub IsNewOrAnswered : List (List ℕ) → SeenSite → List ℕ → ℕ → Option (List ℕ) → List ℕ → List ℕ → List ℕ → Type 0
+IsNewOrAnswered lines x sends number bytes output c d =
+    IsStillNew lines x output c d ⊎ HasAnswered x sends number bytes output c d
 
 -- the site that the input's first line and the journal's lines say has answered some of the lines behind
 pub record HasRun (me most : ℕ) (input : Option (List ℕ)) (lines : List (List ℕ)) (output c d : List ℕ) : Type 0 where
@@ -43,7 +44,7 @@ pub record HasRun (me most : ℕ) (input : Option (List ℕ)) (lines : List (Lis
   pub number : ℕ
   pub behind : Option (List ℕ)
   pub behind_is : IfSome input (AreBytesBehind number behind)
-  pub answered : HasAnswered start (sent_again most start) behind output c d
+  pub answered : HasAnswered start (sent_again most start) number behind output c d
 
 -- the journal of the site that the input's first line says had no lines, and is still a new one
 pub record HasBegun (me : ℕ) (input : Option (List ℕ)) (lines : List (List ℕ)) (output c d : List ℕ) : Type 0 where

@@ -5,7 +5,7 @@ use Rattle.rb_site.specs.Seen.{IsReplayed, SeenSite, first_seen}
 use Rattle.rb_history.specs.Configurations.{config_on}
 use Rattle.rb_lines.specs.Lines.{lines_of}
 use Rattle.rb_node.specs.Replays.{IsReadWhole}
-use Rattle.rb_journal.specs.Turns.{not_blank}
+use Rattle.rb_run_site.specs.FirstLines.{not_blank}
 use Rattle.rb_run_site.specs.Journals.{journal_of}
 use Rattle.rb_run_site.specs.Replays.{resent}
 

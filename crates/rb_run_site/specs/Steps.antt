@@ -1,5 +1,6 @@
 -- A run of a site, as steps of a site with a disk.
-use Rattle.std.specs.Prelude.{◌≡◌, ◌⊎◌, ℕ, List, [], ◌∷◌, ◌++◌, length, map, take, Option, Some}
+use Rattle.std.specs.Prelude.{◌≡◌, ◌⊎◌, ℕ, true, List, [], ◌∷◌, ◌++◌, length, map, take, Option, Some, None}
+use Rattle.rb_lines.specs.Lines.{is_long}
 use Rattle.rb_money.specs.Settings.{Settings}
 use Rattle.rb_shadow.specs.declared.op_name.OpName.{OpName}
 use Rattle.rb_site.specs.declared.event.Event.{Event}
@@ -29,15 +30,18 @@ abbrev pub step_of : Event → DiskStep
 step_of (Receive m) = Receives m
 step_of e = Acts e
 
--- the steps of a turn: the event on its line and what is applied after it; then all that the site has is on its disk;
--- and only then it is reported
+-- the events of a line: the one on it, and what is applied after it; or none, if there is none on it or it is too long
+abbrev pub AreEventsOf : Settings → List ℕ → List Event → Type 0
+AreEventsOf s line events =
+    ((event : Event) × (applied : List OpName) × (event_on s line ≡ Some event) × (events ≡ event ∷ map Apply applied))
+    ⊎ ((events ≡ []) × ((event_on s line ≡ None) ⊎ (is_long line ≡ true)))
+
+-- the steps of a turn: the events of its line; then all that the site has is on its disk; and only then it is reported
 pub record IsTurnInSteps (x : SeenSite) (t : Turn SeenSite) (steps : List DiskStep) : Type 0 where
-  pub event : Event
-  pub on_line : event_on x.settings t.line ≡ Some event
-  pub applied : List OpName
-  pub after : t.after ≡ next_sites x (event ∷ map Apply applied)
-  pub steps_are : steps ≡ map step_of (event ∷ map Apply applied)
-      ++ Syncs (length t.after.entries) ∷ Reports (length t.after.entries) ∷ []
+  pub events : List Event
+  pub on_line : AreEventsOf x.settings t.line events
+  pub after : t.after ≡ next_sites x events
+  pub steps_are : steps ≡ map step_of events ++ Syncs (length t.after.entries) ∷ Reports (length t.after.entries) ∷ []
 
 -- the steps of turns, one after another
 abbrev pub AreStepsOf : SeenSite → List (Turn SeenSite) → List DiskStep → Type 0

@@ -32,9 +32,7 @@ pub enum SiteFault {
     JournalThere,
     /// Another process has the journal.
     InUse,
-    /// A later line is no event.
-    BadLine { line: u64 },
-    /// A line has more than `LINE_LIMIT` bytes before its line feed.
+    /// Before the configuration is a line with more than `LINE_LIMIT` bytes before its line feed, or it is such a line.
     LongLine { line: u64 },
     /// A read failed, or more than `MOST_READS` were needed.
     Read,
@@ -65,7 +63,6 @@ impl fmt::Display for SiteFault {
             SiteFault::NoJournal => f.write_str("no journal"),
             SiteFault::JournalThere => f.write_str("there is a journal"),
             SiteFault::InUse => f.write_str("journal is in use"),
-            SiteFault::BadLine { line } => write!(f, "line {line}: bad line"),
             SiteFault::LongLine { line } => write!(f, "line {line}: line too long"),
             SiteFault::Read => f.write_str("read failed"),
             SiteFault::Write => f.write_str("write failed"),
@@ -88,8 +85,6 @@ impl From<ServeFault> for SiteFault {
 
     fn from(fault: ServeFault) -> SiteFault {
         match fault {
-            ServeFault::BadLine { line } => SiteFault::BadLine { line },
-            ServeFault::LongLine { line } => SiteFault::LongLine { line },
             ServeFault::Read => SiteFault::Read,
             ServeFault::Write => SiteFault::Write,
             ServeFault::Journal => SiteFault::Journal,
@@ -121,7 +116,6 @@ pub fn site_status(fault: SiteFault) -> u8
         SiteFault::NoJournal => 2,
         SiteFault::JournalThere => 2,
         SiteFault::InUse => 2,
-        SiteFault::BadLine { line: _ } => 2,
         SiteFault::LongLine { line: _ } => 2,
         SiteFault::Read => 3,
         SiteFault::Write => 3,

@@ -3,6 +3,7 @@
 //! Tests: tests/sites.py, tests/crash.py; examples/tools/check.py runs the rows of a site.
 #![tactic(auto)]
 
+mod bad_line;
 mod entries;
 mod fault;
 mod first_line;

@@ -1,10 +1,11 @@
 //! A site as what answers lines over a journal.
 ghost use Rattle.std.specs.Prelude.{◌≡◌};
 
+use crate::bad_line::{append_bad_line, append_long_line};
 use rb_history::lines_are_single;
-use rb_journal::{JournaledResponder, LineBatch, NoAnswer};
+use rb_journal::{JournaledResponder, LineBatch};
 use rb_node::{Node, NodeFault};
-use std::alloc::Global;
+use std::alloc::{AllocError, Global};
 
 /// A site whose history is in a journal.
 pub struct SiteResponder {
@@ -45,9 +46,10 @@ impl JournaledResponder for SiteResponder {
     fn answer_line(
         &mut self,
         line: &[u8],
+        number: u64,
         batch: &mut LineBatch,
         text: &mut Vec<u8>,
-    ) -> Result<(), NoAnswer> {
+    ) -> Result<(), AllocError> {
         // For a fact alone: lines of entries are lines.
         lines_are_single();
         // For a fact alone: the settings are those of a configuration.
@@ -56,15 +58,21 @@ impl JournaledResponder for SiteResponder {
         self.entries.clear();
         match self.node.answer(line, text, &mut self.entries) {
             Ok(()) => {}
-            Err(NodeFault::OutOfMemory) => return Err(NoAnswer::OutOfMemory),
-            Err(_) => return Err(NoAnswer::Bad),
+            Err(NodeFault::BadLine) => return append_bad_line(text, number),
+            Err(_) => return Err(AllocError),
         }
         match batch.extend(&self.entries) {
             Ok(()) => Ok(()),
-            Err(_) => {
+            Err(error) => {
                 text.truncate(before);
-                Err(NoAnswer::OutOfMemory)
+                Err(error)
             }
         }
+    }
+
+    fn answer_long(&mut self, number: u64, text: &mut Vec<u8>) -> Result<(), AllocError> {
+        // For a fact alone: the settings are those of a configuration.
+        let _sites = self.node.config().sites();
+        append_long_line(text, number)
     }
 }

@@ -57,11 +57,11 @@ fn go_on<S: Source, H: Host>(
         (H.output journal.old.host) (recovered (H.content journal.new.host)) (H.output journal.new.host) result }
     ensures any_moment { LeavesOnly H.moment H.left_since journal.old.host journal.new.host
         (IsNewOrAnswered (recovered (H.content journal.old.host)) opened.old.responder.node.site opened.old.sends.items
-        (served_input buffers.old.pending (S.remaining reader.old)) (H.output journal.old.host)) }
+        number (served_input buffers.old.pending (S.remaining reader.old)) (H.output journal.old.host)) }
     ensures read { result ≡ Err ReadStopped → (S.failed reader.new ≡ true) ⊎ (S.calls reader.new ≡ MOST_READS) }
     ensures write { result ≡ Err WriteStopped → H.faults journal.old.host < H.faults journal.new.host }
     ensures journal { result ≡ Err JournalStopped → (H.faults journal.old.host < H.faults journal.new.host)
-        ⊎ IsFull SiteAnswers (served_input buffers.old.pending (S.remaining reader.old))
+        ⊎ IsFull SiteAnswers number (served_input buffers.old.pending (S.remaining reader.old))
         opened.old.responder.node.site (journal_of opened.old.responder.node.site) }
     ensures calls { S.calls reader.new ≤ MOST_READS }
 {
@@ -109,12 +109,12 @@ fn run_opened<S: Source, H: Host>(
         × IsAtRest (H.content result.host) (H.may_leave result.host))
         (λ _. ⊥) result.ended }
     ensures any_moment { LeavesOnly H.moment H.left_since host result.host
-        (IsNewOrAnswered (recovered bytes.items) opened.responder.node.site opened.sends.items
+        (IsNewOrAnswered (recovered bytes.items) opened.responder.node.site opened.sends.items number
         (served_input buffers.old.pending (S.remaining reader.old)) (H.output host)) }
     ensures read { result.ended ≡ Err NotRead → (S.failed reader.new ≡ true) ⊎ (S.calls reader.new ≡ MOST_READS) }
     ensures write { result.ended ≡ Err NotWritten → H.faults host < H.faults result.host }
     ensures journal { result.ended ≡ Err DiskFailed → (H.faults host < H.faults result.host)
-        ⊎ IsFull SiteAnswers (served_input buffers.old.pending (S.remaining reader.old))
+        ⊎ IsFull SiteAnswers number (served_input buffers.old.pending (S.remaining reader.old))
         opened.responder.node.site (journal_of opened.responder.node.site) }
     ensures calls { S.calls reader.new ≤ MOST_READS }
 {

@@ -23,7 +23,7 @@ use Rattle.rb_run_site.proofs.run.run_opened.Goals as goal
 -- while the file is opened, a crash leaves a new journal, or the site's
 over_file : (g : Over) (c : After-go_on-ended g) → LeavesOnly g.H.Host.moment g.H.Host.left_since c.args.host c.in-Ok.journal.host
     (IsNewOrAnswered (recovered c.args.bytes.items) c.args.opened.responder.node.site c.args.opened.sends.items
-    (served_input c.args.buffers.now.pending (g.S.Source.remaining c.args.reader.now)) (g.H.Host.output c.args.host))
+    c.args.number (served_input c.args.buffers.now.pending (g.S.Source.remaining c.args.reader.now)) (g.H.Host.output c.args.host))
 over_file g c =
     let host = g.H.Host in
     let was = c.args.host in
@@ -32,18 +32,18 @@ over_file g c =
     (λ e d. IsLeftAs (recovered f) (host.output was) e d × (IsRepaired f e × (IsIntact f → IsIntact e)))) c.deref.ensures.value
     (two host.moment host.left_since was c.in-Ok.journal.host _ _ c.in-Ok.ensures.any_moment c.in-Ok.ensures.repaired) in
     weaker host.moment host.left_since was c.in-Ok.journal.host _ _ both
-    (λ e d at. opened file c.args.opened.responder.node.site c.args.opened.first.items c.args.opened.sends.items _ (host.output was) e d
+    (λ e d at. opened file c.args.opened.responder.node.site c.args.opened.first.items c.args.opened.sends.items _ _ (host.output was) e d
     c.requires.begins c.requires.undamaged at.0 at.1.0 at.1.1)
 
 -- a crash leaves a new journal, or the site's with some of the lines answered
 run : (g : Over) (c : After-go_on-ended g) → LeavesOnly g.H.Host.moment g.H.Host.left_since c.args.host
     c.go_on-ended.new.journal.host
     (IsNewOrAnswered (recovered c.args.bytes.items) c.args.opened.responder.node.site c.args.opened.sends.items
-    (served_input c.args.buffers.now.pending (g.S.Source.remaining c.args.reader.now)) (g.H.Host.output c.args.host))
+    c.args.number (served_input c.args.buffers.now.pending (g.S.Source.remaining c.args.reader.now)) (g.H.Host.output c.args.host))
 run g c =
     let host = g.H.Host in
     runs_on host.moment host.left_since _ c.in-Ok.journal.host _ _ _ (over_file g c) c.go_on-ended.ensures.any_moment
-    (λ f d run. from_same _ _ _ _ _ _ _ f d (c.in-Ok.ensures.lines ∙ ap recovered c.deref.ensures.value) c.in-Ok.ensures.output run)
+    (λ f d run. from_same _ _ _ _ _ _ _ _ f d (c.in-Ok.ensures.lines ∙ ap recovered c.deref.ensures.value) c.in-Ok.ensures.output run)
 
 -- why the file can't be opened is passed on
 passed : (g : Over) (c : After-from-in-Err-2 g) → c.from-in-Err-2.result ≡ fault_of_serve (fault_of_host c.in-Err.error)
@@ -68,7 +68,7 @@ returns-in-Err-ended-clause-journal g c = λ failed.
     let passed : c.from.result ≡ DiskFailed = cc failed in
     let is : fault ≡ JournalStopped = only_journal fault (sym same ∙ passed) in
     ⊎_elim (λ (more : host.faults mid < host.faults new). inl (omega (arith, more, c.in-Ok.ensures.later)))
-    (λ (full : IsFull SiteAnswers input x (journal_of x)). inr full)
+    (λ (full : IsFull SiteAnswers c.args.number input x (journal_of x)). inr full)
     (c.in-Err-ended.ensures.journal (ap Err is))
 
 pub go_on-ended-requires-clause-begins : goal.go_on-ended-requires-clause-begins
@@ -118,8 +118,8 @@ returns-in-Err-clause-any_moment g c =
     (λ e d. IsLeftAs (recovered f) (host.output was) e d × (IsRepaired f e × (IsIntact f → IsIntact e)))) c.deref.ensures.value
     (two host.moment host.left_since was c.in-Err.host _ _ c.in-Err.ensures.any_moment_err c.in-Err.ensures.repaired_err) in
     weaker host.moment host.left_since was c.in-Err.host _
-    (IsNewOrAnswered (recovered file) of.responder.node.site of.sends.items input (host.output was)) both
-    (λ e d at. opened file of.responder.node.site of.first.items of.sends.items input (host.output was) e d
+    (IsNewOrAnswered (recovered file) of.responder.node.site of.sends.items c.args.number input (host.output was)) both
+    (λ e d at. opened file of.responder.node.site of.first.items of.sends.items c.args.number input (host.output was) e d
     c.requires.begins c.requires.undamaged at.0 at.1.0 at.1.1)
 
 pub returns-in-Err-clause-read : goal.returns-in-Err-clause-read

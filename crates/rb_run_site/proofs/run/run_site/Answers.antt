@@ -90,7 +90,7 @@ returns-in-Ok-clause-journal g c = λ failed.
     let left = g.S.Source.remaining mid.reader in
     let x = c.in-Ok.opened.responder.node.site in
     ⊎_elim (λ (more : host.faults c.args.host < host.faults c.run_opened.result.host). inl more)
-    (λ (full : IsFull SiteAnswers (served_input mid.buffers.pending left) x (journal_of x)). inr
+    (λ (full : IsFull SiteAnswers c.in-Ok.number (served_input mid.buffers.pending left) x (journal_of x)). inr
     (full_behind c.args.me c.args.resend c.in-Ok.number (g.S.Source.remaining c.args.reader.now) left c.args.bytes.items is.0
     mid.buffers.pending x c.in-Ok.opened.first.items c.in-Ok.opened.sends.items
     (opens g (goal.at.returns-in-Ok-clause-journal g c).After-run_opened) is.2 full))

@@ -1,7 +1,10 @@
-use Rattle.std.proofs.Common.{◌++◌, ◌∙◌, sym, ap, subst}
+use Rattle.std.proofs.Common.{◌++◌, ◌∙◌, Err, refl, sym, ap, subst, codes}
+use Rattle.std.proofs.lemmas.Result.{on_ok_weaker}
 use Rattle.rb_money.specs.Settings.{IsConfigured}
 use Rattle.rb_journal.specs.Lines.{IsBatch, recovered}
-use Rattle.rb_run_site.proofs.Turned.{batched, turned}
+use Rattle.rb_node.specs.Answers.{SeenNode, line_of}
+use Rattle.rb_run_site.specs.Journals.{bad_json}
+use Rattle.rb_run_site.proofs.Turned.{bad_line, batched, short_line, turned}
 use Rattle.rb_run_site.proofs.responder.SiteResponderJournaledResponder.answer_line.Goals as goal
 
 pub extend-requires : goal.extend-requires
@@ -15,7 +18,17 @@ pub returns-in-Ok-extend-clause-answered : goal.returns-in-Ok-extend-clause-answ
 returns-in-Ok-extend-clause-answered c =
     let (text, entries, a, said, lines) = c.in-Ok.ensures.answered in
     let ok = subst IsConfigured c.config.ensures c.sites-sites.ensures.configured in
-    turned c.lines_are_single.ensures.entries c.args.self.now.node.site c.answer.new.self.site c.args.line.now text entries
+    turned c.lines_are_single.ensures.entries c.args.self.now.node.site c.answer.new.self.site c.args.number c.args.line.now text entries
     c.args.text.now.items c.answer.new.answers.items (recovered c.args.batch.now.bytes.items) (recovered c.extend.new.self.bytes.items)
-    ok a said (c.in-Ok-extend.ensures.lines ∙ ap (λ l. recovered c.args.batch.now.bytes.items ++ recovered l)
+    ok (short_line c.args.line.now c.requires.short) a said (c.in-Ok-extend.ensures.lines ∙ ap (λ l. recovered c.args.batch.now.bytes.items ++ recovered l)
     (c.deref.ensures.value ∙ lines ∙ ap (λ l. l ++ entries) c.clear.ensures.items))
+
+pub returns-in-Err-BadLine-clause-answered : goal.returns-in-Err-BadLine-clause-answered
+returns-in-Err-BadLine-clause-answered c =
+    let ok = subst IsConfigured c.config.ensures c.sites-sites.ensures.configured in
+    let bad = c.in-Err-BadLine.ensures.bad (ap Err c.in-Err-BadLine.field-0-is) in
+    on_ok_weaker c.append_bad_line.result
+    (λ said. bad_line c.args.self.now.node.site c.answer.new.self.site c.args.number c.args.line.now c.args.text.now.items
+    c.append_bad_line.new.out.items _ _ ok (short_line c.args.line.now c.requires.short) bad.0 (ap (λ (n : SeenNode). n.site) bad.1)
+    (said ∙ ap (λ l. l ++ line_of (bad_json (codes "line") c.args.number)) c.in-Err-BadLine.ensures.err.0) refl)
+    c.append_bad_line.ensures.ok
