@@ -69,9 +69,11 @@ struct rbbank_site {
 int32_t rbbank_site_open(struct rbbank_site *site, uint8_t me, const uint8_t *config, size_t length);
 
 /* Gives the site an event's line: any command but "deliver", without its site, or a message of another site. 0: the
- * answer {"reply":..,"sends":[..],"then":[..]} is kept, and so are its entries; 1; 2 (no event): nothing has changed,
- * what was kept before neither; 4.
- * Write the entries where they last before anyone sees the answer: then a crash takes back nothing that was seen. */
+ * answer {"reply":..,"sends":[..],"then":[..]} is kept, and so are its entries; 1; 2 (no event, and no question):
+ * nothing has changed, what was kept before neither; 4.
+ * Write the entries where they last before anyone sees the answer: then a crash takes back nothing that was seen.
+ * A question changes nothing and has no entries: {"about":"site"}, or {"resend":N}, N 0 to 100,000,000, whose answer
+ * has a line {"sends":[..]} before its last for each of the last N entries that sent any message. */
 int32_t rbbank_site_answer(struct rbbank_site *site, const uint8_t *line, size_t length);
 
 /* Copies the kept answer, as rbbank_reply does. After a replay it is the line {"sends":[..]} of what the entry sent,

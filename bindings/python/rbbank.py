@@ -199,6 +199,9 @@ class Site(_Handle):
     where they last before anyone sees the answer. To go on after a crash, open the site again, see that the journal
     begins with its entries (else it is another bank's, and might be replayed all the same), and give it each line of
     the journal behind the first by `replay`.
+
+    A question changes nothing and has no entries: `{"about":"site"}`, or `{"resend":N}`, N 0 to 100,000,000, whose
+    answer has a line `{"sends":[..]}` before its last for each of the last N entries that sent any message.
     """
 
     _prefix = "rbbank_site_"

@@ -160,6 +160,9 @@ impl Site {
     /// Answers an event's line: any command but `deliver`, without its site, or a message of another site. The answer
     /// is the line `{"reply":..,"sends":[..],"then":[..]}`, without its line feed.
     ///
+    /// A question changes nothing and has no entries: `{"about":"site"}`, or `{"resend":N}`, N 0 to 100,000,000, whose
+    /// answer has a line `{"sends":[..]}` before its last for each of the last N entries that sent any message.
+    ///
     /// # Errors
     ///
     /// `BadLine`, after which all is as it was; `OutOfMemory`, which ends the site; `Ended`.

@@ -6,7 +6,8 @@ use Rattle.rb_site.specs.Events.{is_full, reply_to}
 use Rattle.rb_site.specs.Seen.{SeenSite, first_seen, state_of}
 use Rattle.rb_history.specs.ConfigLines.{config_json}
 use Rattle.rb_history.specs.Entries.{entry_on}
-use Rattle.rb_node.specs.Answers.{SeenNode, IsSiteAnswer, line_of, sent_line}
+use Rattle.rb_node.specs.Answers.{SeenNode, line_of, sent_line}
+use Rattle.rb_node.specs.LineAnswers.{IsLineAnswer}
 use Rattle.rb_node.specs.Replays.{IsReplayedAs}
 
 -- the site, the text of its last answer, and the lines for its journal
@@ -19,9 +20,10 @@ pub record SeenKept : Type 0 where
 abbrev pub first_kept : Settings → ℕ → SeenKept
 first_kept s me = record { site = first_seen s me; answer = []; entries = line_of (config_json s) }
 
--- the line is an event that the site answers: by this text, with the lines of the entries that it recorded
-abbrev pub AnswersEventLine : SeenKept → SeenKept → List ℕ → Type 0
-AnswersEventLine old new l = IsSiteAnswer old.site new.site l new.answer new.entries
+-- the line is an event or a question, which the site answers by this text, with the lines of the entries that it
+-- recorded
+abbrev pub AnswersSiteLine : SeenKept → SeenKept → List ℕ → Type 0
+AnswersSiteLine old new l = IsLineAnswer old.site new.site l new.answer new.entries
 
 -- the line is the site's next entry; the answer is what the entry sent, to be sent again, and the journal has its line
 -- already

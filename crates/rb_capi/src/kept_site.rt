@@ -3,7 +3,8 @@ ghost use Rattle.std.specs.Prelude.{◌≡◌, ◌<◌, ◌≤◌, [], Some, Non
 ghost use Rattle.rb_money.specs.Settings.{Settings};
 ghost use Rattle.rb_history.specs.Configurations.{config_on};
 ghost use Rattle.rb_node.specs.Answers.{event_on};
-ghost use Rattle.rb_capi.specs.Sites.{AnswersEventLine, IsNoEntryLine, IsWrongEntry, ReplaysEntryLine, first_kept};
+ghost use Rattle.rb_node.specs.LineAnswers.{question_on};
+ghost use Rattle.rb_capi.specs.Sites.{AnswersSiteLine, IsNoEntryLine, IsWrongEntry, ReplaysEntryLine, first_kept};
 
 use rb_node::{Node, NodeFault};
 use std::alloc::Global;
@@ -70,13 +71,13 @@ impl KeptSite {
         })
     }
 
-    /// Answers the line of an event, and keeps the answer's line and the lines of its entries.
+    /// Answers the line of an event or of a question, and keeps the answer's lines and the lines of its entries.
     ///
-    /// Errors: `BadLine` if the line is no event, and nothing has changed then; `OutOfMemory`.
+    /// Errors: `BadLine` if the line is none, and nothing has changed then; `OutOfMemory`.
     pub fn answer_line(&mut self, line: &[u8]) -> Result<(), NodeFault>
-        ensures answered { OnOk result (AnswersEventLine self.old self.new line.now) }
-        ensures bad { result ≡ Err NodeFault.BadLine
-            → (event_on self.old.site.settings line.now ≡ None) × (self.new ≡ self.old) }
+        ensures answered { OnOk result (AnswersSiteLine self.old self.new line.now) }
+        ensures bad { result ≡ Err NodeFault.BadLine → (event_on self.old.site.settings line.now ≡ None)
+            × (question_on line.now ≡ None) × (self.new ≡ self.old) }
     {
         self.node
             .answer(line, &mut self.next_answer, &mut self.next_entries)?;

@@ -3,8 +3,9 @@ ghost use Rattle.std.specs.Prelude.{◌≡◌, ◌≢◌, ◌<◌, ◌≤◌, �
 ghost use Rattle.rb_money.specs.Settings.{Settings};
 ghost use Rattle.rb_history.specs.Configurations.{config_on};
 ghost use Rattle.rb_node.specs.Answers.{event_on};
+ghost use Rattle.rb_node.specs.LineAnswers.{question_on};
 ghost use Rattle.rb_capi.specs.Copies.{Copies};
-ghost use Rattle.rb_capi.specs.Sites.{AnswersEventLine, IsNoEntryLine, IsWrongEntry, ReplaysEntryLine, SeenKept};
+ghost use Rattle.rb_capi.specs.Sites.{AnswersSiteLine, IsNoEntryLine, IsWrongEntry, ReplaysEntryLine, SeenKept};
 ghost use Rattle.rb_capi.specs.Sites.{first_kept, kept_entries, kept_text};
 
 use crate::copy::copy_from;
@@ -49,17 +50,20 @@ pub extern "C" fn rbbank_site_open(
 }
 
 /// Answers the line of an event, and keeps the answer's line, with its line feed, and the lines of the entries that the
-/// site recorded: these belong into its journal before anyone sees the answer.
+/// site recorded: these belong into its journal before anyone sees the answer. A question, `{"about":"site"}` or
+/// `{"resend":N}` (N 0 to 100,000,000), is answered too: it changes nothing and records nothing, and the answer to
+/// `resend` has a line before its last for each of the last N entries that sent any message.
 ///
-/// Statuses: 0; 1 if there is no site; 2 if the line is no event, and then nothing has changed, the kept texts
-/// included; 4 for want of memory, which ends the site.
+/// Statuses: 0; 1 if there is no site; 2 if the line is no event and no question, and then nothing has changed, the
+/// kept texts included; 4 for want of memory, which ends the site.
 #[unsafe(no_mangle)]
 pub extern "C" fn rbbank_site_answer(alloc: Global, site: &mut SiteHandle, line: &[u8]) -> i32
     ensures answered { result ≡ pos 0 → (old : SeenKept) × (new : SeenKept) × (site.old.value ≡ Some old)
-        × (site.new.value ≡ Some new) × AnswersEventLine old new line.now }
+        × (site.new.value ≡ Some new) × AnswersSiteLine old new line.now }
     ensures none { (result ≡ pos 1) ↔ (site.old.value ≡ None) }
     ensures bad { result ≡ pos 2 → (old : SeenKept) × (site.old.value ≡ Some old)
-        × (event_on old.site.settings line.now ≡ None) × (site.new.value ≡ site.old.value) }
+        × (event_on old.site.settings line.now ≡ None) × (question_on line.now ≡ None)
+        × (site.new.value ≡ site.old.value) }
     ensures ended { result ≡ pos 4 → site.new.value ≡ None }
     ensures still_none { site.old.value ≡ None → site.new.value ≡ None }
     ensures statuses { (result ≡ pos 0) ⊎ ((result ≡ pos 1) ⊎ ((result ≡ pos 2) ⊎ (result ≡ pos 4))) }
