@@ -7,10 +7,11 @@ use Rattle.rb_site.specs.Seen.{IsReplayed, SeenSite, first_seen, state_of}
 use Rattle.rb_site.specs.Histories.{events_of}
 use Rattle.rb_history.specs.Fits.{Each}
 use Rattle.rb_node.specs.Replays.{IsReadBack}
+use Rattle.rb_node.specs.Resends.{resent}
 use Rattle.rb_run_site.specs.Files.{BeginsWith}
 use Rattle.rb_run_site.specs.Journals.{journal_head, journal_of, lines_of_entries}
 use Rattle.rb_run_site.specs.Openings.{OpensFile}
-use Rattle.rb_run_site.specs.Replays.{ReplaysLines, resent}
+use Rattle.rb_run_site.specs.Replays.{ReplaysLines}
 use Rattle.rb_run_site.proofs.EntryLines.{fed}
 use Rattle.rb_run_site.proofs.Stepped.{all_replayed}
 use Rattle.rb_run_site.proofs.Turned.{me_kept, settings_kept}

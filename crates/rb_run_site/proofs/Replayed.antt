@@ -17,8 +17,9 @@ use Rattle.rb_history.specs.Fits.{Each}
 use Rattle.rb_history.proofs.Public.Each.{each_both}
 use Rattle.rb_node.specs.Answers.{SeenNode, sent_line}
 use Rattle.rb_node.specs.Replays.{IsReadBack}
+use Rattle.rb_node.specs.Resends.{resent}
 use Rattle.rb_run_site.specs.Journals.{lines_of_entries}
-use Rattle.rb_run_site.specs.Replays.{GoesOnBy, IsSplit, ReplaysLine, resent}
+use Rattle.rb_run_site.specs.Replays.{GoesOnBy, IsSplit, ReplaysLine}
 use Rattle.rb_run_site.proofs.EntryLines.{fed}
 use Rattle.rb_run_site.proofs.Turned.{me_kept, settings_kept}
 

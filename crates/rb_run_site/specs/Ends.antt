@@ -7,9 +7,10 @@ use Rattle.rb_journal.specs.Ends.{EndsAs, IsFull, IsPutOut}
 use Rattle.rb_journal.specs.Turns.{Turn}
 use Rattle.rb_journal.specs.declared.fault.ServeFault.{ServeFault}
 use Rattle.rb_journal.specs.declared.fault.ServeFault.TheVariants.{Read as NotRead}
+use Rattle.rb_node.specs.Resends.{sent_again}
 use Rattle.rb_run_site.specs.Journals.{SiteAnswers, journal_of}
 use Rattle.rb_run_site.specs.Runs.{AreBytesBehind}
-use Rattle.rb_run_site.specs.Starts.{Starts, sent_again}
+use Rattle.rb_run_site.specs.Starts.{Starts}
 use Rattle.rb_run_site.specs.declared.fault.SiteFault.{SiteFault}
 use Rattle.rb_run_site.specs.declared.fault.SiteFault.TheVariants.{NoConfig, BadConfig, NoSite, AnotherJournal, BadEntry, WrongReply}
 use Rattle.rb_run_site.specs.declared.fault.SiteFault.TheVariants.{Damaged, NoJournal, JournalThere, InUse}

@@ -7,6 +7,7 @@ use Rattle.rb_lines.specs.Lines.{lines_of}
 use Rattle.rb_site.specs.declared.entry.Entry.{Entry}
 use Rattle.rb_site.specs.Seen.{IsReplayed, SeenSite, first_seen}
 use Rattle.rb_node.specs.Replays.{IsReadWhole}
+use Rattle.rb_node.specs.Resends.{sent_again}
 use Rattle.rb_run_site.specs.Journals.{journal_head, journal_of, lines_of_entries}
 use Rattle.rb_run_site.specs.Files.{BeginsWith, IsAnother, IsNoBeginning, IsUndamaged}
 use Rattle.rb_run_site.specs.FirstLines.{HasReadBlanks, IsBehindBlanks, IsLongFirst, not_blank}
@@ -14,7 +15,7 @@ use Rattle.rb_run_site.specs.Replays.{EndsReplay, GoesOnBy}
 use Rattle.rb_run_site.specs.declared.fault.SiteFault.{SiteFault}
 use Rattle.rb_run_site.specs.declared.fault.SiteFault.TheVariants.{NoConfig, BadConfig, NoSite, AnotherJournal, BadEntry, WrongReply}
 use Rattle.rb_run_site.specs.declared.fault.SiteFault.TheVariants.{Damaged, LongLine, Read, OutOfMemory}
-use Rattle.rb_run_site.specs.Starts.{IsJournalOf, IsOf, sent_again}
+use Rattle.rb_run_site.specs.Starts.{IsJournalOf, IsOf}
 
 -- the line that a journal is still to begin with: the configuration's, if it has no line
 abbrev pub IsToBegin : List (List ℕ) → SeenSite → List ℕ → Type 0

@@ -1,26 +1,20 @@
 -- The lines of a journal, replayed at a site.
-use Rattle.std.specs.Prelude.{◌≡◌, ◌≢◌, ◌⊎◌, ℕ, zero, suc, ◌+◌, ◌<◌, Bool, true, if◌then◌else◌, List, [], ◌∷◌, ◌++◌, length, Some}
+use Rattle.std.specs.Prelude.{◌≡◌, ◌≢◌, ◌⊎◌, ℕ, ◌+◌, ◌<◌, Bool, true, if◌then◌else◌, List, [], ◌∷◌, ◌++◌, length, Some}
 use Rattle.serde_json.specs.Written.{compact_text}
 use Rattle.rb_journal.specs.Lines.{IsBatch, recovered}
-use Rattle.rb_money.specs.Settings.{Settings}
 use Rattle.rb_site.specs.declared.entry.Entry.{Entry}
-use Rattle.rb_site.specs.Events.{ModelSite, after_event, is_full, reply_to, sent_at}
+use Rattle.rb_site.specs.Events.{is_full, reply_to, sent_at}
 use Rattle.rb_site.specs.Histories.{events_of}
 use Rattle.rb_site.specs.Seen.{SeenSite, next_sites, state_of}
 use Rattle.rb_history.specs.Entries.{entry_json, entry_on}
 use Rattle.rb_history.specs.Fits.{Each}
 use Rattle.rb_node.specs.Answers.{SeenNode, sent_line}
 use Rattle.rb_node.specs.Replays.{IsReadBack, IsReplayedAs}
+use Rattle.rb_node.specs.Resends.{resent}
 use Rattle.rb_run_site.specs.Journals.{lines_of_entries}
 use Rattle.rb_run_site.specs.declared.fault.SiteFault.{SiteFault}
 use Rattle.rb_run_site.specs.declared.fault.SiteFault.TheVariants.{BadEntry, WrongReply}
 use Rattle.rb_run_site.specs.declared.fault.SiteFault.TheVariants.{OutOfMemory}
-
--- what entries sent, but for a number of the first: a line for each that sent any message
-abbrev pub resent : Settings → ModelSite → ℕ → List Entry → List ℕ
-resent s t k [] = []
-resent s t zero (x ∷ xs) = sent_line s (sent_at s t x.event) ++ resent s (after_event s t x.event) zero xs
-resent s t (suc k) (x ∷ xs) = resent s (after_event s t x.event) k xs
 
 -- the site went on by these entries, each of which is its answer to the event
 pub record GoesOnBy (old new : SeenSite) (xs : List Entry) : Type 0 where

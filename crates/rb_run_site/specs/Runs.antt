@@ -6,9 +6,10 @@ use Rattle.rb_journal.specs.Lines.{IsIntact, recovered}
 use Rattle.rb_site.specs.Seen.{SeenSite}
 use Rattle.rb_journal.specs.Run.{AreFirst}
 use Rattle.rb_journal.specs.Turns.{AreTurns, Turn, lines_added, texts}
+use Rattle.rb_node.specs.Resends.{sent_again}
 use Rattle.rb_run_site.specs.Files.{IsNew}
 use Rattle.rb_run_site.specs.Journals.{SiteAnswers, journal_head, journal_of}
-use Rattle.rb_run_site.specs.Starts.{IsBehind, Starts, sent_again}
+use Rattle.rb_run_site.specs.Starts.{IsBehind, Starts}
 
 -- these bytes are what is behind the configuration's line of the input, and their first line has this number
 abbrev pub AreBytesBehind : ℕ → Option (List ℕ) → List ℕ → Type 0

@@ -1,13 +1,11 @@
 -- The site that a run starts with.
-use Rattle.std.specs.Prelude.{◌≡◌, ◌⊎◌, ℕ, ◌+◌, ◌-◌, ◌<◌, List, [], ◌∷◌, ◌++◌, length, Option, Some, IfSome}
-use Rattle.rb_site.specs.Events.{first_site}
+use Rattle.std.specs.Prelude.{◌≡◌, ◌⊎◌, ℕ, ◌+◌, ◌<◌, List, [], ◌∷◌, ◌++◌, length, Option, Some, IfSome}
 use Rattle.rb_site.specs.Seen.{IsReplayed, SeenSite, first_seen}
 use Rattle.rb_history.specs.Configurations.{config_on}
 use Rattle.rb_lines.specs.Lines.{lines_of}
 use Rattle.rb_node.specs.Replays.{IsReadWhole}
 use Rattle.rb_run_site.specs.FirstLines.{not_blank}
 use Rattle.rb_run_site.specs.Journals.{journal_of}
-use Rattle.rb_run_site.specs.Replays.{resent}
 
 -- the site is of the configuration on this line, and of this number
 pub record IsOf (config : List ℕ) (me : ℕ) (x : SeenSite) : Type 0 where
@@ -18,10 +16,6 @@ pub record IsOf (config : List ℕ) (me : ℕ) (x : SeenSite) : Type 0 where
 -- a journal without lines is of a site before any event; else the lines are the site's journal
 abbrev pub IsJournalOf : List (List ℕ) → SeenSite → Type 0
 IsJournalOf lines x = ((lines ≡ []) × (x ≡ first_seen x.settings x.me)) ⊎ (lines ≡ journal_of x)
-
--- what is put out again: what up to this number of the last entries sent
-abbrev pub sent_again : ℕ → SeenSite → List ℕ
-sent_again most x = resent x.settings (first_site x.me) (length x.entries - most) x.entries
 
 -- the input's first line that isn't blank is the configuration's, and these lines are behind it, of which the first has
 -- this number
