@@ -17,7 +17,7 @@ use Rattle.rb_site.proofs.Public.Seen.{settings-next}
 use Rattle.rb_history.specs.ConfigLines.{ConfigsAreRead, config_json}
 use Rattle.rb_history.specs.Fits.{Each}
 use Rattle.rb_history.proofs.Public.Each.{each_both}
-use Rattle.rb_node.specs.Answers.{IsSiteAnswer}
+use Rattle.rb_node.specs.LineAnswers.{IsLineAnswer}
 use Rattle.rb_node.specs.Laws.{AnswersAreReplayed, AreReplayed}
 use Rattle.rb_node.specs.Replays.{IsReadBack, IsReadWhole}
 use Rattle.rb_journal.specs.Turns.{AreTurns, Turn, lines_added, state_after}
@@ -51,14 +51,14 @@ turn_read : AnswersAreReplayed → (x : SeenSite) (t : Turn SeenSite) → IsRepl
     → IsReadWhole x → IsReadWhole t.after
 turn_read replays x t is a read = by (is_long t.line) a.answered
   where
-    own : IsSiteAnswer x t.after t.line t.text (concat t.added) → IsReadWhole t.after
+    own : IsLineAnswer x t.after t.line t.text (concat t.added) → IsReadWhole t.after
     own answer =
         let now = t.after in
         let taken = turn_taken x.settings x t refl is a in
-        let new : List Entry = answer.recorded in
-        let more : Each (IsReadBack x.settings x.me) new =
-        each_read x.settings x.me x new now refl refl (replays x now t.line t.text (concat t.added) a.configured is.within answer) in
-        subst (Each (IsReadBack now.settings now.me)) (sym answer.recorded_are)
+        let some = replays x now t.line t.text (concat t.added) a.configured is.within answer in
+        let new : List Entry = some.recorded in
+        let more : Each (IsReadBack x.settings x.me) new = each_read x.settings x.me x new now refl refl some.replayed in
+        subst (Each (IsReadBack now.settings now.me)) (sym some.recorded_are)
         (subst (λ i. Each (IsReadBack now.settings i) (x.entries ++ new)) (sym taken.me)
         (subst (λ c. Each (IsReadBack c x.me) (x.entries ++ new)) (sym taken.settings)
         (each_both (IsReadBack x.settings x.me) x.entries new read more)))
@@ -66,7 +66,7 @@ turn_read replays x t is a read = by (is_long t.line) a.answered
     by : (b : Bool) → IsAnswer b x t.number t.line t.added t.text t.after → IsReadWhole t.after
     by true bad = subst IsReadWhole (sym bad.same) read
     by false (inl answer) = own answer
-    by false (inr bad) = subst IsReadWhole (sym bad.1.same) read
+    by false (inr bad) = subst IsReadWhole (sym bad.2.same) read
 
 turns_read : AnswersAreReplayed → (x : SeenSite) (turns : List (Turn SeenSite)) → IsReplayed x → AreTurns SiteAnswers x turns
     → IsReadWhole x → IsReadWhole (state_after x turns)

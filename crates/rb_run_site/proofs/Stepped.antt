@@ -18,6 +18,14 @@ use Rattle.rb_crashes.specs.Crashes.{DiskSite, DiskStep, MayAllHappen, MayHappen
 use Rattle.rb_crashes.proofs.Public.{after_both, both_may}
 use Rattle.rb_journal.specs.Lines.{recovered}
 use Rattle.rb_journal.specs.Turns.{AreTurns, Turn, lines_added, state_after}
+use Rattle.std.proofs.Common.{Some, None}
+use Rattle.std.specs.Str.{is_utf8}
+use Rattle.rb_history.specs.declared.question.Question.{Question}
+use Rattle.rb_history.specs.Entries.{event_of_line}
+use Rattle.rb_history.specs.Questions.{question_of_line}
+use Rattle.rb_history.proofs.Public.Questions.{question_no_event}
+use Rattle.rb_node.specs.Answers.{event_on}
+use Rattle.rb_node.specs.LineAnswers.{question_on}
 use Rattle.rb_lines.specs.Lines.{is_long}
 use Rattle.rb_run_site.specs.Journals.{IsAnswer, SiteAnswers, journal_of}
 use Rattle.rb_run_site.specs.Runs.{IsSiteRun}
@@ -121,17 +129,28 @@ record HasEvents (x : SeenSite) (t : Turn SeenSite) : Type 0 where
   on_line : AreEventsOf x.settings t.line events
   after : t.after ≡ next_sites x events
 
+-- a question is no event
+no_event : (s : Settings) (l : List ℕ) (q : Question) → question_on l ≡ Some q → event_on s l ≡ None
+unfolding question_on event_on
+no_event s l q asked = at (is_utf8 l) asked
+  where
+    at : (b : Bool) → cond b (question_of_line l) None ≡ Some q → cond b (event_of_line s l) None ≡ None
+    at true asked = question_no_event s l q asked
+    at false asked = refl
+
 events_in : (x : SeenSite) (t : Turn SeenSite) → SiteAnswers x t.number t.line t.added t.text t.after → HasEvents x t
 events_in x t a = by (is_long t.line) refl a.answered
   where
     by : (b : Bool) → is_long t.line ≡ b → IsAnswer b x t.number t.line t.added t.text t.after → HasEvents x t
     by true long bad = record { events = []; on_line = inr (refl, inr long); after = bad.same }
-    by false short (inl own) = record {
+    by false short (inl (inr asked)) =
+        record { events = []; on_line = inr (refl, inl (no_event x.settings t.line asked.question asked.is_question)); after = asked.after }
+    by false short (inl (inl own)) = record {
       events = own.event ∷ map Apply own.applied;
       on_line = inl (own.event, own.applied, own.is_event, refl);
       after = own.after;
     }
-    by false short (inr bad) = record { events = []; on_line = inr (refl, inl bad.0); after = bad.1.same }
+    by false short (inr bad) = record { events = []; on_line = inr (refl, inl bad.0); after = bad.2.same }
 
 -- the steps of a turn lead from a site that restarts to one that does
 pub record TakesTurn (s : Settings) (x : SeenSite) (t : Turn SeenSite) : Type 0 where

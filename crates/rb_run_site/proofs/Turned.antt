@@ -18,6 +18,7 @@ use Rattle.rb_lines.specs.declared.limits.TheConstants.{LINE_LIMIT}
 use Rattle.std.proofs.Common.{◌≤◌, length, arith}
 use Rattle.std.proofs.lemmas.Bool.Decides.{nat_tests}
 use Rattle.rb_node.specs.Answers.{IsSiteAnswer, event_on, line_of}
+use Rattle.rb_node.specs.LineAnswers.{IsLineAnswer, IsQuestionAnswer, question_on}
 use Rattle.rb_run_site.specs.Journals.{IsAnswer, IsBadAnswer, SiteAnswers, bad_json, journal_head, journal_of, lines_of_entries}
 use Rattle.rb_run_site.proofs.EntryLines.{are_theirs, fed, joined_lines}
 
@@ -50,20 +51,21 @@ journal_grows old new s m xs more =
 
 -- what a site adds to the entries are lines of a journal
 pub batched : EntriesAreLines → (old new : SeenSite) (line text entries : List ℕ) → IsConfigured old.settings
-    → IsSiteAnswer old new line text entries → IsBatch entries
-batched are old new line text entries ok a =
+    → IsLineAnswer old new line text entries → IsBatch entries
+batched are old new line text entries ok (inl a) =
     subst IsBatch (sym a.entries_are) (are_theirs are old.settings ok old.me a.recorded).batch
+batched are old new line text entries ok (inr a) = subst IsBatch (sym a.entries_are) refl
 
 -- a line that isn't too long
 pub short_line : (l : List ℕ) → length l ≤ LINE_LIMIT → is_long l ≡ false
 short_line l few = grind (arith, nat_tests)
 
 -- the site took the line of an event: it is a turn
-pub turned : EntriesAreLines → (old new : SeenSite) (number : ℕ) (line words entries text text_after : List ℕ)
+event_turned : EntriesAreLines → (old new : SeenSite) (number : ℕ) (line words entries text text_after : List ℕ)
     (batch batch_after : List (List ℕ)) → IsConfigured old.settings → is_long line ≡ false → IsSiteAnswer old new line words entries
     → text_after ≡ text ++ words → batch_after ≡ batch ++ recovered entries
     → IsTurn SiteAnswers old new (journal_of old) (journal_of new) batch batch_after number line text text_after
-turned are old new number line words entries text text_after batch batch_after ok short a said more =
+event_turned are old new number line words entries text text_after batch batch_after ok short a said more =
     let added = lines_of_entries old.settings old.me a.recorded in
     let theirs = are_theirs are old.settings ok old.me a.recorded in
     let lines : recovered entries ≡ added = ap recovered a.entries_are ∙ theirs.lines in
@@ -77,7 +79,7 @@ turned are old new number line words entries text text_after batch batch_after o
       words = words;
       answered = record {
         configured = ok;
-        answered = subst (λ b. IsAnswer b old number line added words new) (sym short) (inl (subst (IsSiteAnswer old new line words) bytes a));
+        answered = subst (λ b. IsAnswer b old number line added words new) (sym short) (inl (inl (subst (IsSiteAnswer old new line words) bytes a)));
         after = grown;
       };
       lines_are = grown;
@@ -85,7 +87,38 @@ turned are old new number line words entries text text_after batch batch_after o
       text_is = said;
     }
 
--- the site answered that a line is no event, for this reason: it is a turn that changes nothing
+-- the site answered a question: it is a turn that changes nothing
+question_turned : (old new : SeenSite) (number : ℕ) (line words entries text text_after : List ℕ) (batch batch_after : List (List ℕ))
+    → IsConfigured old.settings → is_long line ≡ false → IsQuestionAnswer old new line words entries → text_after ≡ text ++ words
+    → batch_after ≡ batch ++ recovered entries
+    → IsTurn SiteAnswers old new (journal_of old) (journal_of new) batch batch_after number line text text_after
+question_turned old new number line words entries text text_after batch batch_after ok short a said more =
+    let grown : journal_of new ≡ journal_of old ++ [] = ap journal_of a.after ∙ sym (append-nil (journal_of old)) in
+    let same : IsQuestionAnswer old new line words [] = subst (IsQuestionAnswer old new line words) a.entries_are a in
+    record {
+      added = [];
+      words = words;
+      answered = record {
+        configured = ok;
+        answered = subst (λ b. IsAnswer b old number line [] words new) (sym short) (inl (inr same));
+        after = grown;
+      };
+      lines_are = grown;
+      batch_is = more ∙ ap (λ l. batch ++ recovered l) a.entries_are;
+      text_is = said;
+    }
+
+-- the site answered a line: it is a turn
+pub turned : EntriesAreLines → (old new : SeenSite) (number : ℕ) (line words entries text text_after : List ℕ)
+    (batch batch_after : List (List ℕ)) → IsConfigured old.settings → is_long line ≡ false → IsLineAnswer old new line words entries
+    → text_after ≡ text ++ words → batch_after ≡ batch ++ recovered entries
+    → IsTurn SiteAnswers old new (journal_of old) (journal_of new) batch batch_after number line text text_after
+turned are old new number line words entries text text_after batch batch_after ok short (inl a) said more =
+    event_turned are old new number line words entries text text_after batch batch_after ok short a said more
+turned are old new number line words entries text text_after batch batch_after ok short (inr a) said more =
+    question_turned old new number line words entries text text_after batch batch_after ok short a said more
+
+-- the site answered that a line is bad, for this reason: it is a turn that changes nothing
 not_taken : (old new : SeenSite) (number : ℕ) (why line text text_after : List ℕ) (batch batch_after : List (List ℕ)) → IsConfigured old.settings
     → (IsBadAnswer why old new number [] (line_of (bad_json why number)) → IsAnswer (is_long line) old number line [] (line_of (bad_json why number)) new)
     → new ≡ old → text_after ≡ text ++ line_of (bad_json why number) → batch_after ≡ batch
@@ -101,14 +134,14 @@ not_taken old new number why line text text_after batch batch_after ok is same s
       text_is = said;
     }
 
--- the line is no event
+-- the line is no event and no question
 pub bad_line : (old new : SeenSite) (number : ℕ) (line text text_after : List ℕ) (batch batch_after : List (List ℕ)) → IsConfigured old.settings
-    → is_long line ≡ false → event_on old.settings line ≡ None → new ≡ old
+    → is_long line ≡ false → event_on old.settings line ≡ None → question_on line ≡ None → new ≡ old
     → text_after ≡ text ++ line_of (bad_json (codes "line") number) → batch_after ≡ batch
     → IsTurn SiteAnswers old new (journal_of old) (journal_of new) batch batch_after number line text text_after
-bad_line old new number line text text_after batch batch_after ok short none same said kept =
+bad_line old new number line text text_after batch batch_after ok short none unasked same said kept =
     not_taken old new number (codes "line") line text text_after batch batch_after ok
-    (λ bad. subst (λ b. IsAnswer b old number line [] (line_of (bad_json (codes "line") number)) new) (sym short) (inr (none, bad)))
+    (λ bad. subst (λ b. IsAnswer b old number line [] (line_of (bad_json (codes "line") number)) new) (sym short) (inr (none, unasked, bad)))
     same said kept
 
 -- the line is too long

@@ -9,7 +9,8 @@ use Rattle.rb_site.specs.Seen.{SeenSite}
 use Rattle.rb_history.specs.ConfigLines.{config_json}
 use Rattle.rb_history.specs.Entries.{entry_json}
 use Rattle.rb_history.specs.Values.{number_json}
-use Rattle.rb_node.specs.Answers.{IsSiteAnswer, event_on, line_of}
+use Rattle.rb_node.specs.Answers.{event_on, line_of}
+use Rattle.rb_node.specs.LineAnswers.{IsLineAnswer, question_on}
 
 -- the line of a configuration, with its line feed
 abbrev pub journal_head : Settings → List ℕ
@@ -23,22 +24,22 @@ lines_of_entries s me xs = map (λ x. line_of (entry_json s me x)) xs
 abbrev pub journal_of : SeenSite → List (List ℕ)
 journal_of x = journal_head x.settings ∷ lines_of_entries x.settings x.me x.entries
 
--- a word for why a line is no event, and the line's number in the input; the keys in byte order
+-- a word for why a line is bad, and the line's number in the input; the keys in byte order
 abbrev pub bad_json : List ℕ → ℕ → Data
 bad_json why number = object (member (codes "bad") (string why) (member (codes "line") (number_json number) no_members))
 
--- a line is answered by why it is no event, and the site stays as it was
+-- a line is answered by why it is bad, and the site stays as it was
 pub record IsBadAnswer (why : List ℕ) (old new : SeenSite) (number : ℕ) (added : List (List ℕ)) (text : List ℕ) : Type 0 where
   pub text_is : text ≡ line_of (bad_json why number)
   pub same : new ≡ old
   pub none : added ≡ []
 
--- the answer to the line of this number, by whether it is too long: if so it is no event, whatever it is; else it is
--- answered as an event, or it is none
+-- the answer to the line of this number, by whether it is too long: if so it is bad, whatever it is; else it is answered
+-- as an event or a question, or it is none
 abbrev pub IsAnswer : Bool → SeenSite → ℕ → List ℕ → List (List ℕ) → List ℕ → SeenSite → Type 0
 IsAnswer true old number line added text new = IsBadAnswer (codes "long") old new number added text
-IsAnswer false old number line added text new = IsSiteAnswer old new line text (concat added)
-    ⊎ ((event_on old.settings line ≡ None) × IsBadAnswer (codes "line") old new number added text)
+IsAnswer false old number line added text new = IsLineAnswer old new line text (concat added)
+    ⊎ ((event_on old.settings line ≡ None) × (question_on line ≡ None) × IsBadAnswer (codes "line") old new number added text)
 
 -- the site answers the line of this number by this text and is then the second; the lines of its new entries are these
 pub record SiteAnswers (old : SeenSite) (number : ℕ) (line : List ℕ) (added : List (List ℕ)) (text : List ℕ) (new : SeenSite) :

@@ -29,6 +29,6 @@ returns-in-Err-BadLine-clause-answered c =
     let bad = c.in-Err-BadLine.ensures.bad (ap Err c.in-Err-BadLine.field-0-is) in
     on_ok_weaker c.append_bad_line.result
     (λ said. bad_line c.args.self.now.node.site c.answer.new.self.site c.args.number c.args.line.now c.args.text.now.items
-    c.append_bad_line.new.out.items _ _ ok (short_line c.args.line.now c.requires.short) bad.0 (ap (λ (n : SeenNode). n.site) bad.1)
+    c.append_bad_line.new.out.items _ _ ok (short_line c.args.line.now c.requires.short) bad.0 bad.1 (ap (λ (n : SeenNode). n.site) bad.2)
     (said ∙ ap (λ l. l ++ line_of (bad_json (codes "line") c.args.number)) c.in-Err-BadLine.ensures.err.0) refl)
     c.append_bad_line.ensures.ok
