@@ -219,16 +219,20 @@ sent, and the replies of the operations that became ready, which are applied the
     "deps":[[0,0,0,0,0,0,0,0],0],"home":0,"kind":"deposit","name":"B0.1"}}],"then":[]}
 
 What is indented further here is the rest of the line above it. A message is given to its receivers as an event,
-as it is: an operation to every other site, the token to the site that it is for. Without --new the journal has to
-be there, and goes on: first the messages of its last N entries are written again, those of all entries if
---resend isn't given. With --new it isn't there, or is empty: no other operations are made under names that are taken.
+as it is: an operation to every other site, the token to the site that it is for. A line that is no event is answered
+{"bad":"line","line":N}, by its number, and a too long one {"bad":"long","line":N}. {"about":"site"} shows what the
+site has, and {"resend":N} writes the messages of its last N entries again.
+
+Without --new the journal has to be there, and goes on: first the messages of its last N entries are written again,
+those of all entries if --resend isn't given. With --new it isn't there, or is empty: no other operations are made
+under names that are taken. What a crash left behind its last line is kept in FILE.cut.
 
 The options have any order, as --me 0 or as --me=0; a file's name that begins with - is written ./-
 
 Statuses:
   0  every line was answered
-  2  a bad line, no configuration, no such site, wrong words, or a journal that isn't there without --new, that is
-     there with it, that is in use, or not of this site
+  2  no configuration, a bad one, no such site, wrong words, or a journal that isn't there without --new, that is
+     there with it, that is in use, damaged, or not of this site
   3  a read or a write failed, or the journal did
   4  out of memory
 
