@@ -15,36 +15,34 @@ import bank
 import closing
 import draw
 import explain
-import histories
 import picture
 import saying
 import world
 
-TORN = b' "event":{"deposit":["ann",1]},"reply":{"ki'  # the gate, and what a crash left of a write behind it
+Json = dict[str, Any]
+TORN = ' "event":{"deposit":["ann",1]},"reply":{"ki'  # the gate, and what a crash left of a write behind it
 
 
 class Answers:
-    """One running program is given each line of the page's script that it hasn't had. A second one, with histories
-    long enough, is asked the statements that give the balances, so that no question is in the script's histories."""
+    """One running program is given each line of the page's script that it hasn't had. What its replies don't say is
+    asked of another, with room for questions, so that no question is in the script's histories."""
 
     def __init__(self, program: bank.Program) -> None:
-        self.program, self.lock = program, threading.Lock()
-        self.session, self.beside = Child(program), Child(program)
+        self.program, self.lock, self.session = program, threading.Lock(), Child(program)
 
     def close(self) -> None:
         self.session.close()
-        self.beside.close()
 
-    def of_script(self, data: bytes) -> tuple[world.World, histories.Rows]:
-        """The steps of a script, and its operations' balances."""
+    def of_script(self, data: bytes) -> world.World:
+        """The steps of a script, as far as it comes."""
         lines = world.lines_of(data)
+        config = world.parsed(lines[0][1]) if lines else None
         if len(lines) < 2:
             run = self.program.run("script", data)
-            config = world.parsed(lines[0][1]) if lines else None
-            return world.World(config, [], error=run.error, bad_line=run.bad_line), {}
+            return world.World(config, [], error=run.error, bad_line=run.bad_line)
         replies, error = self.session.run(data.rstrip(b"\n").split(b"\n"))
         at = re.match(r"rbbank: line (\d+): ", error)
-        found = world.World(world.parsed(lines[0][1]) or {}, [], error=error, bad_line=int(at.group(1)) if at else None)
+        found = world.World(config or {}, [], error=error, bad_line=int(at.group(1)) if at else None)
         for (number, line), reply in zip(lines[1:], replies):
             event = json.loads(line)
             step = world.Step(number, event.pop("site"), event, json.loads(reply))
@@ -52,48 +50,58 @@ class Answers:
                 step.came = event["deliver"]
             found.steps.append(step)
             world.note_sent(found, len(found.steps) - 1)
-        done = [line for (_, line), reply in zip(lines[1:], replies) if reply != '{"refused":23}']
-        has = self.balances(found, done)
-        world.add_balances(found, has)
-        return found, has
+        return found
 
-    def balances(self, found: world.World, commands: list[bytes]) -> histories.Rows:
-        if not found.steps:
-            return {}
-        asked = world.questions(found.config, [(step.site, step.event) for step in found.steps])
-        self.beside.run([with_room(found.config), *commands])
-        return world.balances(asked, [self.beside.ask(question.encode()) for question in asked])
-
-    def whole(self, data: bytes) -> tuple[world.World, histories.Rows]:
+    def whole(self, data: bytes) -> world.World:
         """The same of a script that is answered whole."""
-        found, has = self.of_script(data)
+        found = self.of_script(data)
         if found.error or found.config is None:
             raise bank.Stop(bad_lines.explained(data, found.error, found.bad_line, False))
-        return found, has
+        return found
+
+    def again(self, word: str, found: world.World, *more: str) -> list[str]:
+        """What the program writes of what was done and more behind it, in a bank whose histories take both."""
+        begin = bank.compact(found.config | {"history": world.LARGEST_HISTORY})
+        done = [world.as_command(step) for step in found.steps if step.taken and step.reply != {"refused": 23}]
+        run = self.program.run(word, "\n".join([begin, *done, *more, ""]).encode())
+        return raised(run.error) if run.error else run.replies
+
+    def recorded(self, found: world.World) -> list[Json]:
+        """The entries of what was done; behind them each message came to one more site, so that it's there as it was
+        sent, and statements were asked, whose balances are put beside the steps."""
+        sites = found.config["sites"]
+        makers = [found.steps[at].site for at, _ in found.senders if found.steps[at].taken]
+        brought = [bank.compact({"deliver": n, "site": (at + 1) % sites}) for n, at in enumerate(makers, 1)]
+        asked = world.questions(found.config, [(step.site, step.event) for step in found.steps])
+        entries = [json.loads(line) for line in self.again("histories", found, *brought, *asked)[1:]]
+        last = {(it["site"], it["event"].get("statement")): it["reply"] for it in entries}
+        keys = [(it["site"], it["statement"]) for it in map(json.loads, asked)]
+        world.add_balances(found, world.balances(asked, [bank.compact(last[key]) for key in keys]))
+        return entries
 
     def world(self, data: bytes) -> str:
         """What happened, for the page."""
-        if world.are_histories(world.lines_of(data)):
-            found, has = world.of_histories(self.program, data), {}
-            words = list(explain.of_histories(found, data)) if found.config or found.error else []
-        else:
-            found, has = self.of_script(data)
-            words = []
+        are_histories = world.are_histories(world.lines_of(data))
+        found = world.of_histories(self.program, data) if are_histories else self.of_script(data)
+        words = list(explain.of_histories(found, data)) if are_histories and (found.config or found.error) else []
         if found.error:
             words = bad_lines.explained(data, found.error, found.bad_line, found.is_histories).split("\n")
+        events = [step.event for step in found.steps]
+        events += [entry["event"] for entry in self.recorded(found)] if events else []
+        tokens = {f"token {it['token'][0]}": it["token"] for it in events if "token" in it}
+        known = dict.fromkeys(what for _, what in found.senders)  # in the order of sending
+        known |= {it["shadow"]["name"]: it["shadow"] for it in events if "shadow" in it}
         return json.dumps({
             "histories": found.is_histories, "config": found.config, "error": found.error, "words": words,
             "bad_line": found.bad_line, "verdict": found.verdict, "steps": [of_step(found, it) for it in found.steps],
-            "messages": list(histories.messages(found)), "operations": histories.shadows(found, has)})
+            "messages": [{"step": at, "what": what, "token": tokens.get(what)} for at, what in found.senders],
+            "operations": {name: shadow for name, shadow in known.items() if shadow}})
 
-    def histories(self, data: bytes) -> str:
-        return histories.lines(*self.whole(data))
-
-    def migrated(self, data: bytes) -> str:
-        """Histories of version 1 in version 2, by the program."""
-        run = self.program.run("migrate", data)
+    def written(self, word: str, data: bytes) -> str:
+        """What the program writes of a text: `histories` of a script, or `migrate` of histories."""
+        run = self.program.run(word, data)
         if run.error:
-            raise bank.Stop(bad_lines.explained(data, run.error, run.bad_line, True))
+            raise bank.Stop(bad_lines.explained(data, run.error, run.bad_line, word == "migrate"))
         return "\n".join([*run.replies, ""])
 
     def picture(self, data: bytes) -> str:
@@ -101,30 +109,27 @@ class Answers:
 
     def crash(self, site: int, data: bytes) -> str:
         """Ends a site and starts it from its journal: what it sends again, and the balances that it has."""
-        found, has = self.whole(data)
-        entries = histories.of_sites(found, has)
-        if not 0 <= site < len(entries):
+        found = self.whole(data)
+        if not 0 <= site < found.config["sites"]:
             raise bank.Stop("no such site")
-        config = histories.whole(found.config) | {"history": world.LARGEST_HISTORY}
-        begin = histories.written(config)
+        begin, *entries = self.again("histories", found)
+        mine = [line for line in entries if json.loads(line)["site"] == site]
         applied = sum(len(step.changed) for step in found.steps if step.site == site)
-        asked = [bank.compact({"asof": [name, applied]}) for name, _ in config["accounts"]]
-        journal = (begin + histories.written(*entries[site])).encode() + TORN
-        given = "\n".join([begin.strip(), *asked, ""]).encode()
-        lines, cut = self.restarted(site, journal, given)
+        names = [name for name, _ in found.config["accounts"]]
+        asked = [bank.compact({"asof": [name, applied]}) for name in names]
+        lines, cut = self.restarted(site, "\n".join([begin, *mine, TORN]), "\n".join([begin, *asked, ""]))
         sent = [message for line in lines if "reply" not in line for message in line["sends"]]
         balances = [line["reply"]["balance"] for line in lines if "reply" in line]
-        return json.dumps({"entries": len(entries[site]), "cut": cut, "sent": sent,
-                           "has": [[name, cents] for (name, _), cents in zip(config["accounts"], balances)]})
+        return json.dumps({"entries": len(mine), "cut": cut, "sent": sent, "has": list(zip(names, balances))})
 
-    def restarted(self, site: int, journal: bytes, given: bytes) -> tuple[list[dict[str, Any]], str]:
+    def restarted(self, site: int, journal: str, given: str) -> tuple[list[Json], str]:
         """What `rbbank site` writes over a journal that a crash left."""
         with tempfile.TemporaryDirectory() as folder:
             path = os.path.join(folder, f"{site}.journal")
             with open(path, "wb") as file:
-                file.write(journal)
+                file.write(journal.encode())
             words = [*self.program.words, "site", "--me", str(site), "--journal", path]
-            run = subprocess.run(words, input=given, capture_output=True, cwd=self.program.folder)
+            run = subprocess.run(words, input=given.encode(), capture_output=True, cwd=self.program.folder)
         told = run.stderr.decode("utf-8", "replace").replace(path, f"{site}.journal").strip()
         if run.returncode:
             raise bank.Stop(told or f"the site ended in {run.returncode}")
@@ -132,32 +137,22 @@ class Answers:
 
     def close_books(self, data: bytes) -> str:
         """The next bank's configuration, or why the books can't be closed: the audit's line, or what is open."""
-        found, has = self.whole(data)
-        run = self.program.run("audit", histories.lines(found, has).encode())
+        found, histories = self.whole(data), self.written("histories", data)
+        run = self.program.run("audit", histories.encode())
         if run.error or "order" not in json.loads(run.replies[0]):
             return run.replies[0] if run.replies else raised(run.error)
-        names = [name for name, _ in found.config["accounts"]]
-        asked = [bank.compact({"balance": name, "site": 0}).encode() for name in names]
-        self.beside.run([with_room(found.config), *self.done(data)])
-        balances = [json.loads(self.beside.ask(line))["balance"] for line in asked]
-        return histories.written(closing.closed(found, list(zip(names, balances)))).strip()
-
-    def done(self, data: bytes) -> list[bytes]:
-        """The commands of a script but for those that a full history refused."""
-        lines = [line for _, line in world.lines_of(data)][1:]
-        return [line for line, reply in zip(lines, self.session.replies) if reply != '{"refused":23}']
+        config = json.loads(histories.split("\n")[0])
+        names = [name for name, _ in config["accounts"]]
+        replies = self.again("script", found, *[bank.compact({"balance": name, "site": 0}) for name in names])
+        balances = [json.loads(reply)["balance"] for reply in replies[-len(names):]]
+        return bank.compact(closing.closed(found, config, list(zip(names, balances))))
 
 
-def raised(why: str) -> str:
+def raised(why: str) -> Any:
     raise bank.Stop(why)
 
 
-def with_room(config: dict[str, Any]) -> bytes:
-    """A configuration whose histories take questions as well."""
-    return bank.compact(config | {"history": world.LARGEST_HISTORY}).encode()
-
-
-def of_step(found: world.World, step: world.Step) -> dict[str, Any]:
+def of_step(found: world.World, step: world.Step) -> Json:
     """A step, for the page."""
     said = saying.said(step)
     return {"line": step.line, "site": step.site, "event": step.event, "reply": step.reply, "mark": said.mark,

@@ -188,7 +188,7 @@ class Browse:
             page.click(f"[data-save='{kind}']")
         script, histories, picture = page.driver.execute_async_script("Promise.all(saved).then(arguments[0])")
         same("saved", "script", [json.loads(it) for it in script.split()], [json.loads(it) for it in text.split()])
-        same("saved", "histories", self.program.run("audit", histories.encode()).replies[0][:9], '{"order":')
+        same("saved", "histories", histories.split(), self.program.run("histories", text.encode()).replies)
         same("saved", "picture", picture[:5], "<svg ")
         page.load()
 

@@ -4,9 +4,9 @@
 usage: check.py [--quiet] PROGRAM      (--quiet prints only what is different)
 
 Every script that from_rows.py knows and those of play/runs, line by line as the page gives them, and back again. The
-histories that are made of each have to pass the program's audit, and the balances have to be those that it answers.
-Each site of a script is started from its journal, and has to have the same balances. Then the histories, migrations and
-journals of examples/, the puzzles, and what the server answers to requests that aren't its page's.
+balances have to be those that the program answers, and each operation that was made has to be known. Each site of a
+script is started from its journal, and has to have the same balances. Then the histories, migrations and journals of
+examples/, the puzzles, what is known of messages, and what the server answers to requests that aren't its page's.
 """
 from __future__ import annotations
 
@@ -23,7 +23,6 @@ import child
 import answers
 import bank
 import from_rows
-import histories
 import play
 import world
 
@@ -83,6 +82,8 @@ class Check:
         lines = text.rstrip("\n").split("\n")
         wanted = self.replies(lines)
         found = self.by_lines(name, lines, wanted)
+        made = [message["what"] for message in found["messages"] if not message["token"]]
+        same(name, "the operations that are known", list(found["operations"]), made)
         if found["error"] or not found["steps"]:
             return
         config = found["config"]
@@ -96,8 +97,8 @@ class Check:
     def made(self, name: str, text: str, config: dict[str, Any], balances: dict[int, dict[str, int]]) -> None:
         """What else is made of a script: histories, sites that start from journals, the next bank, a picture."""
         data = text.encode()
-        run = self.program.run("audit", self.asked.histories(data).encode())
-        same(name, "audit of its histories", run.replies[0][:9] if run.replies else run.error, '{"order":')
+        told = "\n".join([*self.program.run("histories", data).replies, ""])
+        same(name, "its histories", self.asked.written("histories", data), told)
         for site in range(config["sites"]):
             again = json.loads(self.asked.crash(site, data))
             same(name, f"site {site} after a crash", dict(again["has"]), balances[site])
@@ -121,7 +122,7 @@ def check_files(check: Check) -> None:
             wanted = bank.read(each["file"].removesuffix("jsonl") + "expected").decode().strip()
             same(each["name"], "verdict", bank.compact(found["verdict"]) if found["verdict"] else "", wanted)
         elif each["kind"] == "Migrations":
-            found = json.loads(check.asked.world(check.asked.migrated(data).encode()))
+            found = json.loads(check.asked.world(check.asked.written("migrate", data).encode()))
             same(each["name"], "histories of version 2", (found["histories"], found["config"]["version"]), (True, 2))
         elif each["kind"] == "Journals":
             found = json.loads(check.asked.world(data))
@@ -140,18 +141,34 @@ def check_puzzles(check: Check) -> None:
         same(puzzle["title"], "below zero", [has for step in found["steps"] for has in step["has"] if has[1] < 0], [])
 
 
+def check_messages(check: Check) -> None:
+    """What is known of messages, some of which came nowhere, also if a bad line is behind them."""
+    lines = ['{"accounts":[["ann",500],["bob",0]],"history":5,"sites":3,"version":2}',
+             '{"deposit":["bob",5],"site":2}', '{"deliver":1,"site":0}', '{"apply":"B2.1","site":0}',
+             '{"withdraw":["ann",7],"site":0}', '{"pass":1,"site":0}', '{"transfer":["ann","bob",2],"site":2}',
+             '{"cancel":"R1","site":0}', '{"bad":1}', ""]
+    found, known = check.world("\n".join(lines)), {"account": "ann", "amount": 7, "home": 0}
+    same("messages", "the bad line", found["bad_line"], 9)
+    same("messages", "tokens", [message["token"] for message in found["messages"]], [None, None, [1, 1, 1], None])
+    same("messages", "operations", found["operations"], {
+        "B2.1": {"account": "bob", "amount": 5, "deps": [[], 0], "home": 2, "kind": "deposit", "name": "B2.1"},
+        "R1": known | {"deps": [[[2, 1]], 0], "kind": "withdraw", "name": "R1"},
+        "B0.1": known | {"deps": [[[2, 1]], 1], "kind": "cancel", "name": "B0.1", "target": "R1"}})
+
+
 def check_closing(check: Check) -> None:
     """What keeps a bank open, in words that are written here."""
     config, row = '{"accounts":[["ann",0]],"sites":2,"version":1}', '{"deposit":["ann",500],"site":0}'
     rows = [([row], {"fault": "open", "lacks": [[], ["B0.1"]]}),
             ([row, '{"deliver":1,"site":1}'], {"fault": "open", "lacks": [[], ["B0.1"]]}),
             ([row, '{"deliver":1,"site":1}', '{"apply":"B0.1","site":1}'],
-             histories.LIMITS | {"accounts": [["ann", 500]], "sites": 2, "version": 1}),
-            ([], histories.LIMITS | {"accounts": [["ann", 0]], "sites": 2, "version": 1})]
+             LIMITS | {"accounts": [["ann", 500]], "sites": 2, "version": 1}),
+            ([], LIMITS | {"accounts": [["ann", 0]], "sites": 2, "version": 1})]
     for lines, wanted in rows:
         same("closing", lines, json.loads(check.asked.close_books("\n".join([config, *lines, ""]).encode())), wanted)
 
 
+LIMITS = {"blue": 1_000_000, "epoch": 4_000_000_000, "history": 100_000_000, "inbox": 4096, "red": 1_000_000}
 BANK = b'{"accounts":[["ann",0]],"sites":2,"version":1}\n'
 ASKED = [
     (200, "GET", "/"), (200, "GET", "/page.css"), (200, "GET", "/page.js"), (200, "GET", "/puzzles.json"),
@@ -199,7 +216,7 @@ def main() -> int:
             scripts[each["name"]] = bank.read(each["file"]).decode()
     for name, text in scripts.items():
         check.script(name, text)
-    for part in (check_files, check_puzzles, check_closing, check_server):
+    for part in (check_files, check_puzzles, check_messages, check_closing, check_server):
         part(check)
     check.asked.close()
     print("\n".join(PROBLEMS), end="\n" if PROBLEMS else "")

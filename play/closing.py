@@ -8,7 +8,6 @@ from __future__ import annotations
 
 from typing import Any
 
-import histories
 import world
 
 MOST_CENTS = 100_000_000_000  # what an account may begin with
@@ -35,7 +34,7 @@ def lacking(found: world.World) -> list[list[str]]:
     return lacks
 
 
-def closed(found: world.World, balances: list[tuple[str, int]]) -> dict[str, Any]:
+def closed(found: world.World, config: dict[str, Any], balances: list[tuple[str, int]]) -> dict[str, Any]:
     """The next configuration, or why the books can't be closed."""
     lacks = lacking(found)
     if any(lacks):
@@ -43,4 +42,4 @@ def closed(found: world.World, balances: list[tuple[str, int]]) -> dict[str, Any
     for account, cents in balances:
         if cents > MOST_CENTS:
             return {"account": account, "fault": "limit"}
-    return histories.whole(found.config) | {"accounts": [list(each) for each in balances]}
+    return config | {"accounts": [list(each) for each in balances]}

@@ -131,8 +131,9 @@ class Handler(http.server.BaseHTTPRequestHandler):
         known, crash = self.server.answers, re.fullmatch(r"/crash/(\d{1,3})", self.path)
         if crash:
             return functools.partial(known.crash, int(crash.group(1))), "application/json"
-        return {"/world": (known.world, "application/json"), "/histories": (known.histories, "text/plain"),
-                "/migrated": (known.migrated, "text/plain"), "/picture": (known.picture, "image/svg+xml"),
+        return {"/world": (known.world, "application/json"), "/picture": (known.picture, "image/svg+xml"),
+                "/histories": (functools.partial(known.written, "histories"), "text/plain"),
+                "/migrated": (functools.partial(known.written, "migrate"), "text/plain"),
                 "/close": (known.close_books, "application/json")}.get(self.path, (None, ""))
 
     def do_POST(self) -> None:

@@ -4,7 +4,7 @@ import {S, described, isOnTheWay, tone, waits} from './state.js';
 
 function chip(at, n, kind) {
   const message = S.world.messages[n - 1], {token, what} = message, from = S.world.steps[message.step].site;
-  const means = token ? `token ${token[0]} for site ${message.to}` : `${what}, ${described(what)}`;
+  const means = token ? `token ${token[0]} for site ${token[1]}` : `${what}, ${described(what)}`;
   const does = {way: `let it come to site ${at}`, came: `let it come to site ${at} once more`, aside: 'put aside'};
   return `<button class="chip ${tone(message)} ${kind}" data-op="${token ? '' : what}" data-msg="${n}" data-to="${at}"
     data-key="${at}:${n}" title="message ${n}: ${escaped(means)}, sent by site ${from}" aria-label="message ${n}: ${

@@ -144,7 +144,7 @@ export const appliedAt = (site) => applications().filter((each) => JSON.parse(ea
 /** Whether a message may come to a site: it wasn't there yet, or its sender crashed and sent it again. */
 export function isOnTheWay(site, at, message, n) {
   if (S.world.steps[message.step].site === at || S.aside.has(`${at}:${n}`)) return false;
-  const isFor = message.to === undefined || message.to === at;
+  const isFor = !message.token || message.token[1] === at;
   return isFor && (!site.came[n] || site.came[n] <= (S.again.get(`${at}:${n}`) || 0));
 }
 /** Forgets what was noted of messages beyond the first: others will have their numbers. */
