@@ -8,5 +8,5 @@ use Rattle.rb_tests.proofs.worlds.commands.Goals as goal
 pub loop-line-preserved : goal.loop-line-preserved
 loop-line-preserved c =
     let P : List WorldEvent → Type 0 = λ es. All IsCommand es in
-    subst P (sym c.in-Ok-push.ensures.items) (All-append IsCommand c.loop-line.events.items _ c.loop-line.invariant
-    (All-cons IsCommand c.in-Ok.event [] c.in-Ok.ensures.command (All-nil IsCommand)))
+    subst P (sym c.in-Ok.ensures.items) (All-append IsCommand c.loop-line.events.items _ c.loop-line.invariant
+    (All-cons IsCommand _ [] c.in_ok-event.ensures.command (All-nil IsCommand)))
