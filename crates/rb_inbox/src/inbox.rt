@@ -3,7 +3,7 @@
 //! Held shadows are in a row for each home and one for red, free slots in front, so what comes backwards moves nothing.
 //! A row grows by doubling, and keeps its memory when it empties: giving that back takes 5 % more time for 4 % of the
 //! peak. What is held is compared with the clock itself, as a copy of the clock takes 10 instructions for each home.
-ghost use Rattle.std.specs.Prelude.{◌≡◌, ◌⊎◌, ◌==◌, ℕ, ◌+◌, ◌<◌, ◌≤◌, [], ◌++◌, filter, length, replicate, IfErr};
+ghost use Rattle.std.specs.Prelude.{◌≡◌, ◌≢◌, ◌⊎◌, ◌==◌, ℕ, ◌+◌, ◌<◌, ◌≤◌, [], ◌++◌, filter, length, replicate, IfErr};
 ghost use Rattle.std.specs.Prelude.{IfNone, IfOk, IfSome, OnErr, OnOk, Some, None, Ok, Err};
 ghost use Rattle.std.specs.Bool.{OnFalse, OnTrue};
 ghost use Rattle.std.specs.Option.{option_copied};
@@ -99,11 +99,7 @@ impl Inbox {
     {
         let (index, held) = self.find(&shadow.name);
         if let Some(held) = held {
-            return if held.same(shadow) {
-                Ok(PutAnswer::Already)
-            } else {
-                Err(Refusal::Conflict)
-            };
+            return answer_held(held, shadow);
         }
         if !self.may_hold(shadow, clock) {
             return Err(Refusal::InboxFull);
@@ -111,6 +107,27 @@ impl Inbox {
         match self.hold(shadow, index) {
             Ok(()) => Ok(PutAnswer::Held),
             Err(_) => Err(Refusal::OutOfMemory),
+        }
+    }
+
+    /// The answer that `put` would give if there is memory. Nothing changes.
+    ///
+    /// Errors: `Conflict` and `InboxFull`, where `put` has them.
+    pub fn check(&self, shadow: &Shadow, clock: &Clock) -> Result<PutAnswer, Refusal>
+        ensures welcome { result ≡ Ok PutAnswer.Held → IsWelcome self.now clock.now shadow.now }
+        ensures already { result ≡ Ok PutAnswer.Already → find_in self.now.held shadow.now.name ≡ Some shadow.now }
+
+        ensures conflict { result ≡ Err Refusal.Conflict → IsInConflict self.now shadow.now }
+        ensures full { result ≡ Err Refusal.InboxFull → IsTooMany self.now clock.now shadow.now }
+        ensures refusals { IfErr result (λ why. (why ≡ Refusal.Conflict) ⊎ (why ≡ Refusal.InboxFull)) }
+    {
+        if let Some(held) = self.held(&shadow.name) {
+            return answer_held(held, shadow);
+        }
+        if self.may_hold(shadow, clock) {
+            Ok(PutAnswer::Held)
+        } else {
+            Err(Refusal::InboxFull)
         }
     }
 
@@ -274,6 +291,20 @@ impl Inbox {
             Some(row) => row.as_slice(),
             None => &[],
         }
+    }
+}
+
+/// The answer to a shadow under whose name this one is held.
+#[inline(always)]
+fn answer_held(held: &Shadow, shadow: &Shadow) -> Result<PutAnswer, Refusal>
+    ensures already { result ≡ Ok PutAnswer.Already → held.now ≡ shadow.now }
+    ensures conflict { result ≡ Err Refusal.Conflict → held.now ≢ shadow.now }
+    ensures cases { (result ≡ Ok PutAnswer.Already) ⊎ (result ≡ Err Refusal.Conflict) }
+{
+    if held.same(shadow) {
+        Ok(PutAnswer::Already)
+    } else {
+        Err(Refusal::Conflict)
     }
 }
 
