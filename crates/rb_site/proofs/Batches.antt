@@ -108,10 +108,11 @@ abbrev pub is_of_size : List Request → Bool
 is_of_size rs = nat_le 1 (length rs) && nat_le (length rs) MOST_REQUESTS
 
 -- what comes of a batch's operations
-abbrev of_batch : Result (List Shadow) Refusal → Outcome
+abbrev pub of_batch : Result (List Shadow) Refusal → Outcome
 of_batch q = and_then Refuses q MakesAll
 
-batch_comes : (s : Settings) (t : ModelSite) (rs : List Request) (b : Bool) → is_of_size rs ≡ b →
+-- what a batch comes to, by whether it is of a fit size
+pub batch_comes : (s : Settings) (t : ModelSite) (rs : List Request) (b : Bool) → is_of_size rs ≡ b →
     outcome_of s t (Batch rs) ≡ cond (not b) (Refuses BadBatch) (of_batch (batch_of s t.me t.ops t.token 0 rs))
 unfolding outcome_of
 batch_comes s t rs b e = ap (λ c. cond (not c) (Refuses BadBatch) (of_batch (batch_of s t.me t.ops t.token 0 rs))) e

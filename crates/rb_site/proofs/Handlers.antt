@@ -157,7 +157,7 @@ refuses_pass z to why before a refused is = follows_as true z z before before _ 
 -- ---- a request is made
 
 -- what a request comes to, by what it makes
-submit_comes : (s : Settings) (t : ModelSite) (r : Request) (q : Result Shadow Refusal) → made_of s t.me t.ops t.token r ≡ q →
+pub submit_comes : (s : Settings) (t : ModelSite) (r : Request) (q : Result Shadow Refusal) → made_of s t.me t.ops t.token r ≡ q →
     outcome_of s t (Submit r) ≡ and_then Refuses q Makes
 unfolding outcome_of
 submit_comes s t r q made = ap (λ o. and_then Refuses o Makes) made
@@ -216,7 +216,7 @@ refuses_as_of z a n why given none is = answers_as z z _ _ given (as_of_comes z.
 -- ---- a held shadow is applied, or is let go
 
 -- what a name comes to, by what is held under it
-named_comes : (s : Settings) (t : ModelSite) (x : OpName) (o : Option Shadow) → find_in t.held x ≡ o → outcome_of s t (Apply x)
+pub named_comes : (s : Settings) (t : ModelSite) (x : OpName) (o : Option Shadow) → find_in t.held x ≡ o → outcome_of s t (Apply x)
     ≡ unless (λ v. cond (not (is_eligible t.ops v)) (Refuses NotReady) (outcome_of_check v (refusal_of_sound s t.ops v))) o
     (Refuses NotHeld)
 unfolding outcome_of
@@ -243,12 +243,13 @@ tied_as s now inbox token same = let P : Settings → Type 0 = λ z. IsTied z in
 pub refusal-sound : (s : Settings) (us : List Shadow) (v : Shadow) → IsSound s v → refusal_of s us v ≡ refusal_of_sound s us v
 refusal-sound s us v sound = ap (λ o. unless (λ why. Some (BadMessage why)) o (refusal_of_sound s us v)) sound
 
-dropped : (v : Shadow) (why : Refusal) → (why ≡ NotReady → ⊥) → outcome_of_check v (Some why) ≡ Drops v.name why
+-- a check that refuses but not as not ready lets the operation go
+pub dropped : (v : Shadow) (why : Refusal) → (why ≡ NotReady → ⊥) → outcome_of_check v (Some why) ≡ Drops v.name why
 dropped v NotReady h = absurd (h refl)
 dropped v why h = refl
 
 -- a held shadow whose past is applied comes to what the ledger's check says
-comes_to_check : (s : Settings) (t : ModelSite) (x : OpName) (v : Shadow) (o : Option Refusal) → find_in t.held x ≡ Some v →
+pub comes_to_check : (s : Settings) (t : ModelSite) (x : OpName) (v : Shadow) (o : Option Refusal) → find_in t.held x ≡ Some v →
     is_eligible t.ops v ≡ true → IsSound s v → refusal_of s t.ops v ≡ o → outcome_of s t (Apply x) ≡ outcome_of_check v o
 unfolding outcome_of
 comes_to_check s t x v o found eligible sound refusal =
@@ -334,7 +335,7 @@ tied_at s inbox later token same = let P : Holding → Type 0 = λ b. IsTied s b
 -- ---- a shadow is received
 
 -- what a received shadow comes to, by its fault, what is applied under its name, and whether it is this site's own
-received_comes : (s : Settings) (t : ModelSite) (v : Shadow) (f : Option ℕ) (u : Option Shadow) (b : Bool) → fault_of s v ≡ f
+pub received_comes : (s : Settings) (t : ModelSite) (v : Shadow) (f : Option ℕ) (u : Option Shadow) (b : Bool) → fault_of s v ≡ f
     → find_in t.ops v.name ≡ u → (v.home == t.me) ≡ b → outcome_of s t (Receive (ShadowMessage v))
     ≡ unless (λ why. Refuses (BadMessage why)) f (unless_known v u (cond b (Refuses Conflict) (outcome_of_new s t v)))
 unfolding outcome_of
@@ -423,48 +424,63 @@ new_comes s t v b none test =
     ∙ ap (λ c. cond c (Refuses InboxFull) (Holds v)) test
 
 -- a shadow of a name that a held one has
-known_comes : (s : Settings) (t : ModelSite) (v u : Shadow) (b : Bool) → find_in t.held v.name ≡ Some u → same_shadow u v ≡ b →
+pub known_comes : (s : Settings) (t : ModelSite) (v u : Shadow) (b : Bool) → find_in t.held v.name ≡ Some u → same_shadow u v ≡ b →
     outcome_of_new s t v ≡ cond b (Answers (Already v.name)) (Refuses Conflict)
 known_comes s t v u b found test =
     ap (λ o. unless_known v o (cond (is_too_many s t v) (Refuses InboxFull) (Holds v))) found
     ∙ ap (λ c. cond c (Answers (Already v.name)) (Refuses Conflict)) test
 
--- a shadow that isn't applied, where the inbox welcomes it at the clock of a valid list: it is held
+-- a shadow that isn't applied, where the inbox welcomes it at the clock of a valid list, comes to be held
+pub welcome_comes : (s : Settings) (t : ModelSite) (inbox : Holding) (c : Deps) (v : Shadow) → s.sites ≤ MOST_SITES → IsValid s t.ops →
+    c ≡ clock_of t.ops → inbox.limit ≡ s.limits.inbox → inbox.held ≡ t.held → IsWelcome inbox c v → outcome_of_new s t v ≡ Holds v
+welcome_comes s t inbox c v few valid same limit held welcome =
+    new_comes s t v false (ap (λ us. find_in us v.name) (sym held) ∙ welcome.new) test
+  where
+    by : (b : Bool) → nat_le s.limits.inbox (length t.held) ≡ b → (b && not (is_eligible t.ops v)) ≡ false
+    by false e = refl
+    by true e =
+        let low : s.limits.inbox ≤ length t.held = grind (arith, nat_tests) in
+        let full : inbox.limit ≤ length inbox.held = subst (λ n. n ≤ length inbox.held) (sym limit)
+        (subst (λ us. s.limits.inbox ≤ length us) (sym held) low) in
+        ap not (ready_means s t.ops c v few valid same (welcome.room full))
+
+    test : is_too_many s t v ≡ false
+    test = by (nat_le s.limits.inbox (length t.held)) refl
+
+-- so it is held
 pub holds : (s : Settings) (me : ℕ) (ops : List Shadow) (inbox later : Holding) (token : Token) (c : Deps) (v : Shadow) (a : NotedReply) →
     s.sites ≤ MOST_SITES → IsValid s ops → c ≡ clock_of ops → inbox.limit ≡ s.limits.inbox
     → IsWelcome inbox c v → later ≡ record inbox { held = with_held v inbox.held } → Says true a (Held v.name)
     → AnswersAlone (state_as s me ops inbox.held token) (state_as s me ops later.held token)
     (outcome_of_new s (site_as me ops inbox.held token) v) a
 holds s me ops inbox later token c v a few valid same limit welcome grown is =
-    answers_as _ _ _ _ a (new_comes s (site_as me ops inbox.held token) v false welcome.new test)
+    answers_as _ _ _ _ a (welcome_comes s (site_as me ops inbox.held token) inbox c v few valid same limit refl welcome)
     (ap (λ (b : Holding). state_as s me ops b.held token) grown, is, refl)
+
+-- where the inbox is full and the shadow isn't ready, it comes to be refused
+pub too_many_comes : (s : Settings) (t : ModelSite) (inbox : Holding) (c : Deps) (v : Shadow) → s.sites ≤ MOST_SITES → IsValid s t.ops →
+    c ≡ clock_of t.ops → inbox.limit ≡ s.limits.inbox → inbox.held ≡ t.held → IsTooMany inbox c v
+    → outcome_of_new s t v ≡ Refuses InboxFull
+too_many_comes s t inbox c v few valid same limit held many =
+    new_comes s t v true (ap (λ us. find_in us v.name) (sym held) ∙ many.new) test
   where
-    by : (b : Bool) → nat_le s.limits.inbox (length inbox.held) ≡ b → (b && not (is_eligible ops v)) ≡ false
-    by false e = refl
-    by true e =
-        let full : inbox.limit ≤ length inbox.held = subst (λ n. n ≤ length inbox.held) (sym limit) (grind (arith, nat_tests)) in
-        ap not (ready_means s ops c v few valid same (welcome.room full))
+    full : s.limits.inbox ≤ length t.held
+    full = subst (λ us. s.limits.inbox ≤ length us) held (subst (λ n. n ≤ length inbox.held) limit many.full)
 
-    test : is_too_many s (site_as me ops inbox.held token) v ≡ false
-    test = by (nat_le s.limits.inbox (length inbox.held)) refl
+    test : is_too_many s t v ≡ true
+    test =
+        let first : nat_le s.limits.inbox (length t.held) ≡ true = grind (arith, nat_tests, full) in
+        ap (λ b. b && not (is_eligible t.ops v)) first ∙ ap not (waits_means s t.ops c v few valid same many.waits)
 
--- the same where the inbox is full and the shadow isn't ready: it is refused, and nothing changes
+-- so it is refused, and nothing changes
 pub too_many : (s : Settings) (me : ℕ) (ops : List Shadow) (inbox : Holding) (token : Token) (c : Deps) (v : Shadow) (a : NotedReply) →
     s.sites ≤ MOST_SITES → IsValid s ops → c ≡ clock_of ops → inbox.limit ≡ s.limits.inbox
     → IsTooMany inbox c v → Says true a (Refused InboxFull)
     → AnswersAlone (state_as s me ops inbox.held token) (state_as s me ops inbox.held token)
     (outcome_of_new s (site_as me ops inbox.held token) v) a
 too_many s me ops inbox token c v a few valid same limit many is =
-    answers_as _ _ _ _ a (new_comes s (site_as me ops inbox.held token) v true many.new test)
+    answers_as _ _ _ _ a (too_many_comes s (site_as me ops inbox.held token) inbox c v few valid same limit refl many)
     (refl, is, refl)
-  where
-    full : s.limits.inbox ≤ length inbox.held
-    full = subst (λ n. n ≤ length inbox.held) limit many.full
-
-    test : is_too_many s (site_as me ops inbox.held token) v ≡ true
-    test =
-        let first : nat_le s.limits.inbox (length inbox.held) ≡ true = grind (arith, nat_tests, full) in
-        ap (λ b. b && not (is_eligible ops v)) first ∙ ap not (waits_means s ops c v few valid same many.waits)
 
 -- the same where it is held already: the answer is that, and nothing changes
 pub already : (s : Settings) (me : ℕ) (ops held : List Shadow) (token : Token) (v : Shadow) (a : NotedReply) →
@@ -475,18 +491,23 @@ already s me ops held token v a found is =
     answers_as _ _ _ _ a (known_comes s (site_as me ops held token) v v true found (SameShadows.same_shadow-refl v))
     (refl, is, refl)
 
--- the same where another is held under its name: it is refused as a conflict, and nothing changes
-pub conflicts : (s : Settings) (me : ℕ) (ops : List Shadow) (inbox : Holding) (token : Token) (v : Shadow) (a : NotedReply) →
-    IsInConflict inbox v → Says true a (Refused Conflict)
-    → AnswersAlone (state_as s me ops inbox.held token) (state_as s me ops inbox.held token)
-    (outcome_of_new s (site_as me ops inbox.held token) v) a
-conflicts s me ops inbox token v a (u, found, other) is =
-    answers_as _ _ _ _ a (known_comes s (site_as me ops inbox.held token) v u false found (by (same_shadow u v) refl))
-    (refl, is, refl)
+-- where another is held under its name, it comes to a conflict
+pub conflict_comes : (s : Settings) (t : ModelSite) (inbox : Holding) (v : Shadow) → inbox.held ≡ t.held → IsInConflict inbox v →
+    outcome_of_new s t v ≡ Refuses Conflict
+conflict_comes s t inbox v held (u, found, other) =
+    known_comes s t v u false (ap (λ us. find_in us v.name) (sym held) ∙ found) (by (same_shadow u v) refl)
   where
     by : (b : Bool) → same_shadow u v ≡ b → same_shadow u v ≡ false
     by false e = e
     by true e = absurd (other (SameShadows.same_shadow-true u v e))
+
+-- so it is refused, and nothing changes
+pub conflicts : (s : Settings) (me : ℕ) (ops : List Shadow) (inbox : Holding) (token : Token) (v : Shadow) (a : NotedReply) →
+    IsInConflict inbox v → Says true a (Refused Conflict)
+    → AnswersAlone (state_as s me ops inbox.held token) (state_as s me ops inbox.held token)
+    (outcome_of_new s (site_as me ops inbox.held token) v) a
+conflicts s me ops inbox token v a conflict is =
+    answers_as _ _ _ _ a (conflict_comes s (site_as me ops inbox.held token) inbox v refl conflict) (refl, is, refl)
 
 -- a shadow that the inbox refuses, but for running out of memory
 pub refused_put : (s : Settings) (me : ℕ) (ops : List Shadow) (inbox later : Holding) (token : Token) (c : Deps) (v : Shadow)

@@ -6,3 +6,4 @@ pub mod Recorded
 pub mod Runs
 pub mod Seen
 pub mod Stuck
+pub mod Unchanging

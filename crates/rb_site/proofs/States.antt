@@ -1,5 +1,5 @@
 -- A site steps as the model does.
-use Rattle.std.proofs.Common.{◌≡◌, ℕ, Bool, false, cond, List, [], ◌∷◌, ◌++◌, ap, sym, subst, ◌∙◌}
+use Rattle.std.proofs.Common.{◌≡◌, ℕ, Bool, true, false, not, ◌&&◌, refl, cond, List, [], ◌∷◌, ◌++◌, ap, sym, subst, ◌∙◌}
 use Rattle.std.specs.Prelude.{map}
 use Rattle.rb_money.specs.Settings.{Settings}
 use Rattle.rb_money.specs.declared.refusal.Refusal.TheVariants.{HistoryFull}
@@ -9,13 +9,16 @@ use Rattle.rb_site.specs.declared.event.Event.{Event}
 use Rattle.rb_site.specs.declared.message.Message.{Message}
 use Rattle.rb_site.specs.declared.reply.Reply.{Reply}
 use Rattle.rb_site.specs.declared.reply.Reply.TheVariants.{Refused}
-use Rattle.rb_site.specs.Events.{ModelSite, Outcome, changed, is_full, outcome_of, reply_of, reply_to, sent_at, sent_by}
+use Rattle.rb_site.specs.Events.{ModelSite, Outcome, changed, changes, is_full, outcome_of, reply_of, reply_to, sent_at, sent_by}
+use Rattle.rb_site.specs.Events.{unless_full}
 use Rattle.rb_site.specs.Seen.{SeenSite, entry, next_site, state_of, stepped}
-use Rattle.rb_site.specs.Notes.{IsNoted}
-use Rattle.rb_site.specs.States.{Follows, IsStanding, Says, SiteState, without_history}
+use Rattle.rb_site.specs.Notes.{IsNoted, is_plain}
+use Rattle.rb_site.specs.States.{Follows, IsStanding, Says, SiteState, plain, without_history}
+use Rattle.rb_site.specs.Unchanging.{changes_site, next_if_changes, reply_at_full, reply_if_changes}
 use Rattle.rb_site.proofs.Public.Runs
 use Rattle.rb_site.proofs.Public.Seen
 use Rattle.rb_site.proofs.Public.Outcomes.{same_outcome, changed-with_history, room_left}
+use Rattle.rb_site.proofs.Public.Unchanging.{changed_nothing, sent_nothing}
 
 -- the entry of an event and its reply at the end
 abbrev pub noted_in : SeenSite → Event → Reply → SeenSite
@@ -27,6 +30,21 @@ pub record IsStep (x : SeenSite) (now : SiteState) (before after : List Message)
   pub reply : a.reply ≡ reply_to x.settings (state_of x) e
   pub sent : after ≡ before ++ sent_at x.settings (state_of x) e
   pub standing : IsStanding (noted_in x e a.reply) now
+
+-- an event comes to the same at a site and at the state that its history leads to
+pub comes_alike : (x : SeenSite) (old : SiteState) (e : Event) → IsStanding x old →
+    outcome_of old.settings old.site e ≡ outcome_of x.settings (state_of x) e
+comes_alike x old e standing =
+    ap (λ z. outcome_of z old.site e) standing.settings ∙ ap (λ u. outcome_of x.settings u e) standing.site
+    ∙ same_outcome x.settings (state_of x) [] e
+
+-- the reply to an outcome too
+pub replies_alike : (x : SeenSite) (old : SiteState) (o p : Outcome) → IsStanding x old → o ≡ p →
+    reply_of old.settings old.site.ops o ≡ reply_of x.settings (state_of x).ops p
+replies_alike x old o p standing same =
+    ap (reply_of old.settings old.site.ops) same
+    ∙ ap (λ z. reply_of z old.site.ops p) standing.settings
+    ∙ ap (λ (u : ModelSite). reply_of x.settings u.ops p) standing.site
 
 -- where a site is the run of its history, which isn't full, what follows the event's outcome is the model's step
 pub is_step : (keeps : Bool) (x : SeenSite) (old now : SiteState) (before after : List Message) (e : Event) (a : NotedReply) →
@@ -60,13 +78,11 @@ is_step keeps x old now before after e a free standing follows =
     o = outcome_of s t e
 
     same : outcome_of old.settings old.site e ≡ o
-    same = ap (λ z. outcome_of z old.site e) standing.settings ∙ ap (λ u. outcome_of s u e) standing.site ∙ same_outcome s t [] e
+    same = comes_alike x old e standing
 
     given : reply_of old.settings old.site.ops (outcome_of old.settings old.site e) ≡ reply_to s t e
     given =
-        ap (reply_of old.settings old.site.ops) same
-        ∙ ap (λ z. reply_of z old.site.ops o) standing.settings
-        ∙ ap (λ (u : ModelSite). reply_of s u.ops o) standing.site
+        replies_alike x old _ o standing same
         ∙ sym (ap (λ b. cond b (Refused HistoryFull) (reply_of s t.ops o)) free)
 
     noted_reply : a.reply ≡ reply_to s t e
@@ -105,3 +121,70 @@ seen_same f old new now x same is = ap (λ xs. seen_as now.settings now.site.me 
 pub noted_as : (keeps now : Bool) (a : NotedReply) (reply : Reply) → Says keeps a reply → keeps ≡ now → IsNoted now a.reply a.noted
 noted_as keeps now a reply says same =
     subst (λ k. IsNoted k a.reply a.noted) same (subst (λ r. IsNoted keeps r a.noted) (sym says.0) says.1)
+
+-- ---- events that change nothing
+
+-- after an outcome that changes nothing the state is the same
+pub stays : (keeps : Bool) (old now : SiteState) (before after : List Message) (o : Outcome) (a : NotedReply) → changes o ≡ false →
+    Follows keeps old now before after o a → now ≡ old
+stays keeps old now before after o a none follows = follows.0 ∙ ap (λ t. record old { site = t }) (changed_nothing old.site o none)
+
+-- whether an event changes the site is whether it changes the state that the history leads to
+pub changes_seen : (x y : SeenSite) (old : SiteState) (e : Event) (is b : Bool) → x ≡ y → IsStanding x old →
+    is ≡ changes (outcome_of old.settings old.site e) → is ≡ b → changes_site y.settings (state_of y) e ≡ b
+changes_seen x y old e is b same standing told h =
+    ap (λ (z : SeenSite). changes_site z.settings (state_of z) e) (sym same)
+    ∙ sym (ap changes (comes_alike x old e standing))
+    ∙ sym told ∙ h
+
+-- the site after an event that changes it
+pub next_changed : (x : SeenSite) (e : Event) → changes_site x.settings (state_of x) e ≡ true → next_if_changes x e ≡ next_site x e
+next_changed x e h = ap (λ b. cond b (next_site x e) x) h
+
+-- the site after an event that doesn't
+pub next_unchanged : (x : SeenSite) (e : Event) → changes_site x.settings (state_of x) e ≡ false → next_if_changes x e ≡ x
+next_unchanged x e h = ap (λ b. cond b (next_site x e) x) h
+
+-- nor does a full history let it change
+pub next_full : (x : SeenSite) (e : Event) → is_full x.settings (state_of x) ≡ true → next_if_changes x e ≡ x
+next_full x e full = by (changes_site x.settings (state_of x) e)
+  where
+    by : (b : Bool) → cond b (next_site x e) x ≡ x
+    by true = ap (λ b. cond b x (stepped x e)) full
+    by false = refl
+
+-- the reply at a full history is that of the state that the history leads to
+pub replies_full : (x : SeenSite) (old : SiteState) (e : Event) → IsStanding x old → is_full x.settings (state_of x) ≡ true →
+    reply_at_full old.settings old.site e ≡ reply_if_changes x.settings (state_of x) e
+replies_full x old e standing full =
+    replies_alike x old _ _ standing (ap (unless_full true) (comes_alike x old e standing))
+    ∙ ap (λ b. reply_of x.settings (state_of x).ops (unless_full b (outcome_of x.settings (state_of x) e))) (sym full)
+
+-- nothing is noted for a history that keeps no replies
+unnoted : (b : Bool) → (b && false) ≡ false
+unnoted true = refl
+unnoted false = refl
+
+-- an event that changes nothing is a step of a history that keeps no replies
+pub step_unchanging : (x : SeenSite) (old : SiteState) (e : Event) (reply : Reply) → is_full x.settings (state_of x) ≡ false →
+    IsStanding x old → changes_site x.settings (state_of x) e ≡ false → reply ≡ reply_to x.settings (state_of x) e →
+    IsStep x old [] [] e (plain reply)
+step_unchanging x old e reply free standing none is =
+    is_step false x old old [] [] e (plain reply) free standing (
+      sym (ap (λ t. record old { site = t }) (changed_nothing old.site o still)),
+      (
+        is ∙ ap (λ b. cond b (Refused HistoryFull) (reply_of x.settings (state_of x).ops (outcome_of x.settings (state_of x) e))) free
+            ∙ sym (replies_alike x old _ _ standing comes),
+        unnoted (not (is_plain (reply_of old.settings old.site.ops o))),
+      ),
+      sym (sent_nothing o still),
+    )
+  where
+    o : Outcome
+    o = outcome_of old.settings old.site e
+
+    comes : o ≡ outcome_of x.settings (state_of x) e
+    comes = comes_alike x old e standing
+
+    still : changes o ≡ false
+    still = ap changes comes ∙ none

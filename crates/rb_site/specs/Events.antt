@@ -1,6 +1,6 @@
 -- One event of a site.
 use Rattle.std.specs.Prelude.{ℕ, Bool, if◌then◌else◌, not, ◌&&◌, nat_le, nat_lt, ◌==◌, List, [], ◌∷◌, ◌++◌, length, map}
-use Rattle.std.specs.Prelude.{take, Option, Some, None}
+use Rattle.std.specs.Prelude.{take, true, false, Option, Some, None}
 use Rattle.rb_scratch.specs.declared.request.TheConstants.{MOST_REQUESTS}
 use Rattle.rb_money.specs.Amounts.{cents}
 use Rattle.rb_money.specs.Refusals.{and_then, unless}
@@ -43,8 +43,7 @@ pub record ModelSite : Type 0 where
 
 -- ---- what an event comes to
 
--- what an event comes to. Only these change more than the history: Drops, Makes, MakesAll, Holds, Applies, Takes and
--- Passes
+-- what an event comes to
 pub data Outcome : Type 0 where
   Refuses : (why : Refusal) → Outcome
   -- what is held under the name can't be applied, and is let go
@@ -128,6 +127,17 @@ changed t (Applies v) = record t { ops = t.ops ++ v ∷ []; held = without v.nam
 changed t (Takes m) = record t { token = taken_token m }
 changed t (Passes m) = record t { token = passed_token t.token m }
 changed t _ = t
+
+-- whether an outcome changes more than the history
+abbrev pub changes : Outcome → Bool
+changes (Refuses why) = false
+changes (Answers reply) = false
+changes (Shows a) = false
+changes _ = true
+
+-- an outcome at a site whose history is full, or isn't: what changes more than the history is refused if it is full
+abbrev pub unless_full : Bool → Outcome → Outcome
+unless_full full o = if full && changes o then Refuses HistoryFull else o
 
 -- the history has as many entries as the limit allows
 abbrev pub is_full : Settings → ModelSite → Bool

@@ -110,3 +110,29 @@ pub fn run_batch(
         }
     }
 }
+
+/// Whether all requests can be made at the site of the token's view, each after those before it. They are made on the
+/// ledger and all taken back.
+///
+/// Refuses with `BatchRefused` by the first request at fault, or with `OutOfMemory`.
+#[inline(never)]
+pub fn try_batch(
+    alloc: Global,
+    ledger: &mut Ledger,
+    token: TokenView,
+    requests: &[Request],
+) -> Result<(), Refusal>
+    requires site { token.me < ledger.old.settings.sites }
+    requires few { length requests.now ≤ MOST_REQUESTS }
+    ensures settings { ledger.new.settings ≡ ledger.old.settings }
+    ensures entries { ledger.new.entries ≡ ledger.old.entries }
+    ensures fits { OnOk result ((made : List TheShadow) × ((known : Token) → Shows token known →
+        batch_of ledger.old.settings token.me ledger.old.entries known 0 requests.now ≡ Ok made)) }
+    ensures refused { IfErr result (λ why. (why ≡ Refusal.OutOfMemory) ⊎ ((known : Token) → Shows token known →
+        batch_of ledger.old.settings token.me ledger.old.entries known 0 requests.now ≡ Err why)) }
+{
+    let mut scratch = Scratch::open(alloc, ledger, token);
+    let ran = run_all(&mut scratch, requests);
+    scratch.abort();
+    ran
+}

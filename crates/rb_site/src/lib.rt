@@ -6,6 +6,7 @@ mod batch;
 mod batch_capacity;
 mod entry;
 mod event;
+mod full_history;
 mod keeps_entry;
 mod message;
 mod noted_reply;
@@ -16,9 +17,11 @@ mod report_lists;
 mod same;
 mod site;
 mod state;
+mod unrecorded;
 mod world_event;
 
 ghost use Rattle.rb_site.specs.Histories.{StuckIsFinal};
+ghost use Rattle.rb_site.specs.Unchanging.{UnchangingEventsLeftOut};
 
 pub use entry::Entry;
 pub use event::Event;
@@ -38,4 +41,10 @@ pub type Posted = Vec<Message>;
 /// Histories whose next entries are receipts of messages that no entry before sent are not one world's.
 pub fn stuck_final()
     ensures { StuckIsFinal }
+{}
+
+/// A history without the events that left the site as it was but for its history leads to the same site, with the same
+/// replies to the other events and the same messages.
+pub fn unchanging_events_left_out()
+    ensures { UnchangingEventsLeftOut }
 {}

@@ -12,7 +12,7 @@ ghost use Rattle.rb_token.specs.Seen.{Shows};
 ghost use Rattle.rb_scratch.specs.declared.request.TheConstants.{MOST_REQUESTS};
 ghost use Rattle.rb_site.specs.States.{Says};
 
-use crate::batch::run_batch;
+use crate::batch::{run_batch, try_batch};
 use crate::noted_reply::NotedReply;
 use crate::{Message, Reply};
 use rb_ledger::{Ledger, OperationList};
@@ -150,6 +150,28 @@ impl RecordedLedger {
             keeps,
             sent,
         )
+    }
+
+    /// Whether all requests of a batch can be made at the site of the token's view, each after those before it. None is
+    /// made.
+    ///
+    /// Refuses with `BatchRefused` by the first request at fault, or with `OutOfMemory`.
+    pub fn try_batch(
+        &mut self,
+        alloc: Global,
+        token: TokenView,
+        requests: &[Request],
+    ) -> Result<(), Refusal>
+        requires site { token.me < self.old.settings.sites }
+        requires few { length requests.now ≤ MOST_REQUESTS }
+        ensures same { self.new ≡ self.old }
+        ensures fits { OnOk result ((made : List TheShadow) × ((known : Token) → Shows token known →
+            batch_of self.old.settings token.me self.old.ops known 0 requests.now ≡ Ok made)) }
+        ensures refused { IfErr result (λ why. (why ≡ Refusal.OutOfMemory)
+            ⊎ ((known : Token) → Shows token known →
+            batch_of self.old.settings token.me self.old.ops known 0 requests.now ≡ Err why)) }
+    {
+        try_batch(alloc, &mut self.ledger, token, requests)
     }
 
     /// Gives up the undo of every operation, and gives the operations and their clock.

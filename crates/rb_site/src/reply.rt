@@ -1,6 +1,6 @@
 //! Replies of a site.
 ghost use Rattle.std.specs.Prelude.{◌≡◌, ◌↔◌, true, IfOk, IsTrue};
-ghost use Rattle.rb_site.specs.Notes.{IsNoted};
+ghost use Rattle.rb_site.specs.Notes.{IsNoted, shows_change};
 
 use crate::same::{same_in, same_label, same_refusal, same_value};
 use rb_kit::List;
@@ -84,6 +84,18 @@ impl Reply {
             Reply::Balance(cents) => Reply::Balance(*cents),
             Reply::Refused(why) => Reply::Refused(*why),
             Reply::Names(_) | Reply::Statement(_) => unreachable!(),
+        }
+    }
+
+    /// Whether the reply shows that the site has changed. A refusal does only if fewer shadows are held than before:
+    /// then one that can't be applied was let go.
+    pub(crate) fn shows_change(&self, fewer: bool) -> bool
+        ensures { result ≡ shows_change fewer self.now }
+    {
+        match self {
+            Reply::Already(_) | Reply::Stale(_) | Reply::Balance(_) | Reply::Statement(_) => false,
+            Reply::Refused(_) => fewer,
+            _ => true,
         }
     }
 

@@ -10,7 +10,7 @@ ghost use Rattle.rb_shadow.specs.Operations.{clock_of, find_in};
 ghost use Rattle.rb_ledger.specs.Records.{records_of};
 ghost use Rattle.rb_shadow.specs.Sound.{IsSound};
 ghost use Rattle.rb_scratch.specs.declared.request.TheConstants.{MOST_REQUESTS};
-ghost use Rattle.rb_site.specs.Events.{first_site, outcome_of, outcome_of_new};
+ghost use Rattle.rb_site.specs.Events.{changes, first_site, outcome_of, outcome_of_new};
 ghost use Rattle.rb_site.specs.States.{Follows, Says, noting, plain};
 
 use crate::noted_reply::give;
@@ -31,10 +31,10 @@ use std::marker::Model;
 
 /// What a site applied, what it holds, and what it knows of the token.
 pub struct State {
-    alloc: Global,
-    recorded: RecordedLedger,
-    inbox: Inbox,
-    token: TokenState,
+    pub(crate) alloc: Global,
+    pub(crate) recorded: RecordedLedger,
+    pub(crate) inbox: Inbox,
+    pub(crate) token: TokenState,
 }
 
 impl Model for State {
@@ -170,6 +170,28 @@ impl State {
             }
             Event::Statement(place) => self.statement(*place, keeps, reply, noted),
         }
+    }
+
+    /// The same, and whether the event changed the state.
+    #[inline(always)]
+    pub fn act_seeing(
+        &mut self,
+        event: &Event,
+        keeps: bool,
+        sent: &mut Vec<Message>,
+        reply: &mut Reply,
+        noted: &mut Option<Reply>,
+    ) -> Result<bool, AllocError>
+        requires { noted.old ≡ None }
+        ensures ok { OnOk result (Follows keeps self.old self.new sent.old.items sent.new.items
+            (outcome_of self.old.settings self.old.site event.now) (noting reply.new noted.new)) }
+        ensures changed { IfOk result (λ changed. changed
+            ≡ changes (outcome_of self.old.settings self.old.site event.now)) }
+        ensures err { OnErr result ((self.new ≡ self.old) × (sent.new.items ≡ sent.old.items)) }
+    {
+        let held = self.inbox.len();
+        self.act(event, keeps, sent, reply, noted)?;
+        Ok(reply.shows_change(self.inbox.len() < held))
     }
 
     /// A request is decided here, and its shadow is applied here and sent.
@@ -385,7 +407,7 @@ impl State {
     /// An account's balance.
     #[inline(always)]
     #[tactic(auto, unfolding(crate::specs::Events::outcome_of))]
-    fn balance(&self, place: Place, reply: &mut Reply)
+    pub fn balance(&self, place: Place, reply: &mut Reply)
         ensures { Follows true self.now self.now [] [] (outcome_of self.now.settings self.now.site
             (Event.Balance place)) (plain reply.new) }
     {
@@ -398,7 +420,7 @@ impl State {
     /// An account's balance, in cents, after the first `position` operations of the ledger.
     #[inline(never)]
     #[tactic(auto, unfolding(crate::specs::Events::outcome_of))]
-    fn as_of(&self, place: Place, position: u32, reply: &mut Reply)
+    pub fn as_of(&self, place: Place, position: u32, reply: &mut Reply)
         ensures { Follows true self.now self.now [] [] (outcome_of self.now.settings self.now.site
             (Event.AsOf place position)) (plain reply.new) }
     {
@@ -412,7 +434,7 @@ impl State {
     /// memory.
     #[inline(never)]
     #[tactic(auto, unfolding(crate::specs::Events::outcome_of))]
-    fn statement(
+    pub fn statement(
         &self,
         place: Place,
         keeps: bool,
@@ -467,14 +489,14 @@ impl State {
 }
 
 /// Whether a batch may have this number of requests: 1 to `MOST_REQUESTS`.
-fn is_batch(requests: usize) -> bool
+pub fn is_batch(requests: usize) -> bool
     ensures { result ≡ (nat_le 1 requests && nat_le requests MOST_REQUESTS) }
 {
     1 <= requests && requests <= MOST_REQUESTS
 }
 
 /// A shadow whose name is known: the same comes again, or it is a conflict.
-fn again(shadow: &Shadow, same: bool, reply: &mut Reply)
+pub fn again(shadow: &Shadow, same: bool, reply: &mut Reply)
     ensures { Says true (plain reply.new) (if same then Reply.Already shadow.now.name
         else Reply.Refused Refusal.Conflict) }
 {

@@ -1,0 +1,90 @@
+//! Events that are recorded only if they change the site.
+ghost use Rattle.std.specs.Prelude.{◌≡◌, ◌++◌, ◌&&◌, false, not, IfOk, OnErr, OnOk};
+ghost use Rattle.rb_site.specs.Events.{is_full, reply_to, sent_at};
+ghost use Rattle.rb_site.specs.Seen.{next_site, state_of};
+ghost use Rattle.rb_site.specs.Unchanging.{changes_site, next_if_changes, reply_if_changes};
+
+use crate::{ErasedEntry, Event, KeepsEntry, Message, Reply, Site};
+use rb_kit::reserve_one;
+use rb_scratch::MOST_REQUESTS;
+use std::alloc::AllocError;
+
+impl<E: KeepsEntry> Site<E> {
+    /// One event, with an entry only if it changes more of the site than its history. At a full history what would
+    /// change the site is refused by `HistoryFull`, and all else is answered. The reply is put in the place of another,
+    /// and what is sent goes to the end of the messages sent. The answer is whether there is an entry.
+    ///
+    /// `Err` means out of memory: the site and the messages are then as before, and the place of the reply may have
+    /// any.
+    #[inline(always)]
+    pub fn answer_if_changes(
+        &mut self,
+        event: &Event,
+        sent: &mut Vec<Message>,
+        reply: &mut Reply,
+    ) -> Result<bool, AllocError>
+        ensures ok { OnOk result ((self.new ≡ next_if_changes self.old event.now)
+            × (reply.new ≡ reply_if_changes self.old.settings (state_of self.old) event.now)
+            × (sent.new.items ≡ sent.old.items ++ sent_at self.old.settings (state_of self.old) event.now)) }
+        ensures recorded { IfOk result (λ recorded. recorded
+            ≡ (changes_site self.old.settings (state_of self.old) event.now
+            && not (is_full self.old.settings (state_of self.old)))) }
+        ensures err { OnErr result ((self.new ≡ self.old) × (sent.new.items ≡ sent.old.items)) }
+    {
+        if self.is_full() {
+            self.state.answer_full(event, reply)?;
+            return Ok(false);
+        }
+        self.step_if_changes(event, sent, reply)
+    }
+
+    /// The same where the history isn't full: memory for the event comes first, and at last it is noted with its
+    /// reply, if it changed the site.
+    #[inline(always)]
+    fn step_if_changes(
+        &mut self,
+        event: &Event,
+        sent: &mut Vec<Message>,
+        reply: &mut Reply,
+    ) -> Result<bool, AllocError>
+        requires { is_full self.old.settings (state_of self.old) ≡ false }
+        ensures ok { OnOk result ((self.new ≡ next_if_changes self.old event.now)
+            × (reply.new ≡ reply_to self.old.settings (state_of self.old) event.now)
+            × (sent.new.items ≡ sent.old.items ++ sent_at self.old.settings (state_of self.old) event.now)) }
+        ensures recorded { IfOk result (λ recorded. recorded
+            ≡ changes_site self.old.settings (state_of self.old) event.now) }
+        ensures err { OnErr result ((self.new ≡ self.old) × (sent.new.items ≡ sent.old.items)) }
+    {
+        reserve_one(&mut self.history)?;
+        let most = self.state.ledger().len() as usize + MOST_REQUESTS;
+        self.report_lists.grow(E::KEEPS, most)?;
+        let kept = E::keep(self.alloc, event)?;
+        let mut noted = None;
+        let changed = self
+            .state
+            .act_seeing(event, E::KEEPS, sent, reply, &mut noted)?;
+        if !changed {
+            return Ok(false);
+        }
+        self.history.push_reserved(E::note(kept, reply, noted));
+        Ok(true)
+    }
+}
+
+impl Site<ErasedEntry> {
+    /// Notes an event that changes nothing in the history, with the reply that the site gave to it. `Err` means out of
+    /// memory.
+    pub fn record_unchanging(&mut self, event: &Event, reply: &Reply) -> Result<(), AllocError>
+        requires free { is_full self.old.settings (state_of self.old) ≡ false }
+        requires unchanging { changes_site self.old.settings (state_of self.old) event.now ≡ false }
+        requires reply { reply.now ≡ reply_to self.old.settings (state_of self.old) event.now }
+        ensures ok { OnOk result (self.new ≡ next_site self.old event.now) }
+        ensures err { OnErr result (self.new ≡ self.old) }
+    {
+        reserve_one(&mut self.history)?;
+        let kept = ErasedEntry::keep(self.alloc, event)?;
+        self.history
+            .push_reserved(ErasedEntry::note(kept, reply, None));
+        Ok(())
+    }
+}
