@@ -5,7 +5,6 @@ use Rattle.std.specs.Prelude.{◌==◌, IfErr, IfSome, map, nat_le, nat_lt, take
 use Rattle.std.proofs.Common.{sym, take-append-drop, drop}
 use Rattle.std.proofs.lemmas.Bool.{and_parts}
 use Rattle.std.proofs.lemmas.Bool.Decides.{nat_tests}
-use Rattle.serde_json.specs.Read.{read}
 use Rattle.rb_money.specs.Refusals.{and_then, unless}
 use Rattle.rb_money.specs.Settings.{IsConfigured, Settings, is_account}
 use Rattle.rb_money.specs.declared.refusal.Refusal.{Refusal}
@@ -34,14 +33,11 @@ use Rattle.rb_site.specs.declared.message.Message.TheVariants.{Shadow as ShadowM
 use Rattle.rb_site.specs.declared.reply.Reply.TheVariants.{Already, Refused, Stale}
 use Rattle.rb_site.specs.Events.{ModelSite, Outcome, Refuses, Drops, Answers, Shows, Makes, MakesAll, Holds, Applies, Takes, Passes}
 use Rattle.rb_site.specs.Events.{after_events, first_site, is_full, outcome_of, outcome_of_check, reply_of, unless_known}
-use Rattle.rb_history.specs.Entries.{event_of_line}
-use Rattle.rb_history.specs.Fits.{Each, IsEvent, IsRefusal, IsReply}
-use Rattle.rb_history.specs.Recorded.{event_at}
-use Rattle.rb_history.specs.Sites.{HeldNamesFitLines, ReadEventsFit, RepliesFitLines}
+use Rattle.rb_history.specs.Fits.{Each, IsRefusal, IsReply}
+use Rattle.rb_history.specs.Sites.{HeldNamesFitLines, RepliesFitLines}
 use Rattle.rb_history.proofs.CausesFit.{batch_fits, check_fits, fault_fits, pass_fits, request_fits, token_fits}
-use Rattle.rb_history.proofs.FitsLaws.{IsWord, fits_next, fits_some}
+use Rattle.rb_history.proofs.FitsLaws.{IsWord}
 use Rattle.rb_history.proofs.MadeFit.{facts_name}
-use Rattle.rb_history.proofs.ReceiptsFit.{event}
 use Rattle.rb_history.proofs.SentFits.{AllFit, IsInOrder, Keeps, few_reds, first_in_order, in_order, keeps}
 use Rattle.rb_history.proofs.StatementsFit.{balance_fits, statement_fits}
 
@@ -201,7 +197,3 @@ held_fit s c me low es x v is =
     let g = in_order s c es (first_site me) (first_in_order s c me low) in
     let (there, named) = found t.held x v is in
     subst IsName named (sound_name s c v (g.held v there))
-
--- and so does an event that is read
-pub events_fit : ReadEventsFit
-events_fit s line e is = fits_some (IsEvent s) (event_of_line s line) e (fits_next (IsEvent s) (event_at s) (read line) (event s)) is

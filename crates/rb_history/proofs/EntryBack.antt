@@ -1,5 +1,5 @@
 -- What is written for an event or a line's entry is read as it.
-use Rattle.std.proofs.Common.{◌≡◌, ◌<◌, ◌^◌, ℕ, List, [], ◌∷◌, Some, refl, ap}
+use Rattle.std.proofs.Common.{◌≡◌, ◌<◌, ◌^◌, ℕ, List, [], ◌∷◌, Some, inl, inr, refl, ap}
 use Rattle.std.specs.Prelude.{map, option_map}
 use Rattle.serde_json.specs.View.{items_of}
 use Rattle.rb_money.specs.Settings.{IsConfigured, Settings}
@@ -10,17 +10,19 @@ use Rattle.rb_shadow.specs.declared.kind.Kind.{Kind}
 use Rattle.rb_shadow.specs.declared.kind.Kind.TheVariants.{Cancel as CancelKind, Transfer as TransferKind}
 use Rattle.rb_shadow.specs.declared.op_name.OpName.{OpName}
 use Rattle.rb_shadow.specs.declared.shadow.Shadow.{Shadow}
-use Rattle.rb_site.specs.declared.entry.Entry.{Entry}
 use Rattle.rb_site.specs.declared.event.Event.{Event}
 use Rattle.rb_site.specs.declared.event.Event.TheVariants.{Submit, Batch, Receive, Apply, Pass, Balance, AsOf, Statement}
 use Rattle.rb_site.specs.declared.message.Message.TheVariants.{Shadow as ShadowMessage, Token as TokenOnItsWay}
-use Rattle.rb_history.specs.Entries.{entry_json, entry_of_object, event_json, request_json, shadow_json}
+use Rattle.rb_history.specs.Entries.{asked_entry_json, asked_entry_of_object, entry_in, event_json, request_json}
+use Rattle.rb_history.specs.Entries.{shadow_json}
 use Rattle.rb_history.specs.Fits.{Each, IsEvent, IsKind, IsReply, IsRequest, IsShadow}
+use Rattle.rb_history.specs.Ids.{AskedEntry, IsAsked}
 use Rattle.rb_history.specs.Recorded.{event_at, kind_at, shadow_at}
 use Rattle.rb_history.specs.Requests.{request_alone, requests_in}
 use Rattle.rb_money.proofs.Public.Tests.{is_below as below}
 use Rattle.rb_history.proofs.Reading.{back}
 use Rattle.rb_history.proofs.CountsBack.{blue_back}
+use Rattle.rb_history.proofs.Public.IdText.{id_read}
 use Rattle.rb_history.proofs.KnownPlaces.{known_place}
 use Rattle.rb_history.proofs.ReplyBack.{reply_back}
 
@@ -87,7 +89,25 @@ event_back s c (Balance a) known = ap (λ p. Some (Balance p)) (known_place s a 
 event_back s c (AsOf a n) (known, fits) = rw (below n (2 ^ 32) fits) (ap (λ p. Some (AsOf p n)) (known_place s a c known))
 event_back s c (Statement a) known = ap (λ p. Some (Statement p)) (known_place s a c known)
 
--- the object of an entry is read as the entry
-pub entry_back : (s : Settings) → IsConfigured s → (site : ℕ) (x : Entry) → site < s.sites → IsEvent s x.event → IsReply x.reply
-    → entry_of_object s (entry_json s site x) ≡ Some (site, x)
-entry_back s c site x h e r = rw (below site s.sites h, event_back s c x.event e, reply_back x.reply r) refl
+-- the members of an entry are read as it, with an id or without
+members_back : (s : Settings) → IsConfigured s → (site : ℕ) (x : AskedEntry) → site < s.sites
+    → IsEvent s x.entry.event → IsReply x.entry.reply → entry_in s (asked_entry_json s site x) ≡ Some (site, x.entry)
+members_back s c site x h e r = at x.id
+  where
+    at : (id : List ℕ)
+        → entry_in s (asked_entry_json s site (record { id = id; entry = x.entry })) ≡ Some (site, x.entry)
+    at [] = rw (below site s.sites h, event_back s c x.entry.event e, reply_back x.entry.reply r) refl
+    at (b ∷ bs) = rw (below site s.sites h, event_back s c x.entry.event e, reply_back x.entry.reply r) refl
+
+-- the object of an entry with its id, or none, is read as them
+pub entry_back : (s : Settings) → IsConfigured s → (site : ℕ) (x : AskedEntry) → site < s.sites
+    → IsEvent s x.entry.event → IsReply x.entry.reply → IsAsked x → asked_entry_of_object s (asked_entry_json s site x) ≡ Some (site, x)
+entry_back s c site x h e r asked = at x.id asked (members_back s c site x h e r)
+  where
+    at : (id : List ℕ) → IsAsked (record { id = id; entry = x.entry })
+        → entry_in s (asked_entry_json s site (record { id = id; entry = x.entry })) ≡ Some (site, x.entry)
+        → asked_entry_of_object s (asked_entry_json s site (record { id = id; entry = x.entry }))
+        ≡ Some (site, record { id = id; entry = x.entry })
+    at [] asked members = rw members refl
+    at (b ∷ bs) (inl none) members = absurd (cc)
+    at (b ∷ bs) (inr (is, may)) members = rw (id_read (b ∷ bs) is, members, may) refl

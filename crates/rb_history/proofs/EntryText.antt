@@ -24,7 +24,6 @@ use Rattle.rb_shadow.specs.NameText.{IsName}
 use Rattle.rb_shadow.specs.declared.kind.Kind.{Kind}
 use Rattle.rb_shadow.specs.declared.kind.Kind.TheVariants.{Cancel as CancelKind, Transfer as TransferKind}
 use Rattle.rb_shadow.specs.declared.shadow.Shadow.{Shadow}
-use Rattle.rb_site.specs.declared.entry.Entry.{Entry}
 use Rattle.rb_site.specs.declared.event.Event.{Event}
 use Rattle.rb_site.specs.declared.event.Event.TheVariants.{Submit, Batch, Receive, Apply, Pass, Balance, AsOf, Statement}
 use Rattle.rb_site.specs.declared.message.Message.TheVariants.{Shadow as ShadowMessage, Token as TokenOnItsWay}
@@ -33,8 +32,9 @@ use Rattle.rb_site.specs.declared.reply.Reply.TheVariants.{Made, Names, Held, Al
 use Rattle.rb_site.specs.declared.reply.Reply.TheVariants.{Statement as StatementIs, Refused}
 use Rattle.rb_statements.specs.declared.row.Row.{Row}
 use Rattle.rb_history.specs.Counts.{blue_json, numbered_from, numbered_json}
-use Rattle.rb_history.specs.Entries.{asked_json, deps_json, entry_json, event_json, request_json, shadow_json}
+use Rattle.rb_history.specs.Entries.{asked_entry_json, asked_json, deps_json, event_json, request_json, shadow_json}
 use Rattle.rb_history.specs.Fits.{Each, IsCause, IsEvent, IsMoved, IsRefusal, IsReply, IsRequest, IsStatementRow, IsShadow}
+use Rattle.rb_history.specs.Ids.{AskedEntry}
 use Rattle.rb_history.specs.Replies.{cause_json, refusal_json, reply_json}
 use Rattle.rb_history.specs.Statements.{row_json}
 use Rattle.rb_history.specs.Values.{integer_json, list_json, name_json, number_json, one_json, pair_json, three_json}
@@ -265,14 +265,32 @@ reply_text (Refused why) h = refusal_text why h
 
 -- ---- the line
 
--- the line of an entry is read as its JSON object
-pub entry_text : (s : Settings) (site : ℕ) (x : Entry) → site < 2 ^ 8 → IsEvent s x.event → IsReply x.reply
-    → read (compact_text (entry_json s site x)) ≡ Some (entry_json s site x)
-entry_text s site x h e r =
-    let a = event_text s x.event e in
-    let b = reply_text x.reply r in
-    let c = number_text site (omega arith) in
-    let d = a.shallow in
-    let f = b.shallow in
-    let line = entry_json s site x in
-    compact_read line line (a.numbers, (b.numbers, (c.numbers, tt))) (omega arith) (rw (a.same, b.same, c.same) refl)
+-- the line of an entry is read as its JSON object, with an id or without
+pub entry_text : (s : Settings) (site : ℕ) (x : AskedEntry) → site < 2 ^ 8 → IsEvent s x.entry.event
+    → IsReply x.entry.reply
+    → read (compact_text (asked_entry_json s site x)) ≡ Some (asked_entry_json s site x)
+entry_text s site x h e r = at x.id
+  where
+    event : IsText (event_json s x.entry.event) 5
+    event = event_text s x.entry.event e
+
+    reply : IsText (reply_json x.entry.reply) 4
+    reply = reply_text x.entry.reply r
+
+    number : IsText (number_json site) 0
+    number = number_text site (omega arith)
+
+    at : (id : List ℕ) → read (compact_text (asked_entry_json s site (record { id = id; entry = x.entry })))
+        ≡ Some (asked_entry_json s site (record { id = id; entry = x.entry }))
+    at [] =
+        let a = event.shallow in
+        let b = reply.shallow in
+        let line = asked_entry_json s site (record { id = []; entry = x.entry }) in
+        compact_read line line (event.numbers, (reply.numbers, (number.numbers, tt))) (omega arith)
+        (rw (event.same, reply.same, number.same) refl)
+    at (i ∷ is) =
+        let a = event.shallow in
+        let b = reply.shallow in
+        let line = asked_entry_json s site (record { id = i ∷ is; entry = x.entry }) in
+        compact_read line line (event.numbers, (tt, (reply.numbers, (number.numbers, tt)))) (omega arith)
+        (rw (event.same, reply.same, number.same) refl)

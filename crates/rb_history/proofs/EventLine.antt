@@ -1,15 +1,37 @@
 -- The line of an event by itself is read as the event.
-use Rattle.std.proofs.Common.{ap, ◌∙◌, arith}
-use Rattle.std.specs.Prelude.{option_and_then}
+use Rattle.std.proofs.Common.{◌≡◌, ◌==◌, [], Some, ap, ◌∙◌, refl, arith}
+use Rattle.std.proofs.lemmas.Bool.{eqb-true}
+use Rattle.std.specs.Prelude.{option_and_then, option_map}
+use Rattle.serde_json.specs.Data.{Data}
+use Rattle.rb_money.specs.Settings.{Settings}
+use Rattle.rb_site.specs.declared.event.Event.{Event}
 use Rattle.rb_site.specs.declared.event.Event.TheVariants.{Receive}
 use Rattle.rb_history.proofs.Reading.{compact_read}
-use Rattle.rb_history.specs.Entries.{event_json}
+use Rattle.rb_history.specs.Entries.{asked_event_at, event_json}
 use Rattle.rb_history.specs.Fits.{EventsAreRead}
+use Rattle.rb_history.specs.Ids.{AskedEvent}
 use Rattle.rb_history.specs.Messages.{MessagesAreRead}
-use Rattle.rb_history.specs.Recorded.{event_at}
+use Rattle.rb_history.specs.Recorded.{event_at, recorded_of}
+use Rattle.rb_history.specs.Values.{size_of}
 use Rattle.rb_history.proofs.EntryBack.{event_back}
 use Rattle.rb_history.proofs.EntryText.{event_text}
+use Rattle.rb_history.proofs.FitsLaws.{tested}
 use Rattle.rb_history.proofs.SentFits.{sends_fit}
+
+-- the event without an id
+abbrev pub without_id : Event → AskedEvent
+without_id e = record { id = []; event = e }
+
+-- what an object of one member is
+of_one : (s : Settings) (d : Data) → size_of d ≡ 1 → asked_event_at s d ≡ option_map without_id (event_at s d)
+of_one s d one = rw one refl
+
+-- an object that is an event has one member, so it is the event without an id
+alone_back : (s : Settings) (d : Data) (e : Event) → event_at s d ≡ Some e
+    → asked_event_at s d ≡ Some (without_id e)
+alone_back s d e is =
+    of_one s d (eqb-true (size_of d) 1 (tested (size_of d == 1) (recorded_of s d) e is))
+    ∙ ap (option_map without_id) is
 
 -- the line of each event of which a line has all is read as the event
 pub event_line : EventsAreRead
@@ -17,7 +39,8 @@ event_line s configured e fits =
     let d = event_json s e in
     let t = event_text s e fits in
     let depth = t.shallow in
-    ap (option_and_then (event_at s)) (compact_read d d t.numbers (omega arith) t.same) ∙ event_back s configured e fits
+    ap (option_and_then (asked_event_at s)) (compact_read d d t.numbers (omega arith) t.same)
+    ∙ alone_back s d e (event_back s configured e fits)
 
 -- each message that a site sends is read as the message
 pub message_line : MessagesAreRead

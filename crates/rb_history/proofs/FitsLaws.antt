@@ -47,6 +47,11 @@ pub fits_if : {A : Type 0} (Q : A → Type 0) (b : Bool) (o : Option A) → (b �
 fits_if Q true o h = h refl
 fits_if Q false o h = tt
 
+-- something is there only where the test holds
+pub tested : {A : Type 0} (b : Bool) (o : Option A) (x : A) → (if b then o else None) ≡ Some x → b ≡ true
+tested true o x e = refl
+tested false o x e = absurd (cc)
+
 -- one or the other, as a test says
 pub fits_choice : {A : Type 0} (Q : A → Type 0) (b : Bool) (o p : Option A) → IfSome o Q → IfSome p Q → IfSome (if b then o else p) Q
 fits_choice Q true o p h k = h

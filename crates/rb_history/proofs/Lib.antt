@@ -21,7 +21,6 @@ mod KnownPlaces
 mod Starts
 mod ReplyBack
 mod EntryBack
-mod EntrySites
 mod EntryText
 mod ConfigBack
 mod Texts
@@ -45,10 +44,13 @@ mod OneLine
 mod MadeFit
 mod SentFits
 mod EventLine
+mod EventAsked
 mod Behind
 mod ItemsRead
 mod ListBounds
 mod StatementsFit
 mod CausesFit
 mod AnswersFit
+mod AskedFit
 mod Receipts
+mod AskedText

@@ -14,7 +14,7 @@ use Rattle.serde_json.specs.Data.{Members, no_members, member}
 use Rattle.serde_json.specs.Written.{comma_if, number_text, compact_text, items_text, members_text}
 use Rattle.rb_history.specs.OneLine.{ConfigsAreLines, EntriesAreLines}
 use Rattle.rb_history.specs.ConfigLines.{config_json}
-use Rattle.rb_history.specs.Entries.{entry_json}
+use Rattle.rb_history.specs.Entries.{asked_entry_json}
 use Rattle.rb_history.proofs.Texts.{config_utf8, entry_utf8}
 
 abbrev single : List ℕ → Bool
@@ -120,10 +120,9 @@ configs_lines s c = record {
       (config_json s);
 }
 
--- what is written for an entry is one line
+-- what is written for an entry is one line, with an id or without
 pub entries_lines : EntriesAreLines
-entries_lines s c site x = record {
-  utf8 = is_utf8-from_IsUtf8 (compact_text (entry_json s site x)) (entry_utf8 s site x c);
-  no_feed = value_single
-      (entry_json s site x);
+entries_lines s c site x id = record {
+  utf8 = is_utf8-from_IsUtf8 (compact_text (asked_entry_json s site x)) (entry_utf8 s site x c id);
+  no_feed = value_single (asked_entry_json s site x);
 }

@@ -41,7 +41,8 @@ value_read : (key : List ℕ) (value : Data) (o : Option Data)
 value_read key value None e = absurd (cc)
 value_read key value (Some d) e = let same : d ≡ value = cc in ap Some same
 
-member_text : (key : List ℕ) (value : Data) → IsText (one_json key value) 5 → IsText value 4
+-- so its value is read from its own text, one less deep
+pub member_text : (key : List ℕ) (value : Data) → IsText (one_json key value) 5 → IsText value 4
 member_text key value t =
     let depth = t.shallow in
     record {

@@ -81,9 +81,13 @@ token s d =
     (λ red c. (a, b, c))))))
     (λ m h. h)
 
--- an event
-pub event : (s : Settings) (d : Data) → IfSome (event_at s d) (IsEvent s)
-event s d = fits_if (IsEvent s) (size_of d == 1) (recorded_of s d) (λ e.
+-- an event by its key, whatever other members its object has
+pub recorded : (s : Settings) (d : Data) → IfSome (recorded_of s d) (IsEvent s)
+recorded s d =
     fits_either (IsEvent s) (get (codes "shadow") d) _ _
     (λ v. fits_map (IsShadow s) (IsEvent s) _ (shadow_at s v) (shadow s v) (λ made h. h))
-    (fits_either (IsEvent s) (get (codes "token") d) _ _ (token s) (command s d)))
+    (fits_either (IsEvent s) (get (codes "token") d) _ _ (token s) (command s d))
+
+-- an event
+pub event : (s : Settings) (d : Data) → IfSome (event_at s d) (IsEvent s)
+event s d = fits_if (IsEvent s) (size_of d == 1) (recorded_of s d) (λ e. recorded s d)

@@ -24,7 +24,8 @@ differ : (xs ys : List ℕ) (b : Bool) → bytes_eq xs ys ≡ b → (xs ≡ ys �
 differ xs ys true e other = absurd (other ((bytes_eq-Decides xs ys).0 e))
 differ xs ys false e other = refl
 
-unequal : (xs ys : List ℕ) → (xs ≡ ys → ⊥) → is_eq (slice_cmp nat_cmp xs ys) ≡ false
+-- texts that differ don't compare as equal
+pub unequal : (xs ys : List ℕ) → (xs ≡ ys → ⊥) → is_eq (slice_cmp nat_cmp xs ys) ≡ false
 unequal xs ys other = is_eq-slice_cmp xs ys ∙ differ xs ys (bytes_eq xs ys) refl other
 
 -- the members of a key and a site, in both orders

@@ -1,5 +1,6 @@
 -- The lines of entries and of configurations are UTF-8.
-use Rattle.std.proofs.Common.{◌≡◌, ℕ, suc, List, [], ◌∷◌, true, codes, IsUtf8, refl, Option, Some, None, Bool, false, take, arith}
+use Rattle.std.proofs.Common.{◌≡◌, ℕ, suc, List, [], ◌∷◌, true, codes, IsUtf8, refl, Option, Some, None, Bool, false}
+use Rattle.std.proofs.Common.{take, inl, inr, arith}
 use Rattle.std.specs.Prelude.{◌==◌, if◌then◌else◌, map, nat_lt, slice_get, unwrap_or}
 use Rattle.std.specs.List.{list_all}
 use Rattle.std.proofs.lemmas.Bool.{and_parts}
@@ -16,7 +17,6 @@ use Rattle.rb_shadow.specs.Labels.{label_of}
 use Rattle.rb_shadow.specs.declared.kind.Kind.{Kind}
 use Rattle.rb_shadow.specs.declared.kind.Kind.TheVariants.{Cancel as CancelKind, Transfer as TransferKind}
 use Rattle.rb_shadow.specs.declared.shadow.Shadow.{Shadow}
-use Rattle.rb_site.specs.declared.entry.Entry.{Entry}
 use Rattle.rb_site.specs.declared.event.Event.{Event}
 use Rattle.rb_site.specs.declared.event.Event.TheVariants.{Submit, Batch, Receive, Apply, Pass, Balance, AsOf, Statement}
 use Rattle.rb_site.specs.declared.message.Message.TheVariants.{Shadow as ShadowMessage, Token as TokenOnItsWay}
@@ -25,7 +25,10 @@ use Rattle.rb_history.proofs.Utf8.{HasTexts, ItemsHaveTexts, MembersHaveTexts, l
 use Rattle.rb_history.proofs.Utf8.{text_utf8}
 use Rattle.rb_history.specs.Counts.{blue_json, numbered_from, numbered_json}
 use Rattle.rb_history.specs.ConfigLines.{accounts_of, config_json, start_json}
-use Rattle.rb_history.specs.Entries.{account_json, deps_json, entry_json, event_json, last_members, request_json, shadow_json}
+use Rattle.rb_history.specs.Entries.{account_json, asked_entry_json, deps_json, event_json, last_members}
+use Rattle.rb_history.specs.Entries.{request_json, shadow_json}
+use Rattle.rb_history.specs.Ids.{AskedEntry, IsIdOrNone}
+use Rattle.rb_history.proofs.Public.IdText.{id_utf8}
 
 -- an account's name is ASCII
 byte_ascii : (b : ℕ) → is_name_byte b ≡ true → nat_lt b 128 ≡ true
@@ -85,9 +88,21 @@ event_texts s c (Balance a) = (refl, account_texts s c a, tt)
 event_texts s c (AsOf a n) = (refl, (account_texts s c a, (tt, tt)), tt)
 event_texts s c (Statement a) = (refl, account_texts s c a, tt)
 
--- the line of an entry is UTF-8
-pub entry_utf8 : (s : Settings) (site : ℕ) (x : Entry) → IsConfigured s → IsUtf8 (compact_text (entry_json s site x))
-entry_utf8 s site x c = text_utf8 (entry_json s site x) (refl, event_texts s c x.event, (refl, reply_texts x.reply, (refl, tt, tt)))
+-- the line of an entry is UTF-8, with an id or without
+pub entry_utf8 : (s : Settings) (site : ℕ) (x : AskedEntry) → IsConfigured s → IsIdOrNone x.id
+    → IsUtf8 (compact_text (asked_entry_json s site x))
+entry_utf8 s site x c = at x.id
+  where
+    at : (id : List ℕ) → IsIdOrNone id
+        → IsUtf8 (compact_text (asked_entry_json s site (record { id = id; entry = x.entry })))
+    at [] none = text_utf8 (asked_entry_json s site (record { id = []; entry = x.entry }))
+        (refl, event_texts s c x.entry.event, (refl, reply_texts x.entry.reply, (refl, tt, tt)))
+    at (b ∷ bs) (inl none) = absurd (cc)
+    at (b ∷ bs) (inr is) = text_utf8 (asked_entry_json s site (record { id = b ∷ bs; entry = x.entry })) (
+      refl,
+      event_texts s c x.entry.event,
+      (refl, id_utf8 (b ∷ bs) is, (refl, reply_texts x.entry.reply, (refl, tt, tt))),
+    )
 
 starts_texts : (names : List (List ℕ)) (starts : List ℕ)
     → ((i : ℕ) (name : List ℕ) → slice_get names i ≡ Some name → is_account_name name ≡ true)

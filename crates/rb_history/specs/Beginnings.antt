@@ -1,5 +1,5 @@
 -- Texts that begin with what is written for a part of a history's line, and then the rest follows: of parts that fit.
-use Rattle.std.specs.Prelude.{◌≡◌, ℕ, ◌<◌, ◌^◌, List, ◌++◌, codes, false, drop, length, map, unwrap_or, slice_get}
+use Rattle.std.specs.Prelude.{◌≡◌, ◌⊎◌, ℕ, ◌<◌, ◌^◌, List, [], ◌++◌, codes, true, false, drop, length, map, unwrap_or, slice_get}
 use Rattle.json.specs.Print.{escape}
 use Rattle.serde_json.specs.Data.{Data}
 use Rattle.serde_json.specs.View.{items_of}
@@ -15,6 +15,7 @@ use Rattle.rb_history.specs.Replies.{reply_json}
 use Rattle.rb_history.specs.Counts.{blue_json, numbered_from, numbered_json}
 use Rattle.rb_history.specs.Entries.{event_json, request_json}
 use Rattle.rb_history.specs.Fits.{Each, IsEvent, IsReply, IsRequest}
+use Rattle.rb_history.specs.Ids.{is_id}
 use Rattle.rb_history.specs.Values.{one_json}
 
 -- a string behind its first quote
@@ -43,6 +44,16 @@ BeginsWithRequest s r text rest = IsRequest s r × BeginsWithMember (request_jso
 -- the member of an event of a site's own
 abbrev pub BeginsWithOwn : Settings → Event → List ℕ → List ℕ → Type 0
 BeginsWithOwn s e text rest = IsOwn e × IsEvent s e × BeginsWithMember (event_json s e) text rest
+
+-- the end of an object behind its other member: an id as its last member, or none
+abbrev pub EndsWithId : List ℕ → List ℕ → Type 0
+EndsWithId id text =
+    ((id ≡ []) × (text ≡ codes "}")) ⊎ ((is_id id ≡ true) × (text ≡ codes ",\"id\":\"" ++ (id ++ codes "\"}")))
+
+-- the id of an entry's line behind its event, or none, and what follows
+abbrev pub BeginsWithId : List ℕ → List ℕ → List ℕ → Type 0
+BeginsWithId id text rest =
+    ((id ≡ []) × (text ≡ rest)) ⊎ ((is_id id ≡ true) × (text ≡ codes ",\"id\":\"" ++ (id ++ (codes "\"" ++ rest))))
 
 -- the items of a list, and its closing bracket
 abbrev pub BeginsWithEach : {A : Type 0} → (A → Data) → (A → Type 0) → List A → List ℕ → List ℕ → Type 0

@@ -1,5 +1,6 @@
 -- Lines of histories: a JSON object of an event, its reply and the site's number.
-use Rattle.std.specs.Prelude.{ℕ, ◌==◌, List, Option, None, codes, unwrap_or, if◌then◌else◌, option_and_then, option_map, slice_get}
+use Rattle.std.specs.Prelude.{ℕ, ◌==◌, List, [], Option, Some, None, codes, unwrap_or, if◌then◌else◌, option_and_then, option_map}
+use Rattle.std.specs.Prelude.{slice_get}
 use Rattle.std.specs.Str.{is_utf8}
 use Rattle.serde_json.specs.Data.{Data, string, object, Members, member, no_members}
 use Rattle.serde_json.specs.Read.{read}
@@ -18,7 +19,8 @@ use Rattle.rb_site.specs.declared.event.Event.TheVariants.{Submit, Batch, Receiv
 use Rattle.rb_site.specs.declared.message.Message.TheVariants.{Shadow as ShadowMessage, Token as TokenOnItsWay}
 use Rattle.rb_token.specs.declared.message.TokenMessage.{TokenMessage}
 use Rattle.rb_history.specs.Counts.{blue_json}
-use Rattle.rb_history.specs.Recorded.{event_at}
+use Rattle.rb_history.specs.Ids.{AskedEntry, AskedEvent, id_at, id_member, may_be_asked, may_have_id}
+use Rattle.rb_history.specs.Recorded.{event_at, recorded_of}
 use Rattle.rb_history.specs.RepliesRead.{reply_parsed}
 use Rattle.rb_history.specs.Replies.{reply_json}
 use Rattle.rb_history.specs.Values.{list_json, name_json, number_below, number_json, one_json, pair_json, size_of, three_json}
@@ -78,7 +80,15 @@ event_json s (Balance a) = one_json (codes "balance") (account_json s a)
 event_json s (AsOf a n) = one_json (codes "asof") (asked_json s a n)
 event_json s (Statement a) = one_json (codes "statement") (account_json s a)
 
--- an entry of a site's history, the keys in byte order
+-- an entry of a site's history with its id, the keys in byte order
+abbrev pub asked_entry_json : Settings → ℕ → AskedEntry → Data
+asked_entry_json s site x = object
+    (member (codes "event") (event_json s x.entry.event)
+    (id_member x.id
+    (member (codes "reply") (reply_json x.entry.reply)
+    (member (codes "site") (number_json site) no_members))))
+
+-- an entry of a site's history without an id
 abbrev pub entry_json : Settings → ℕ → Entry → Data
 entry_json s site x = object
     (member (codes "event") (event_json s x.event)
@@ -95,18 +105,45 @@ entry_in s d =
     (field (codes "event") (event_at s) d))
     (field (codes "site") (number_below s.sites) d)
 
--- an entry is an object of three members
-abbrev pub entry_of_object : Settings → Data → Option (ℕ × Entry)
-entry_of_object s d = if size_of d == 3 then entry_in s d else None
+-- the number of a site, and its entry with the id, that an object of four members comes to
+abbrev pub entry_with_id : Settings → Data → Option (ℕ × AskedEntry)
+entry_with_id s d =
+    option_and_then (λ id. option_and_then (λ x. if may_be_asked x.1 then Some (x.0, record { id = id; entry = x.1 }) else None)
+    (entry_in s d)) (field (codes "id") id_at d)
 
--- the entry that a line is
+-- an entry is an object of three members, or of four with an id
+abbrev pub asked_entry_of_object : Settings → Data → Option (ℕ × AskedEntry)
+asked_entry_of_object s d = if size_of d == 3 then option_map (λ x. (x.0, record { id = []; entry = x.1 })) (entry_in s d)
+    else if size_of d == 4 then entry_with_id s d
+    else None
+
+-- the entry that a line is, with its id
+abbrev pub asked_entry_of_line : Settings → List ℕ → Option (ℕ × AskedEntry)
+asked_entry_of_line s line = option_and_then (asked_entry_of_object s) (read line)
+
+-- the entry that a line is, its id left out
 abbrev pub entry_of_line : Settings → List ℕ → Option (ℕ × Entry)
-entry_of_line s line = option_and_then (entry_of_object s) (read line)
+entry_of_line s line = option_map (λ x. (x.0, x.1.entry)) (asked_entry_of_line s line)
 
--- the event that a line is by itself
-abbrev pub event_of_line : Settings → List ℕ → Option Event
-event_of_line s line = option_and_then (event_at s) (read line)
+-- the event with an id that an object of two members is
+abbrev pub event_with_id : Settings → Data → Option AskedEvent
+event_with_id s d =
+    option_and_then (λ id. option_and_then (λ e. if may_have_id e then Some (record { id = id; event = e }) else None)
+    (recorded_of s d)) (field (codes "id") id_at d)
 
--- the entry on a line with its site, at these settings
+-- an event is an object of one member, or of two with an id
+abbrev pub asked_event_at : Settings → Data → Option AskedEvent
+asked_event_at s d =
+    if size_of d == 2 then event_with_id s d else option_map (λ e. record { id = []; event = e }) (event_at s d)
+
+-- the event that a line is, with its id
+abbrev pub asked_event_of_line : Settings → List ℕ → Option AskedEvent
+asked_event_of_line s line = option_and_then (asked_event_at s) (read line)
+
+-- the entry on a line with its id and its site, at these settings
+unfoldable pub asked_entry_on : Settings → List ℕ → Option (ℕ × AskedEntry)
+asked_entry_on s l = if is_utf8 l then asked_entry_of_line s l else None
+
+-- the entry on a line with its site, its id left out
 unfoldable pub entry_on : Settings → List ℕ → Option (ℕ × Entry)
 entry_on s l = if is_utf8 l then entry_of_line s l else None

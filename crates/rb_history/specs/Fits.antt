@@ -14,7 +14,6 @@ use Rattle.rb_shadow.specs.NameText.{IsName}
 use Rattle.rb_shadow.specs.declared.kind.Kind.{Kind}
 use Rattle.rb_shadow.specs.declared.kind.Kind.TheVariants.{Cancel as CancelKind, Transfer as TransferKind}
 use Rattle.rb_shadow.specs.declared.shadow.Shadow.{Shadow}
-use Rattle.rb_site.specs.declared.entry.Entry.{Entry}
 use Rattle.rb_site.specs.declared.event.Event.{Event}
 use Rattle.rb_site.specs.declared.event.Event.TheVariants.{Submit, Batch, Receive, Apply, Pass, Balance, AsOf, Statement}
 use Rattle.rb_site.specs.declared.message.Message.TheVariants.{Shadow as ShadowMessage, Token as TokenOnItsWay}
@@ -22,7 +21,8 @@ use Rattle.rb_site.specs.declared.reply.Reply.{Reply}
 use Rattle.rb_site.specs.declared.reply.Reply.TheVariants.{Made, Names, Held, Already, Taken, Stale, Applied, Passed, Balance as BalanceIs}
 use Rattle.rb_site.specs.declared.reply.Reply.TheVariants.{Statement as StatementIs, Refused}
 use Rattle.rb_statements.specs.declared.row.Row.{Row}
-use Rattle.rb_history.specs.Entries.{entry_json, entry_of_line, event_json, event_of_line}
+use Rattle.rb_history.specs.Entries.{asked_entry_json, asked_entry_of_line, asked_event_of_line, event_json}
+use Rattle.rb_history.specs.Ids.{AskedEntry, IsAsked}
 use Rattle.rb_money.specs.declared.place.TheConstants.Place.{NOWHERE}
 
 -- the place of one of the configuration's accounts, or the one that no configuration has
@@ -103,16 +103,17 @@ IsReply (BalanceIs n) = n < 2 ^ 64
 IsReply (StatementIs t) = (t.start < 2 ^ 64) × Each IsStatementRow t.rows × (t.balance < 2 ^ 64)
 IsReply (Refused why) = IsRefusal why
 
--- the line of each entry of a site of the configuration is read as the entry, where that fits
+-- the line of each entry of a site of the configuration is read as the entry with its id, where that fits
 abbrev pub EntriesAreRead : Type 0
-EntriesAreRead = (s : Settings) → IsConfigured s → (site : ℕ) (x : Entry) → site < s.sites → IsEvent s x.event → IsReply x.reply
-    → entry_of_line s (compact_text (entry_json s site x)) ≡ Some (site, x)
+EntriesAreRead = (s : Settings) → IsConfigured s → (site : ℕ) (x : AskedEntry) → site < s.sites → IsEvent s x.entry.event
+    → IsReply x.entry.reply → IsAsked x → asked_entry_of_line s (compact_text (asked_entry_json s site x)) ≡ Some (site, x)
 
 -- the line of each event by itself is read as the event, where that fits
 abbrev pub EventsAreRead : Type 0
-EventsAreRead = (s : Settings) → IsConfigured s → (e : Event) → IsEvent s e → event_of_line s (compact_text (event_json s e)) ≡ Some e
+EventsAreRead = (s : Settings) → IsConfigured s → (e : Event) → IsEvent s e
+    → asked_event_of_line s (compact_text (event_json s e)) ≡ Some (record { id = []; event = e })
 
--- what is read from any line is an entry of a site of the configuration, and fits
+-- what is read from any line is an entry of a site of the configuration, and fits, and so does its id
 abbrev pub ReadEntriesFit : Type 0
-ReadEntriesFit = (s : Settings) (line : List ℕ) (site : ℕ) (x : Entry) → entry_of_line s line ≡ Some (site, x)
-    → (site < s.sites) × IsEvent s x.event × IsReply x.reply
+ReadEntriesFit = (s : Settings) (line : List ℕ) (site : ℕ) (x : AskedEntry) → asked_entry_of_line s line ≡ Some (site, x)
+    → (site < s.sites) × IsEvent s x.entry.event × IsReply x.entry.reply × IsAsked x

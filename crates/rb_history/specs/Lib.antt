@@ -15,6 +15,7 @@ pub mod ConfigLines
 pub mod Counts
 pub mod Recorded
 pub mod RepliesRead
+pub mod Ids
 pub mod Entries
 pub mod Fits
 pub mod Beginnings

@@ -6,7 +6,7 @@ use Rattle.serde_json.specs.Find.{get, as_str}
 use Rattle.serde_json.specs.Read.{read}
 use Rattle.rb_money.specs.declared.limits.TheConstants.{MOST_HISTORY}
 use Rattle.rb_money.specs.Settings.{Settings}
-use Rattle.rb_history.specs.Entries.{event_of_line}
+use Rattle.rb_history.specs.Entries.{asked_event_of_line}
 use Rattle.rb_history.specs.declared.question.Question.{Question}
 use Rattle.rb_history.specs.declared.question.Question.TheVariants.{About, Resend}
 use Rattle.rb_history.specs.Values.{either, number_below, size_of}
@@ -34,4 +34,4 @@ question_of_line line = option_and_then question_of (read line)
 
 -- no question is an event, at any settings
 abbrev pub QuestionsAreNoEvents : Type 0
-QuestionsAreNoEvents = (s : Settings) (line : List ℕ) (q : Question) → question_of_line line ≡ Some q → event_of_line s line ≡ None
+QuestionsAreNoEvents = (s : Settings) (line : List ℕ) (q : Question) → question_of_line line ≡ Some q → asked_event_of_line s line ≡ None

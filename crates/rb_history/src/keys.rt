@@ -43,6 +43,7 @@ macro_rules! word {
     (resend [$($done:literal)*] $($rest:tt)*) => { $crate::keys::spell!(@ [$($done)* "resend"] $($rest)*) };
     // Lines of commands and of entries, and the question about a site.
     (site [$($done:literal)*] $($rest:tt)*) => { $crate::keys::spell!(@ [$($done)* "site"] $($rest)*) };
+    (id [$($done:literal)*] $($rest:tt)*) => { $crate::keys::spell!(@ [$($done)* "id"] $($rest)*) };
     (event [$($done:literal)*] $($rest:tt)*) => { $crate::keys::spell!(@ [$($done)* "event"] $($rest)*) };
     (reply [$($done:literal)*] $($rest:tt)*) => { $crate::keys::spell!(@ [$($done)* "reply"] $($rest)*) };
     // Shadows.

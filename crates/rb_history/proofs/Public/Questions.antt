@@ -1,21 +1,23 @@
 -- No line is both a question and an event.
 use Rattle.std.proofs.Common.{◌≡◌, ◌==◌, suc, List, ℕ, Option, None, Some, Ordering, Less, Equal, Greater, nat_cmp, is_eq, codes}
-use Rattle.std.proofs.Common.{Bool, true, false, refl, sym, ◌∙◌, subst, arith}
+use Rattle.std.proofs.Common.{[], true, refl, sym, ap, ◌∙◌, subst, arith}
 use Rattle.std.proofs.lemmas.Bool.{eqb-true}
 use Rattle.std.proofs.lemmas.Map.Text.{is_eq-slice_cmp}
 use Rattle.std.proofs.lemmas.Slice.Eq.{bytes_eq-Decides}
 use Rattle.std.specs.Cmp.Lexicographic.{slice_cmp}
 use Rattle.std.specs.Ordering.{match_ordering}
-use Rattle.std.specs.Prelude.{if◌then◌else◌, option_and_then}
+use Rattle.std.specs.Prelude.{option_and_then, option_map}
 use Rattle.serde_json.specs.Data.{Data, null, boolean, number, string, array, object, no_members, member}
 use Rattle.serde_json.specs.Events.{members_len}
 use Rattle.serde_json.specs.Find.{get}
 use Rattle.serde_json.specs.Read.{read}
 use Rattle.rb_money.specs.Settings.{Settings}
+use Rattle.rb_history.specs.Entries.{asked_event_at}
 use Rattle.rb_history.specs.Questions.{QuestionsAreNoEvents, question_asked, question_of}
 use Rattle.rb_history.specs.Recorded.{event_at}
 use Rattle.rb_history.specs.Values.{one_json, size_of}
 use Rattle.rb_history.specs.declared.question.Question.{Question}
+use Rattle.rb_history.proofs.FitsLaws.{tested}
 
 equal : (o : Ordering) (value v : Data) → match_ordering o None (Some value) None ≡ Some v → is_eq o ≡ true
 equal Less value v e = absurd (cc)
@@ -36,11 +38,8 @@ by_key s key value None (Some n) q e f asked =
     subst (λ k. event_at s (one_json k value) ≡ None) (key_is (codes "resend") key value n f) refl
 by_key s key value None None q e f asked = absurd (cc)
 
-tested : (b : Bool) (o : Option Question) (q : Question) → (if b then o else None) ≡ Some q → b ≡ true
-tested true o q e = refl
-tested false o q e = absurd (cc)
-
-no_event : (s : Settings) (d : Data) (q : Question) → question_of d ≡ Some q → event_at s d ≡ None
+-- a question has one member, so it is no event with an id either
+no_event : (s : Settings) (d : Data) (q : Question) → question_of d ≡ Some q → asked_event_at s d ≡ None
 no_event s null q e = absurd (cc)
 no_event s (boolean b) q e = absurd (cc)
 no_event s (number n) q e = absurd (cc)
@@ -49,14 +48,16 @@ no_event s (array ds) q e = absurd (cc)
 no_event s (object no_members) q e = absurd (cc)
 no_event s (object (member key value no_members)) q e =
     let d = one_json key value in
-    by_key s key value (get (codes "about") d) (get (codes "resend") d) q refl refl e
+    ap (option_map (λ made. record { id = []; event = made }))
+    (by_key s key value (get (codes "about") d) (get (codes "resend") d) q refl refl e)
 no_event s (object (member key value (member other more ms))) q e =
     let d = object (member key value (member other more ms)) in
     let asked = question_asked (get (codes "about") d) (get (codes "resend") d) in
     let one : suc (suc (members_len ms)) ≡ 1 = eqb-true (size_of d) 1 (tested (size_of d == 1) asked q e) in
     absurd (omega arith)
 
-in_line : (s : Settings) (o : Option Data) (q : Question) → option_and_then question_of o ≡ Some q → option_and_then (event_at s) o ≡ None
+in_line : (s : Settings) (o : Option Data) (q : Question) → option_and_then question_of o ≡ Some q
+    → option_and_then (asked_event_at s) o ≡ None
 in_line s None q e = refl
 in_line s (Some d) q e = no_event s d q e
 

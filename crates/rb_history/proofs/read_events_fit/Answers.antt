@@ -1,4 +1,4 @@
-use Rattle.rb_history.proofs.AnswersFit.{events_fit}
+use Rattle.rb_history.proofs.AskedFit.{events_fit}
 use Rattle.rb_history.proofs.read_events_fit.Goals as goal
 
 pub returns : goal.returns

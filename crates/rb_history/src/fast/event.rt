@@ -4,17 +4,22 @@
 //! the end of its value: a command has its site beside it, and an item of a batch, an event's line and an entry an
 //! object of its own. An event goes into its place, since a large result is put into memory and read again, 60 to 140
 //! instructions.
-ghost use Rattle.std.specs.Prelude.{◌≡◌, ◌++◌, IfSome, Some};
+ghost use Rattle.std.specs.Prelude.{◌≡◌, [], ◌++◌, IfSome, Some};
 ghost use Rattle.serde_json.specs.Written.{compact_text};
-ghost use Rattle.rb_history.specs.Entries.{event_of_line, request_json};
+ghost use Rattle.rb_money.specs.Settings.{IsConfigured};
+ghost use Rattle.rb_history.specs.Entries.{asked_event_of_line, request_json};
 ghost use Rattle.rb_history.specs.Fits.{IsRequest};
+ghost use Rattle.rb_history.specs.Ids.{IsIdOrNone};
 ghost use Rattle.rb_history.specs.Beginnings.{BeginsWithEach, BeginsWithEvent, BeginsWithOwn, BeginsWithRequest};
+ghost use Rattle.rb_history.specs.Beginnings.{EndsWithId};
 
 use crate::fast::account::{parse_account_behind, parse_account_between, parse_asked};
+use crate::fast::id::parse_id_behind;
 use crate::fast::name::parse_name_behind;
 use crate::fast::number::{narrow, parse_byte, parse_byte_between, parse_word_between};
 use crate::fast::scan::parse_prefix;
 use crate::fast::shadow::parse_received;
+use crate::id::may_have_id;
 use crate::keys::{behind_quote, spell};
 use rb_kit::List;
 use rb_money::Config;
@@ -253,16 +258,92 @@ pub fn parse_event<'a>(
     }
 }
 
-/// The event of a line as it is written.
-pub fn parse_event_line(alloc: Global, config: &Config, line: &str) -> Option<Event>
-    ensures { IfSome result (λ e. event_of_line config.now line.now ≡ Some e) }
+/// The id with which an object ends, or none, from behind its other member on.
+#[inline(always)]
+fn parse_last_id(text: &str) -> Option<&str>
+    ensures { IfSome result (λ id. EndsWithId id.now text.now) }
 {
-    // For a fact alone: its settings are those of a configuration.
-    let _sites = config.sites();
-    let mut event = Event::Pass(0);
-    let rest = parse_event(alloc, config, line, &mut event)?;
+    if text == "}" {
+        return Some("");
+    }
+    let (id, rest) = parse_id_behind(text, spell!("," id ":\""))?;
+    if rest != "}" {
+        return None;
+    }
+    Some(id)
+}
+
+/// An event of a site's own as all of a line, in its place, with the id before it.
+fn parse_id_first<'a>(
+    alloc: Global,
+    config: &Config,
+    line: &'a str,
+    event: &mut Event,
+) -> Option<&'a str>
+    requires { IsConfigured config.now }
+    ensures value { IfSome result (λ id. asked_event_of_line config.now line.now
+        ≡ Some (record { id = id.now; event = event.new })) }
+    ensures id { IfSome result (λ id. IsIdOrNone id.now) }
+{
+    let (id, rest) = parse_id_behind(line, spell!("{" id ":\""))?;
+    let behind = parse_own(alloc, config, parse_prefix(rest, ",\"")?, event)?;
+    if behind != "}" || !may_have_id(event) {
+        return None;
+    }
+    Some(id)
+}
+
+/// The same with the id behind it, or with none.
+#[inline(always)]
+fn parse_id_last<'a>(
+    alloc: Global,
+    config: &Config,
+    line: &'a str,
+    event: &mut Event,
+) -> Option<&'a str>
+    requires { IsConfigured config.now }
+    ensures value { IfSome result (λ id. asked_event_of_line config.now line.now
+        ≡ Some (record { id = id.now; event = event.new })) }
+    ensures id { IfSome result (λ id. IsIdOrNone id.now) }
+{
+    let behind = parse_own(alloc, config, parse_prefix(line, "{\"")?, event)?;
+    let id = parse_last_id(behind)?;
+    if id != "" && !may_have_id(event) {
+        return None;
+    }
+    Some(id)
+}
+
+/// No id, where a line has nothing more.
+#[inline(always)]
+fn parse_no_more(rest: &str) -> Option<&str>
+    ensures { IfSome result (λ id. (rest.now ≡ []) × (id.now ≡ [])) }
+{
     if rest != "" {
         return None;
     }
-    Some(event)
+    Some(rest)
+}
+
+/// The event of a line as it is written, in its place, and its id: no text if it has none. The first letter and the
+/// fourth of the first key tell a message that comes, and an id, from an event of the site's own.
+pub fn parse_asked_line<'a>(
+    alloc: Global,
+    config: &Config,
+    line: &'a str,
+    event: &mut Event,
+) -> Option<&'a str>
+    ensures value { IfSome result (λ id. asked_event_of_line config.now line.now
+        ≡ Some (record { id = id.now; event = event.new })) }
+    ensures id { IfSome result (λ id. IsIdOrNone id.now) }
+{
+    // For a fact alone: its settings are those of a configuration.
+    let _sites = config.sites();
+    let key = line.as_bytes();
+    match (key.get(2), key.get(5)) {
+        (Some(b's'), Some(b'd')) => parse_no_more(parse_received(config, line, event)?),
+        (Some(b't'), Some(b'e')) => parse_no_more(parse_token(config, line, event)?),
+        (Some(b'i'), Some(b':')) => parse_id_first(alloc, config, line, event),
+        _ => parse_id_last(alloc, config, line, event),
+    }
 }

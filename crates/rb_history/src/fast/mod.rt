@@ -6,6 +6,7 @@ pub mod command;
 pub mod counts;
 pub mod entry;
 pub mod event;
+pub mod id;
 pub mod kind;
 pub mod name;
 pub mod number;

@@ -1,30 +1,39 @@
 //! Lines of histories.
 ghost use Rattle.std.specs.Prelude.{◌≡◌, ◌<◌, IfOk, MatchResult, None, Some};
 ghost use Rattle.rb_history.specs.declared.fault.LineFault.TheVariants.{Bad};
-ghost use Rattle.rb_history.specs.Entries.{entry_of_line};
+ghost use Rattle.rb_history.specs.Entries.{asked_entry_of_line, entry_of_line};
 ghost use Rattle.rb_history.specs.Lines.{Gives};
 
-use crate::fast::entry::parse_entry;
+use crate::fast::entry::parse_asked_entry;
 use crate::fault::LineFault;
-use crate::read::entry::entry;
+use crate::id::RequestId;
+use crate::read::entry::asked_entry;
 use crate::read::value::read_value;
 use rb_money::Config;
 use rb_site::{Entry, Event, Reply};
 use std::alloc::Global;
 
-/// The entry that a line of any spelling is, with the number of its site.
+/// The entry that a line of any spelling is, with the number of its site. Its id takes the place of another.
 #[inline(never)]
-fn read_spelled(alloc: Global, config: &Config, line: &str) -> Result<(u8, Entry), LineFault>
-    ensures read { Gives result (entry_of_line config.now line.now) }
+pub(crate) fn read_spelled(
+    alloc: Global,
+    config: &Config,
+    line: &str,
+    id: &mut RequestId,
+) -> Result<(u8, Entry), LineFault>
+    ensures read { MatchResult result
+        (λ x. asked_entry_of_line config.now line.now ≡ Some (x.0, record { id = id.new; entry = x.1 }))
+        (λ why. why ≡ Bad → asked_entry_of_line config.now line.now ≡ None) }
     ensures site { IfOk result (λ x. x.0 < config.now.sites) }
 {
     match read_value(alloc, line) {
-        Ok(value) => entry(alloc, config, &value),
+        Ok(value) => asked_entry(alloc, config, &value, id),
         Err(fault) => Err(fault),
     }
 }
 
-/// The entry that a line of any spelling is, in its place, and the number of its site.
+/// The entry that a line of any spelling is, in its place, and the number of its site. Its id takes the place of
+/// another.
 #[cold]
 #[inline(never)]
 fn put_spelled(
@@ -32,22 +41,48 @@ fn put_spelled(
     config: &Config,
     line: &str,
     entry: &mut Entry,
+    id: &mut RequestId,
 ) -> Result<u8, LineFault>
     ensures { MatchResult result
-        (λ site. (entry_of_line config.now line.now ≡ Some (site, entry.new)) × (site < config.now.sites))
-        (λ why. why ≡ Bad → entry_of_line config.now line.now ≡ None) }
+        (λ site. (asked_entry_of_line config.now line.now ≡ Some (site, record { id = id.new; entry = entry.new }))
+        × (site < config.now.sites))
+        (λ why. why ≡ Bad → asked_entry_of_line config.now line.now ≡ None) }
 {
-    let (site, read) = read_spelled(alloc, config, line)?;
+    let (site, read) = read_spelled(alloc, config, line, id)?;
     *entry = read;
     Ok(site)
 }
 
-/// Reads the entry that a history's line is into its place, and returns the number of its site: `Bad` where it is none,
-/// `OutOfMemory` where there was no memory to read it. After an `Err` the entry may be any.
+/// Reads the entry that a history's line is into its place, and its id into its: `Bad` where it is none, `OutOfMemory`
+/// where there was no memory to read it. The number of its site comes back. Without an id there is none in its place.
+/// After an `Err` entry and id may be any.
 ///
 /// An account that the configuration doesn't have is read as `Place::NOWHERE`. The reply may be one that no
 /// site gives, and `why` and the number that stopped a batch may be any byte; but a line that reports running out of
-/// memory is bad, as is one of a site that the configuration doesn't have.
+/// memory is bad, as is one of a site that the configuration doesn't have. So is an id on the entry of an event that
+/// may have none, or on a refusal.
+pub fn read_asked_entry(
+    alloc: Global,
+    config: &Config,
+    line: &str,
+    entry: &mut Entry,
+    id: &mut RequestId,
+) -> Result<u8, LineFault>
+    ensures { MatchResult result
+        (λ site. (asked_entry_of_line config.now line.now ≡ Some (site, record { id = id.new; entry = entry.new }))
+        × (site < config.now.sites))
+        (λ why. why ≡ Bad → asked_entry_of_line config.now line.now ≡ None) }
+{
+    let Some((text, site)) = parse_asked_entry(alloc, config, line, entry) else {
+        return put_spelled(alloc, config, line, entry, id);
+    };
+    match id.set(text) {
+        Ok(()) => Ok(site),
+        Err(_) => Err(LineFault::OutOfMemory),
+    }
+}
+
+/// The same as `read_asked_entry`, its id left out.
 pub fn read_entry(
     alloc: Global,
     config: &Config,
@@ -58,9 +93,9 @@ pub fn read_entry(
         (λ site. (entry_of_line config.now line.now ≡ Some (site, entry.new)) × (site < config.now.sites))
         (λ why. why ≡ Bad → entry_of_line config.now line.now ≡ None) }
 {
-    match parse_entry(alloc, config, line, entry) {
-        Some(site) => Ok(site),
-        None => put_spelled(alloc, config, line, entry),
+    match parse_asked_entry(alloc, config, line, entry) {
+        Some((_id, site)) => Ok(site),
+        None => put_spelled(alloc, config, line, entry, &mut RequestId::none(alloc)),
     }
 }
 

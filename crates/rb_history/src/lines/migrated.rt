@@ -5,23 +5,24 @@
 ghost use Rattle.std.specs.Prelude.{◌≡◌, ◌++◌, ℕ, None, Some, IfSome, MatchResult, OnErr};
 ghost use Rattle.serde_json.specs.Written.{compact_text};
 ghost use Rattle.rb_money.specs.Settings.{in_version_2};
-ghost use Rattle.rb_site.specs.declared.entry.Entry.{Entry};
 ghost use Rattle.rb_history.specs.Adds.{Adds};
 ghost use Rattle.rb_history.specs.declared.fault.LineFault.TheVariants.{Bad};
 ghost use Rattle.rb_history.specs.Counts.{blue_json};
-ghost use Rattle.rb_history.specs.Entries.{entry_json, entry_of_line};
+ghost use Rattle.rb_history.specs.Entries.{asked_entry_json, asked_entry_of_line};
+ghost use Rattle.rb_history.specs.Ids.{AskedEntry};
 ghost use Rattle.rb_history.specs.Migrated.{IsCutReceipt, IsMigrated, MayMigrate, is_shadow};
 
 use crate::fast::counts::parse_counts;
-use crate::fast::entry::{parse_entry, parse_entry_end};
+use crate::fast::entry::{parse_asked_entry, parse_entry_end};
 use crate::fast::scan::parse_prefix;
 use crate::fast::shadow::{parse_back, parse_front};
 use crate::fault::LineFault;
+use crate::id::RequestId;
 use crate::keys::spell;
-use crate::lines::entry::read_line;
+use crate::lines::entry::read_spelled;
 use crate::write::append::append;
 use crate::write::counts::append_counts;
-use crate::write::entry::append_line;
+use crate::write::entry::append_asked_line;
 use rb_money::{Config, MOST_SITES};
 use rb_site::{Entry, Event, Message, Reply};
 use std::alloc::{AllocError, Global};
@@ -111,7 +112,7 @@ fn append_same(
         event: Event::Pass(0),
         reply: Reply::Taken(0),
     };
-    let Some(_site) = parse_entry(alloc, config, line, &mut entry) else {
+    let Some(_asked) = parse_asked_entry(alloc, config, line, &mut entry) else {
         return Ok(false);
     };
     if is_shadow(&entry.event) {
@@ -153,11 +154,12 @@ fn append_read(
 ) -> Result<(), LineFault>
     requires { written.now ≡ in_version_2 config.now }
     ensures added { MatchResult result (λ _. IsMigrated config.now line.now out.old.items out.new.items)
-        (λ why. why ≡ Bad → entry_of_line config.now line.now ≡ None) }
+        (λ why. why ≡ Bad → asked_entry_of_line config.now line.now ≡ None) }
     ensures err { OnErr result (out.new.items ≡ out.old.items) }
 {
-    let (site, entry) = read_line(alloc, config, line)?;
-    match append_line(out, written, site, &entry) {
+    let mut id = RequestId::none(alloc);
+    let (site, entry) = read_spelled(alloc, config, line, &mut id)?;
+    match append_asked_line(out, written, site, &id, &entry) {
         Ok(()) => Ok(()),
         Err(_) => Err(LineFault::OutOfMemory),
     }
@@ -167,7 +169,7 @@ fn append_read(
 /// it is none, `OutOfMemory` where there was no memory to read or to write it. An `Err` adds nothing.
 ///
 /// The line is read as `read_entry` reads it, under a configuration of either version, and `written` is the same in
-/// version 2. What is added is what `append_line` adds for the entry under `written`.
+/// version 2. What is added is what `append_asked_line` adds for the entry and its id under `written`.
 pub fn append_migrated(
     alloc: Global,
     config: &Config,
@@ -176,9 +178,9 @@ pub fn append_migrated(
     out: &mut Vec<u8>,
 ) -> Result<(), LineFault>
     requires { written.now ≡ in_version_2 config.now }
-    ensures added { MatchResult result (λ _. (x : ℕ × Entry) × (entry_of_line config.now line.now ≡ Some x)
-        × (out.new.items ≡ out.old.items ++ compact_text (entry_json written.now x.0 x.1)))
-        (λ why. why ≡ Bad → entry_of_line config.now line.now ≡ None) }
+    ensures added { MatchResult result (λ _. (x : ℕ × AskedEntry) × (asked_entry_of_line config.now line.now ≡ Some x)
+        × (out.new.items ≡ out.old.items ++ compact_text (asked_entry_json written.now x.0 x.1)))
+        (λ why. why ≡ Bad → asked_entry_of_line config.now line.now ≡ None) }
     ensures err { OnErr result (out.new.items ≡ out.old.items) }
 {
     let before = out.len();

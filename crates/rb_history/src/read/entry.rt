@@ -1,7 +1,8 @@
 //! Entries of a history.
-ghost use Rattle.std.specs.Prelude.{◌≡◌, codes};
+ghost use Rattle.std.specs.Prelude.{◌≡◌, codes, MatchResult, None, Some};
 ghost use Rattle.serde_json.specs.View.{view};
-ghost use Rattle.rb_history.specs.Entries.{entry_of_object};
+ghost use Rattle.rb_history.specs.declared.fault.LineFault.TheVariants.{Bad};
+ghost use Rattle.rb_history.specs.Entries.{asked_entry_of_object, entry_in};
 ghost use Rattle.rb_history.specs.Fields.{field};
 ghost use Rattle.rb_history.specs.Lines.{Gives};
 ghost use Rattle.rb_history.specs.Recorded.{event_at};
@@ -9,8 +10,10 @@ ghost use Rattle.rb_history.specs.RepliesRead.{reply_parsed};
 ghost use Rattle.rb_history.specs.Values.{number_below};
 
 use crate::fault::LineFault;
+use crate::id::{RequestId, may_be_asked};
 use crate::keys::key;
 use crate::read::event::event;
+use crate::read::id::put_id;
 use crate::read::reply::reply;
 use crate::read::value::size;
 use rb_money::Config;
@@ -50,17 +53,44 @@ fn site_of(config: &Config, value: &Value) -> Option<u8>
     }
 }
 
-/// An entry of a site, from an object of three members.
-pub fn entry(alloc: Global, config: &Config, value: &Value) -> Result<(u8, Entry), LineFault>
-    ensures { Gives result (entry_of_object config.now (view value.now)) }
+/// An entry of a site, from an object of these members, whatever others it has.
+fn members(alloc: Global, config: &Config, value: &Value) -> Result<(u8, Entry), LineFault>
+    ensures { Gives result (entry_in config.now (view value.now)) }
 {
-    if size(value) != 3 {
-        return Err(LineFault::Bad);
-    }
     let Some(site) = site_of(config, value) else {
         return Err(LineFault::Bad);
     };
     let event = event_of(alloc, config, value)?;
     let reply = reply_of(alloc, value)?;
     Ok((site, Entry { event, reply }))
+}
+
+/// An entry of a site, from an object of three members; or of four, of which one is its id, which takes the place of
+/// another. Without one there is none in its place.
+pub fn asked_entry(
+    alloc: Global,
+    config: &Config,
+    value: &Value,
+    id: &mut RequestId,
+) -> Result<(u8, Entry), LineFault>
+    ensures { MatchResult result
+        (λ x. asked_entry_of_object config.now (view value.now) ≡ Some (x.0, record { id = id.new; entry = x.1 }))
+        (λ why. why ≡ Bad → asked_entry_of_object config.now (view value.now) ≡ None) }
+{
+    match size(value) {
+        3 => {
+            id.clear();
+            members(alloc, config, value)
+        }
+        4 => {
+            put_id(value, id)?;
+            let (site, entry) = members(alloc, config, value)?;
+            if may_be_asked(&entry) {
+                Ok((site, entry))
+            } else {
+                Err(LineFault::Bad)
+            }
+        }
+        _ => Err(LineFault::Bad),
+    }
 }

@@ -1,15 +1,19 @@
 //! Events. `None` and `Bad` mean that a value is none.
-ghost use Rattle.std.specs.Prelude.{◌≡◌, ◌^◌, IfOk, IfSome};
+ghost use Rattle.std.specs.Prelude.{◌≡◌, ◌^◌, IfOk, IfSome, MatchResult, None, Some};
 ghost use Rattle.serde_json.specs.View.{view};
 ghost use Rattle.rb_site.specs.Worlds.{IsOwn};
 ghost use Rattle.rb_site.specs.declared.event.Event.TheVariants.{AsOf};
 ghost use Rattle.rb_history.specs.Commands.{teller_event_of, event_of};
 ghost use Rattle.rb_history.specs.Lines.{Gives};
+ghost use Rattle.rb_history.specs.declared.fault.LineFault.TheVariants.{Bad};
+ghost use Rattle.rb_history.specs.Entries.{asked_event_at};
 ghost use Rattle.rb_history.specs.Recorded.{token_at, event_at, recorded_of};
 ghost use Rattle.rb_history.specs.Requests.{asked_of};
 
 use crate::fault::LineFault;
+use crate::id::{RequestId, may_have_id};
 use crate::keys::key;
+use crate::read::id::put_id;
 use crate::read::request::{account, request, requests};
 use crate::read::shadow::shadow;
 use crate::read::value::{byte, name, pair, size, three, word};
@@ -107,4 +111,29 @@ pub fn event(alloc: Global, config: &Config, value: &Value) -> Result<Event, Lin
         return Err(LineFault::Bad);
     }
     recorded(alloc, config, value)
+}
+
+/// An event, from an object of one member; or of two, of which one is its id, which takes the place of another. Without
+/// one there is none in its place.
+pub fn asked_event(
+    alloc: Global,
+    config: &Config,
+    value: &Value,
+    id: &mut RequestId,
+) -> Result<Event, LineFault>
+    ensures { MatchResult result
+        (λ event. asked_event_at config.now (view value.now) ≡ Some (record { id = id.new; event = event }))
+        (λ why. why ≡ Bad → asked_event_at config.now (view value.now) ≡ None) }
+{
+    if size(value) != 2 {
+        id.clear();
+        return event(alloc, config, value);
+    }
+    put_id(value, id)?;
+    let event = recorded(alloc, config, value)?;
+    if may_have_id(&event) {
+        Ok(event)
+    } else {
+        Err(LineFault::Bad)
+    }
 }

@@ -4,6 +4,7 @@ pub mod config;
 pub mod counts;
 pub mod entry;
 pub mod event;
+pub mod id;
 pub mod kind;
 pub mod refusal;
 pub mod reply;

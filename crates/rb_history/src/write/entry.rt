@@ -2,37 +2,82 @@
 ghost use Rattle.std.specs.Prelude.{◌≡◌, ◌<◌, ◌++◌, string_bytes, IfOk, OnErr, OnOk};
 ghost use Rattle.serde_json.specs.Written.{compact_text};
 ghost use Rattle.rb_history.specs.Adds.{Adds};
-ghost use Rattle.rb_history.specs.Entries.{entry_json};
+ghost use Rattle.rb_history.specs.Entries.{asked_entry_json, entry_json};
+ghost use Rattle.rb_history.specs.Ids.{IsIdOrNone};
 
+use crate::id::RequestId;
 use crate::keys::spell;
 use crate::write::append::{append, append_number};
 use crate::write::event::append_event;
+use crate::write::id::append_id;
 use crate::write::reply::append_value;
 use rb_money::Config;
 use rb_site::Entry;
 use std::alloc::{AllocError, Global};
 
-/// The JSON object of an entry, on one line.
+/// The JSON object of an entry with its id, or no bytes, on one line.
 fn append_entry(
     out: &mut Vec<u8>,
     config: &Config,
     site: u8,
+    id: &[u8],
     entry: &Entry,
 ) -> Result<(), AllocError>
-    ensures { Adds result out.old.items out.new.items (compact_text (entry_json config.now site entry.now)) }
+    requires { IsIdOrNone id.now }
+    ensures { Adds result out.old.items out.new.items
+        (compact_text (asked_entry_json config.now site (record { id = id.now; entry = entry.now }))) }
 {
     append(out, spell!("{" event ":"))?;
     append_event(out, config, &entry.event)?;
+    append_id(out, spell!("," id ":\""), id, "\"")?;
     append(out, spell!("," reply ":"))?;
     append_value(out, &entry.reply)?;
     append_number(out, spell!("," site ":"), site as u64, "}")
 }
 
-/// Adds the line of an entry of a site's history, without a line feed. An `Err` means out of memory, and adds
-/// nothing.
+/// The same, where out of memory adds nothing.
+fn append_whole(
+    out: &mut Vec<u8>,
+    config: &Config,
+    site: u8,
+    id: &[u8],
+    entry: &Entry,
+) -> Result<(), AllocError>
+    requires { IsIdOrNone id.now }
+    ensures ok { OnOk result (out.new.items ≡ out.old.items
+        ++ compact_text (asked_entry_json config.now site (record { id = id.now; entry = entry.now }))) }
+    ensures err { OnErr result (out.new.items ≡ out.old.items) }
+{
+    let before = out.len();
+    match append_entry(out, config, site, id, entry) {
+        Ok(()) => Ok(()),
+        Err(refused) => {
+            out.truncate(before);
+            Err(refused)
+        }
+    }
+}
+
+/// Adds the line of an entry of a site's history with its id, without a line feed. An `Err` means out of memory, and
+/// adds nothing.
 ///
 /// A place past the accounts is written "?". A line has no limit: one with a long statement may be longer
 /// than what is read.
+pub fn append_asked_line(
+    out: &mut Vec<u8>,
+    config: &Config,
+    site: u8,
+    id: &RequestId,
+    entry: &Entry,
+) -> Result<(), AllocError>
+    ensures ok { OnOk result (out.new.items ≡ out.old.items
+        ++ compact_text (asked_entry_json config.now site (record { id = id.now; entry = entry.now }))) }
+    ensures err { OnErr result (out.new.items ≡ out.old.items) }
+{
+    append_whole(out, config, site, id.as_bytes(), entry)
+}
+
+/// The same of an entry without an id.
 pub fn append_line(
     out: &mut Vec<u8>,
     config: &Config,
@@ -42,14 +87,7 @@ pub fn append_line(
     ensures ok { OnOk result (out.new.items ≡ out.old.items ++ compact_text (entry_json config.now site entry.now)) }
     ensures err { OnErr result (out.new.items ≡ out.old.items) }
 {
-    let before = out.len();
-    match append_entry(out, config, site, entry) {
-        Ok(()) => Ok(()),
-        Err(refused) => {
-            out.truncate(before);
-            Err(refused)
-        }
-    }
+    append_whole(out, config, site, &[], entry)
 }
 
 /// The line of an entry of a site's history, without a line feed. An `Err` means out of memory.

@@ -6,6 +6,7 @@ pub(crate) mod config;
 pub(crate) mod counts;
 pub(crate) mod entry;
 pub(crate) mod event;
+pub(crate) mod id;
 pub(crate) mod kind;
 pub(crate) mod line;
 pub(crate) mod number;

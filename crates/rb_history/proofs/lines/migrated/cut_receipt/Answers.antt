@@ -1,4 +1,4 @@
-use Rattle.std.proofs.Common.{◌≡◌, ◌<◌, ◌^◌, ◌++◌, ℕ, List, codes, subst, ap, sym, ◌∙◌, append_assoc}
+use Rattle.std.proofs.Common.{◌≡◌, ◌<◌, ◌^◌, ◌++◌, ℕ, List, [], codes, inl, refl, subst, ap, sym, ◌∙◌, append_assoc}
 use Rattle.rb_money.specs.Settings.{IsConfigured, Settings}
 use Rattle.rb_money.specs.declared.place.Place.{Place}
 use Rattle.rb_site.specs.declared.entry.Entry.{Entry}
@@ -8,8 +8,9 @@ use Rattle.rb_site.specs.declared.reply.Reply.{Reply}
 use Rattle.serde_json.specs.Written.{compact_text}
 use Rattle.rb_history.specs.Beginnings.{BeginsWithCounts}
 use Rattle.rb_history.specs.Counts.{blue_json}
-use Rattle.rb_history.specs.Entries.{entry_of_line}
+use Rattle.rb_history.specs.Entries.{asked_entry_of_line}
 use Rattle.rb_history.specs.Fits.{IsKnown, IsReply}
+use Rattle.rb_history.specs.Ids.{AskedEntry}
 use Rattle.rb_history.specs.Migrated.{IsCutReceipt, in_version}
 use Rattle.rb_history.specs.Receipts.{BeginsWithBack, shadow_back, shadow_front}
 use Rattle.rb_history.specs.declared.fast.shadow.Back.{Back}
@@ -30,7 +31,8 @@ cut : (s : Settings) → IsConfigured s
     → BeginsWithBack s b behind rest → rest ≡ end_text reply site → front ≡ codes "{\"event\":" ++ shadow_front s account amount
     → IsCutReceipt s line front blue behind
 cut s configured account amount blue line front list behind rest b reply site within known fits replied e counts back ended before =
-    let x : Entry = record { event = Receive (ShadowMessage (shadow_of account amount blue b)); reply = reply } in
+    let entry : Entry = record { event = Receive (ShadowMessage (shadow_of account amount blue b)); reply = reply } in
+    let x : AskedEntry = record { id = []; entry = entry } in
     let start = codes "{\"event\":" ++ shadow_front s account amount in
     let end : behind ≡ shadow_back s b ++ end_text reply site = back.written ∙ ap (λ l. shadow_back s b ++ l) ended in
     let whole = λ (version : ℕ). receipt_written (in_version version s) account amount blue b reply site
@@ -40,8 +42,8 @@ cut s configured account amount blue line front list behind rest b reply site wi
     ∙ sym (receipt_written s account amount blue b reply site) in
     record {
       entry = (site, x);
-      read = ap (entry_of_line s) text ∙ entry_line s configured site x within
-          (shadow_fits s account amount blue list behind rest b known fits counts back) replied;
+      read = ap (asked_entry_of_line s) text ∙ entry_line s configured site x within
+          (shadow_fits s account amount blue list behind rest b known fits counts back) replied (inl refl);
       written = whole;
     }
 

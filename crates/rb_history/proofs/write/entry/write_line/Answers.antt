@@ -1,4 +1,4 @@
-use Rattle.std.proofs.Common.{◌≡◌, IsUtf8, false, true, rules, sym, subst}
+use Rattle.std.proofs.Common.{◌≡◌, IsUtf8, [], false, true, inl, refl, rules, sym, subst}
 use Rattle.serde_json.specs.Written.{compact_text}
 use Rattle.rb_history.specs.Entries.{entry_json}
 use Rattle.rb_history.proofs.Texts.{entry_utf8}
@@ -9,5 +9,6 @@ unreachable-requires c =
     let line = compact_text (entry_json c.args.config.now c.args.site c.args.entry.now) in
     let bytes : c.append_line.new.out.items ≡ line = search rules in
     let never : false ≡ true = c.in-Err.ensures.succeeds
-    (subst IsUtf8 (sym bytes) (entry_utf8 c.args.config.now c.args.site c.args.entry.now c.sites-sites.ensures.configured)) in
+    (subst IsUtf8 (sym bytes) (entry_utf8 c.args.config.now c.args.site (record { id = []; entry = c.args.entry.now })
+    c.sites-sites.ensures.configured (inl refl))) in
     cc

@@ -1,0 +1,44 @@
+-- An event that is read fits, and its id is one, on an event that may have it, or none.
+use Rattle.std.proofs.Common.{◌≡◌, ◌==◌, true, [], Some, codes, refl, inl, inr}
+use Rattle.std.specs.Prelude.{◌⊎◌, IfSome}
+use Rattle.serde_json.specs.Data.{Data}
+use Rattle.serde_json.specs.Find.{as_str}
+use Rattle.serde_json.specs.Read.{read}
+use Rattle.rb_money.specs.Settings.{Settings}
+use Rattle.rb_history.specs.Entries.{asked_event_at, asked_event_of_line, event_with_id}
+use Rattle.rb_history.specs.Fields.{field}
+use Rattle.rb_history.specs.Fits.{IsEvent}
+use Rattle.rb_history.specs.Ids.{AskedEvent, id_at, is_id, may_have_id}
+use Rattle.rb_history.specs.Recorded.{event_at, recorded_of}
+use Rattle.rb_history.specs.Sites.{ReadEventsFit}
+use Rattle.rb_history.specs.Values.{size_of}
+use Rattle.rb_history.proofs.FitsLaws.{fits_choice, fits_field, fits_if, fits_map, fits_next, fits_some, fits_then}
+use Rattle.rb_history.proofs.ReceiptsFit.{event, recorded}
+
+-- the event fits, and its id is one that it may have, or none
+abbrev FitsAsked : Settings → AskedEvent → Type 0
+FitsAsked s x = IsEvent s x.event × ((x.id ≡ []) ⊎ ((is_id x.id ≡ true) × (may_have_id x.event ≡ true)))
+
+-- a text that is read as an id is one
+pub id_fits : (d : Data) → IfSome (id_at d) (λ t. is_id t ≡ true)
+id_fits d =
+    fits_next (λ t. is_id t ≡ true) _ (as_str d) (λ t. fits_if (λ t. is_id t ≡ true) (is_id t) (Some t) (λ e. e))
+
+-- so an event with an id fits
+fits_with_id : (s : Settings) (d : Data) → IfSome (event_with_id s d) (FitsAsked s)
+fits_with_id s d =
+    let there = fits_field (λ t. is_id t ≡ true) (codes "id") id_at d id_fits in
+    fits_then (λ t. is_id t ≡ true) (FitsAsked s) _ (field (codes "id") id_at d) there (λ t a.
+    fits_then (IsEvent s) (FitsAsked s) _ (recorded_of s d) (recorded s d) (λ e b.
+    fits_if (FitsAsked s) (may_have_id e) _ (λ c. (b, inr (a, c)))))
+
+-- and so does one with an id or without
+asked : (s : Settings) (d : Data) → IfSome (asked_event_at s d) (FitsAsked s)
+asked s d = fits_choice (FitsAsked s) (size_of d == 2) (event_with_id s d) _ (fits_with_id s d)
+    (fits_map (IsEvent s) (FitsAsked s) _ (event_at s d) (event s d) (λ e b. (b, inl refl)))
+
+-- each event that is read from a line fits
+pub events_fit : ReadEventsFit
+events_fit s line x is =
+    fits_some (FitsAsked s) (asked_event_of_line s line) x
+    (fits_next (FitsAsked s) (asked_event_at s) (read line) (asked s)) is

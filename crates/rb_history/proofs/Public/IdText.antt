@@ -1,0 +1,82 @@
+-- An id, as a text: its bytes are written as they are, and are read back.
+use Rattle.std.proofs.Common.{◌≡◌, ◌<◌, ◌≤◌, ℕ, List, [], ◌∷◌, ◌++◌, Some, length, codes, true, IsUtf8}
+use Rattle.std.proofs.Common.{refl, sym, ap, ◌∙◌, append_assoc, arith}
+use Rattle.std.specs.Prelude.{◌&&◌, nat_le, nat_lt}
+use Rattle.std.specs.List.{list_all}
+use Rattle.std.proofs.lemmas.Bool.{and_parts}
+use Rattle.std.proofs.lemmas.Bool.Decides.{nat_tests}
+use Rattle.json.proofs.Printed.Strings.{escape_byte_plain}
+use Rattle.json.proofs.Printed.Utf8.{are_ascii, IsUtf8-are_ascii}
+use Rattle.json.specs.Print.{escape, escape_byte, quoted}
+use Rattle.serde_json.specs.Data.{string}
+use Rattle.rb_history.specs.Ids.{id_at, is_id, is_id_byte}
+use Rattle.rb_history.specs.declared.id.TheConstants.{MOST_ID_BYTES}
+use Rattle.rb_history.proofs.Plain.{ArePlain, escape_plain, quoted_plain}
+
+-- ---- a byte of it
+
+-- each is of 45 to 122, so neither a control, a line feed nor a quote
+id_byte_range : (b : ℕ) → is_id_byte b ≡ true → (45 ≤ b) × (b ≤ 122)
+id_byte_range b h = grind (arith, nat_tests)
+
+-- none is a backslash, so each is written as it is
+id_byte_plain : (b : ℕ) → is_id_byte b ≡ true → escape_byte b ≡ b ∷ []
+id_byte_plain b h =
+    let range = id_byte_range b h in
+    escape_byte_plain b (λ e. omega (arith, range.0))
+    (λ e. let f : is_id_byte 92 ≡ true = (λ j. is_id_byte (sym e j)) ∙ h in cc) (omega (arith, range.0))
+
+-- ---- its bytes
+
+-- each byte is one that an id may have
+pub id_bytes : (t : List ℕ) → is_id t ≡ true → list_all is_id_byte t ≡ true
+id_bytes t h =
+    (and_parts (nat_le (length t) MOST_ID_BYTES) (list_all is_id_byte t)
+    (and_parts (nat_le 1 (length t)) (nat_le (length t) MOST_ID_BYTES && list_all is_id_byte t) h).1).1
+
+-- none of such bytes needs an escape
+bytes_plain : (t : List ℕ) → list_all is_id_byte t ≡ true → ArePlain t
+bytes_plain [] h = tt
+bytes_plain (b ∷ bs) h =
+    let p = and_parts (is_id_byte b) (list_all is_id_byte bs) h in
+    (id_byte_plain b p.0, bytes_plain bs p.1)
+
+-- no byte of an id needs an escape
+pub id_plain : (t : List ℕ) → is_id t ≡ true → ArePlain t
+id_plain t h = bytes_plain t (id_bytes t h)
+
+-- an id is written as it is
+pub id_escape : (t : List ℕ) → is_id t ≡ true → escape t ≡ t
+id_escape t h = escape_plain t (id_plain t h)
+
+-- and so between its quotes, before what follows
+pub id_quoted : (t rest : List ℕ) → is_id t ≡ true → quoted t ++ rest ≡ codes "\"" ++ (t ++ (codes "\"" ++ rest))
+id_quoted t rest h =
+    ap (λ l. l ++ rest) (quoted_plain t (id_plain t h)) ∙ ap (λ l. 34 ∷ l) (append_assoc t (codes "\"") rest)
+
+-- such bytes are ASCII
+bytes_ascii : (t : List ℕ) → list_all is_id_byte t ≡ true → are_ascii t ≡ true
+bytes_ascii [] h = refl
+bytes_ascii (b ∷ bs) h =
+    let p = and_parts (is_id_byte b) (list_all is_id_byte bs) h in
+    let range = id_byte_range b p.0 in
+    let low : nat_lt b 128 ≡ true = grind (arith, nat_tests, range.1) in
+    rw (low, bytes_ascii bs p.1) refl
+
+-- its bytes are ASCII
+pub id_ascii : (t : List ℕ) → is_id t ≡ true → are_ascii t ≡ true
+id_ascii t h = bytes_ascii t (id_bytes t h)
+
+-- and so it is UTF-8
+pub id_utf8 : (t : List ℕ) → is_id t ≡ true → IsUtf8 t
+id_utf8 t h = IsUtf8-are_ascii t (id_ascii t h)
+
+-- no bytes are no id
+pub id_some : (t : List ℕ) → is_id t ≡ true → t ≡ [] → ⊥
+id_some t h none = let f : is_id [] ≡ true = (λ j. is_id (sym none j)) ∙ h in cc
+
+-- ---- as a value
+
+-- the string of an id is read as the id
+pub id_read : (t : List ℕ) → is_id t ≡ true → id_at (string t) ≡ Some t
+id_read t h = rw h refl
