@@ -159,7 +159,7 @@ not_refused x text one taken (Err Gather) left line h = absurd h
 
 -- each message that a site sent is read as what another receives, so it fits
 receipts_fit : MessagesAreRead → ReadEventsFit → (s : Settings) → IsConfigured s → ReceiptsFit s
-receipts_fit messages events s c m sent = events s _ _ (messages s c sent.me sent.is_site sent.events m sent.among)
+receipts_fit messages events s c m sent = (events s _ _ (messages s c sent.me sent.is_site sent.events m sent.among)).0
 
 pub accepted : ReadConfigsAreConfigured → ReadCommandsFit → ReadEventsFit → MessagesAreRead → RepliesFitLines → InputsAreReadBack
     → HistoriesAreAccepted

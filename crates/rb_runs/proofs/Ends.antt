@@ -1,9 +1,9 @@
 -- What one line does.
 use Rattle.std.proofs.Common.{◌≡◌, ◌+◌, ◌-◌, ℕ, false, List, Some, None, refl, sym, ap, subst, arith}
 use Rattle.rb_money.specs.Settings.{Settings}
-use Rattle.rb_site.specs.declared.entry.Entry.{Entry}
 use Rattle.rb_history.specs.Configurations.{config_on}
-use Rattle.rb_history.specs.Entries.{entry_on}
+use Rattle.rb_history.specs.Entries.{asked_entry_on}
+use Rattle.rb_history.specs.Ids.{AskedEntry}
 use Rattle.rb_lines.specs.Answers.{AnswersLine, LinesOutcome, after_text}
 use Rattle.rb_lines.specs.Lines.{is_blank, is_long}
 use Rattle.rb_runs.specs.declared.migrate.session.Session.{Session}
@@ -27,8 +27,8 @@ opens s s' l k none short some is e =
     })
 
 -- the line of an entry is answered by its line in version 2
-pub answers : (s s' : Session) (l : List ℕ) (k : Settings) (x : ℕ × Entry) → s.versions ≡ Some k → is_long l ≡ false → is_blank l ≡ false
-    → entry_on k l ≡ Some x
+pub answers : (s s' : Session) (l : List ℕ) (k : Settings) (x : ℕ × AskedEntry) → s.versions ≡ Some k → is_long l ≡ false → is_blank l ≡ false
+    → asked_entry_on k l ≡ Some x
     → s' ≡ record { versions = s.versions; number = s.number + 1; count = s.count + 1 }
     → AnswersLine (migration_state s) (migration_state s') l (migrated_entry_line k x)
 answers s s' l k x there short some is e =

@@ -76,4 +76,4 @@ event s _ h = h
 pub entries : ReadConfigsAreConfigured → EntriesAreRead → ReadEntriesFit → MigratedEntriesAreRead
 entries made back fits first s read line site x is =
     let fit = fits s line site x is in
-    back (in_version_2 s) (configured s (made first s read)) site x fit.0 (event s x.event fit.1) fit.2
+    back (in_version_2 s) (configured s (made first s read)) site x fit.0 (event s x.entry.event fit.1) fit.2 fit.3

@@ -1,29 +1,40 @@
 -- What a migration writes is taken by an audit as what it read, in version 2.
-use Rattle.std.proofs.Common.{◌≡◌, ◌+◌, ℕ, Bool, true, false, List, [], ◌∷◌, ◌++◌, Option, Some, None, Ok, refl, sym, ap, subst, ◌∙◌}
-use Rattle.std.specs.Prelude.{if◌then◌else◌}
+use Rattle.std.proofs.Common.{◌≡◌, ◌+◌, ℕ, Bool, true, false, List, [], ◌∷◌, ◌++◌, Option, Some, None, Ok, refl, sym, ap, map, subst, ◌∙◌}
+use Rattle.std.specs.Prelude.{if◌then◌else◌, option_map}
 use Rattle.std.specs.Str.{is_utf8}
 use Rattle.rb_money.specs.Settings.{IsConfigured, Settings, in_version_2}
 use Rattle.rb_site.specs.declared.entry.Entry.{Entry}
 use Rattle.rb_history.specs.Configurations.{config_at, config_on}
 use Rattle.rb_history.specs.Laws.{ReadConfigsAreConfigured}
-use Rattle.rb_history.specs.Entries.{entry_of_line, entry_on}
+use Rattle.rb_history.specs.Entries.{asked_entry_of_line, asked_entry_on, entry_of_line, entry_on}
 use Rattle.rb_history.specs.Fits.{Each, ReadEntriesFit}
+use Rattle.rb_history.specs.Ids.{AskedEntry}
 use Rattle.rb_lines.specs.Answers.{LinesOutcome, after_text, no_outcome}
 use Rattle.rb_lines.specs.declared.fault.ScriptFault.TheVariants.{BadConfig, BadLine, LongLine}
 use Rattle.rb_lines.specs.Lines.{is_blank, is_long, lines_of}
 use Rattle.rb_runs.specs.Inputs.{input_after, input_from, input_of, with_entry}
-use Rattle.rb_runs.specs.InputLaws.{HasShortLines, InputsAreReadBack, IsWritable, entries_text, by_site, input_text, with_entries}
+use Rattle.rb_runs.specs.InputLaws.{HasShortLines, by_site, with_entries}
 use Rattle.rb_runs.specs.MigrationLaws.{MigrationsAreRead}
 use Rattle.rb_runs.specs.Migration.{entries_from, migrated_config_line, migrated_entry_line, migration_from}
 use Rattle.rb_runs.proofs.Kept.{configured, event}
+use Rattle.rb_runs.proofs.ReadBack.{AskedInputsAreReadBack, IsAskedWritable, asked_input_text, asked_text, without_id}
 
 -- what is on a line, the line is
-entry_is : (s : Settings) (l : List ℕ) (x : ℕ × Entry) → entry_on s l ≡ Some x → entry_of_line s l ≡ Some x
-unfolding entry_on
+entry_is : (s : Settings) (l : List ℕ) (x : ℕ × AskedEntry) → asked_entry_on s l ≡ Some x → asked_entry_of_line s l ≡ Some x
+unfolding asked_entry_on
 entry_is s l x e = at (is_utf8 l) e
   where
-    at : (b : Bool) → (if b then entry_of_line s l else None) ≡ Some x → entry_of_line s l ≡ Some x
+    at : (b : Bool) → (if b then asked_entry_of_line s l else None) ≡ Some x → asked_entry_of_line s l ≡ Some x
     at true e = e
+    at false e = absurd (cc)
+
+-- an audit takes the entry on a line without its id
+entry_alone : (s : Settings) (l : List ℕ) (x : ℕ × AskedEntry) → asked_entry_on s l ≡ Some x → entry_on s l ≡ Some (without_id x)
+unfolding asked_entry_on entry_on
+entry_alone s l x e = at (is_utf8 l) e
+  where
+    at : (b : Bool) → (if b then asked_entry_of_line s l else None) ≡ Some x → (if b then entry_of_line s l else None) ≡ Some (without_id x)
+    at true e = ap (option_map without_id) e
     at false e = absurd (cc)
 
 pub config_is : (l : List ℕ) (s : Settings) → config_on l ≡ Some s → config_at l ≡ Some s
@@ -35,8 +46,10 @@ config_is l s e = at (is_utf8 l) e
     at false e = absurd (cc)
 
 -- an entry that was read can be written in version 2
-writable : ReadEntriesFit → (s : Settings) (l : List ℕ) (x : ℕ × Entry) → entry_on s l ≡ Some x → IsWritable (in_version_2 s) x
-writable fits s l x e = let fit = fits s l x.0 x.1 (entry_is s l x e) in (fit.0, event s x.1.event fit.1, fit.2)
+writable : ReadEntriesFit → (s : Settings) (l : List ℕ) (x : ℕ × AskedEntry) → asked_entry_on s l ≡ Some x
+    → IsAskedWritable (in_version_2 s) x
+writable fits s l x e =
+    let fit = fits s l x.0 x.1 (entry_is s l x e) in ((fit.0, event s x.1.entry.event fit.1, fit.2), fit.3)
 
 -- ---- what an audit makes of one line
 
@@ -44,9 +57,10 @@ skips : (s : Settings) (hs : List (List Entry)) (n : ℕ) (l : List ℕ) (ls : L
     → input_after s hs n (l ∷ ls) ≡ input_after s hs (n + 1) ls
 skips s hs n l ls e f = rw (e, f) refl
 
-takes : (s : Settings) (hs : List (List Entry)) (n : ℕ) (l : List ℕ) (ls : List (List ℕ)) (x : ℕ × Entry) → is_long l ≡ false
-    → is_blank l ≡ false → entry_on s l ≡ Some x → input_after s hs n (l ∷ ls) ≡ input_after s (with_entry x.0 x.1 hs) (n + 1) ls
-takes s hs n l ls x e f g = rw (e, f, g) refl
+takes : (s : Settings) (hs : List (List Entry)) (n : ℕ) (l : List ℕ) (ls : List (List ℕ)) (x : ℕ × AskedEntry) → is_long l ≡ false
+    → is_blank l ≡ false → asked_entry_on s l ≡ Some x
+    → input_after s hs n (l ∷ ls) ≡ input_after s (with_entry x.0 x.1.entry hs) (n + 1) ls
+takes s hs n l ls x e f g = let on = entry_alone s l x g in rw (e, f, on) refl
 
 skips_first : (n : ℕ) (l : List ℕ) (ls : List (List ℕ)) → is_long l ≡ false → is_blank l ≡ true
     → input_from n (l ∷ ls) ≡ input_from (n + 1) ls
@@ -58,13 +72,14 @@ opens n l ls s e f g = rw (e, f, g) refl
 
 -- these entries are on the lines: a migration writes them, and an audit takes them
 record HasEntries (s : Settings) (n : ℕ) (ls : List (List ℕ)) : Type 0 where
-  entries : List (ℕ × Entry)
-  can : Each (IsWritable (in_version_2 s)) entries
-  text : (entries_from s n ls).text ≡ entries_text (in_version_2 s) entries
-  taken : (hs : List (List Entry)) → input_after s hs n ls ≡ Ok (record { settings = s; histories = with_entries entries hs })
+  entries : List (ℕ × AskedEntry)
+  can : Each (IsAskedWritable (in_version_2 s)) entries
+  text : (entries_from s n ls).text ≡ asked_text (in_version_2 s) entries
+  taken : (hs : List (List Entry)) → input_after s hs n ls
+      ≡ Ok (record { settings = s; histories = with_entries (map without_id entries) hs })
 
-one_entry : ReadEntriesFit → (s : Settings) (n : ℕ) (l : List ℕ) (ls : List (List ℕ)) (long blank : Bool) (on : Option (ℕ × Entry))
-    → is_long l ≡ long → is_blank l ≡ blank → entry_on s l ≡ on
+one_entry : ReadEntriesFit → (s : Settings) (n : ℕ) (l : List ℕ) (ls : List (List ℕ)) (long blank : Bool) (on : Option (ℕ × AskedEntry))
+    → is_long l ≡ long → is_blank l ≡ blank → asked_entry_on s l ≡ on
     → ((entries_from s (n + 1) ls).fault ≡ None → HasEntries s (n + 1) ls) → (entries_from s n (l ∷ ls)).fault ≡ None
     → HasEntries s n (l ∷ ls)
 one_entry fits s n l ls true blank on e f g more none =
@@ -89,22 +104,22 @@ one_entry fits s n l ls false false (Some x) e f g more none =
       entries = x ∷ h.entries;
       can = (writable fits s l x g, h.can);
       text = ap (λ (o : LinesOutcome). o.text) q ∙ ap (λ t. migrated_entry_line s x ++ t) h.text;
-      taken = λ hs. takes s hs n l ls x e f g ∙ h.taken (with_entry x.0 x.1 hs);
+      taken = λ hs. takes s hs n l ls x e f g ∙ h.taken (with_entry x.0 x.1.entry hs);
     }
 
 all_entries : ReadEntriesFit → (s : Settings) (n : ℕ) (ls : List (List ℕ)) → (entries_from s n ls).fault ≡ None → HasEntries s n ls
 all_entries fits s n [] none = record { entries = []; can = tt; text = refl; taken = λ hs. refl }
 all_entries fits s n (l ∷ ls) none =
-    one_entry fits s n l ls (is_long l) (is_blank l) (entry_on s l) refl refl refl (all_entries fits s (n + 1) ls) none
+    one_entry fits s n l ls (is_long l) (is_blank l) (asked_entry_on s l) refl refl refl (all_entries fits s (n + 1) ls) none
 
 -- the lines are a configuration and these entries
 record HasInput (n : ℕ) (ls : List (List ℕ)) : Type 0 where
   settings : Settings
   made : IsConfigured settings
-  entries : List (ℕ × Entry)
-  can : Each (IsWritable (in_version_2 settings)) entries
-  text : (migration_from n ls).text ≡ input_text (in_version_2 settings) entries
-  taken : input_from n ls ≡ Ok (record { settings = settings; histories = by_site settings.sites entries })
+  entries : List (ℕ × AskedEntry)
+  can : Each (IsAskedWritable (in_version_2 settings)) entries
+  text : (migration_from n ls).text ≡ asked_input_text (in_version_2 settings) entries
+  taken : input_from n ls ≡ Ok (record { settings = settings; histories = by_site settings.sites (map without_id entries) })
 
 one_line : ReadConfigsAreConfigured → ReadEntriesFit → (n : ℕ) (l : List ℕ) (ls : List (List ℕ)) (long blank : Bool) (on : Option Settings)
     → is_long l ≡ long → is_blank l ≡ blank → config_on l ≡ on
@@ -144,14 +159,14 @@ all_lines are fits n (l ∷ ls) none =
     one_line are fits n l ls (is_long l) (is_blank l) (config_on l) refl refl refl (all_lines are fits (n + 1) ls) none
 
 -- an audit takes the text of a migration without a fault as what it takes the bytes as, in version 2
-pub read_again : ReadConfigsAreConfigured → ReadEntriesFit → InputsAreReadBack → MigrationsAreRead
+pub read_again : ReadConfigsAreConfigured → ReadEntriesFit → AskedInputsAreReadBack → MigrationsAreRead
 read_again are fits back input none =
     let h = all_lines are fits 1 (lines_of input) none in
     let s = in_version_2 h.settings in
+    let histories = by_site h.settings.sites (map without_id h.entries) in
     record {
-      taken = record { settings = h.settings; histories = by_site h.settings.sites h.entries };
+      taken = record { settings = h.settings; histories = histories };
       before = h.taken;
-      after = subst (λ t. HasShortLines t
-          → input_of (lines_of t) ≡ Ok (record { settings = s; histories = by_site h.settings.sites h.entries })) (sym h.text)
+      after = subst (λ t. HasShortLines t → input_of (lines_of t) ≡ Ok (record { settings = s; histories = histories })) (sym h.text)
           (back s (configured h.settings h.made) h.entries h.can);
     }

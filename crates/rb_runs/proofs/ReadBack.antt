@@ -1,6 +1,7 @@
 -- What is written for an input is read as it.
 use Rattle.std.proofs.Common.{◌≡◌, ◌+◌, ◌==◌, ℕ, Bool, true, false, List, [], ◌∷◌, ◌++◌, Some, Ok, codes, refl, sym, ap, ◌∙◌, append_assoc}
-use Rattle.std.specs.Prelude.{not, replicate}
+use Rattle.std.proofs.Common.{inl, inr, map}
+use Rattle.std.specs.Prelude.{not, option_map, replicate}
 use Rattle.std.specs.List.{list_all, onto_first}
 use Rattle.std.specs.Str.{is_utf8}
 use Rattle.std.proofs.lemmas.Bool.{and_parts}
@@ -9,12 +10,13 @@ use Rattle.rb_money.specs.Settings.{IsConfigured, Settings}
 use Rattle.rb_site.specs.declared.entry.Entry.{Entry}
 use Rattle.rb_history.specs.Configurations.{config_at, config_on}
 use Rattle.rb_history.specs.ConfigLines.{ConfigsAreRead, config_json}
-use Rattle.rb_history.specs.Entries.{entry_json, entry_of_line, entry_on}
+use Rattle.rb_history.specs.Entries.{asked_entry_json, entry_of_line, entry_on}
 use Rattle.rb_history.specs.Fits.{Each, EntriesAreRead}
+use Rattle.rb_history.specs.Ids.{AskedEntry, IsAsked, IsIdOrNone}
 use Rattle.rb_history.specs.OneLine.{ConfigsAreLines, EntriesAreLines, IsOneLine}
 use Rattle.rb_lines.specs.Lines.{is_blank, is_long, lines_of}
 use Rattle.rb_runs.specs.Inputs.{input_after, input_of, with_entry}
-use Rattle.rb_runs.specs.InputLaws.{HasShortLines, InputsAreReadBack, IsWritable, entries_text, input_text, with_entries}
+use Rattle.rb_runs.specs.InputLaws.{HasShortLines, InputsAreReadBack, IsWritable, by_site, entries_text, with_entries}
 
 -- a line without a line feed in it is the first, once it has one behind it
 step : (t : Bool) (b : ℕ) (l rest : List ℕ) → (b == 10) ≡ t → not t ≡ true → lines_of (l ++ 10 ∷ rest) ≡ l ∷ lines_of rest
@@ -60,30 +62,91 @@ on_utf8_entry : (s : Settings) (l : List ℕ) (x : ℕ × Entry) → is_utf8 l �
 unfolding entry_on
 on_utf8_entry s l x utf8 read = rw utf8 read
 
+-- ---- entries with ids
+
+-- the lines of entries with their ids, each with its site's number
+abbrev pub asked_text : Settings → List (ℕ × AskedEntry) → List ℕ
+asked_text s [] = []
+asked_text s (x ∷ xs) = (compact_text (asked_entry_json s x.0 x.1) ++ codes "\n") ++ asked_text s xs
+
+-- the line of a configuration, and those of entries of its sites with their ids
+abbrev pub asked_input_text : Settings → List (ℕ × AskedEntry) → List ℕ
+asked_input_text s xs = (compact_text (config_json s) ++ codes "\n") ++ asked_text s xs
+
+-- an entry with its site, its id left out
+abbrev pub without_id : ℕ × AskedEntry → ℕ × Entry
+without_id x = (x.0, x.1.entry)
+
+-- an entry that can be written, with an id that it may have
+abbrev pub IsAskedWritable : Settings → ℕ × AskedEntry → Type 0
+IsAskedWritable s x = IsWritable s (without_id x) × IsAsked x.1
+
+-- an audit takes the text of a configuration and entries with ids as that configuration, and as those entries by site,
+-- without their ids, unless a line is too long
+abbrev pub AskedInputsAreReadBack : Type 0
+AskedInputsAreReadBack = (s : Settings) → IsConfigured s → (xs : List (ℕ × AskedEntry)) → Each (IsAskedWritable s) xs
+    → HasShortLines (asked_input_text s xs)
+    → input_of (lines_of (asked_input_text s xs)) ≡ Ok (record { settings = s; histories = by_site s.sites (map without_id xs) })
+
+id_or_none : (x : AskedEntry) → IsAsked x → IsIdOrNone x.id
+id_or_none x h = elim h [
+  | inl none ↦ inl none
+  | inr p ↦ inr p.0
+]
+
 -- ---- all lines of an input
+
+-- the line of an entry is taken as the entry, and none of the rest is long
+entry_back : EntriesAreRead → EntriesAreLines → (s : Settings) → IsConfigured s → (hs : List (List Entry)) (n : ℕ) (x : ℕ × AskedEntry)
+    → IsAskedWritable s x → (rest : List ℕ) → HasShortLines ((compact_text (asked_entry_json s x.0 x.1) ++ codes "\n") ++ rest)
+    → (input_after s hs n (lines_of ((compact_text (asked_entry_json s x.0 x.1) ++ codes "\n") ++ rest))
+    ≡ input_after s (with_entry x.0 x.1.entry hs) (n + 1) (lines_of rest)) × HasShortLines rest
+entry_back read lines s c hs n x w rest short =
+    let l = compact_text (asked_entry_json s x.0 x.1) in
+    let one = lines s c x.0 x.1 (id_or_none x.1 w.1) in
+    let first = first_cut l rest one in
+    let p = short_first ((l ++ codes "\n") ++ rest) l (lines_of rest) first short in
+    let is = ap (option_map without_id) (read s c x.0 x.1 w.0.0 w.0.1 w.0.2 w.1) in
+    let on = on_utf8_entry s l (without_id x) one.utf8 is in
+    (ap (input_after s hs n) first ∙ takes_entry s hs n l (lines_of rest) (without_id x) p.0 refl on, p.1)
+
+-- the line of a configuration is taken as it, and none of the rest is long
+config_back : ConfigsAreRead → ConfigsAreLines → (s : Settings) → IsConfigured s → (rest : List ℕ)
+    → HasShortLines ((compact_text (config_json s) ++ codes "\n") ++ rest)
+    → (input_of (lines_of ((compact_text (config_json s) ++ codes "\n") ++ rest))
+    ≡ input_after s (replicate s.sites []) 2 (lines_of rest)) × HasShortLines rest
+config_back read lines s c rest short =
+    let l = compact_text (config_json s) in
+    let one = lines s c in
+    let first = first_cut l rest one in
+    let p = short_first ((l ++ codes "\n") ++ rest) l (lines_of rest) first short in
+    let on = on_utf8_config l s one.utf8 (read s c) in
+    (ap input_of first ∙ takes_config l (lines_of rest) s p.0 refl on, p.1)
 
 entries_back : EntriesAreRead → EntriesAreLines → (s : Settings) → IsConfigured s → (hs : List (List Entry)) (n : ℕ) (xs : List (ℕ × Entry))
     → Each (IsWritable s) xs → HasShortLines (entries_text s xs)
     → input_after s hs n (lines_of (entries_text s xs)) ≡ Ok (record { settings = s; histories = with_entries xs hs })
 entries_back read lines s c hs n [] w short = refl
 entries_back read lines s c hs n (x ∷ xs) w short =
-    let l = compact_text (entry_json s x.0 x.1) in
-    let rest = entries_text s xs in
-    let one = lines s c x.0 x.1 in
-    let first = first_cut l rest one in
-    let p = short_first (entries_text s (x ∷ xs)) l (lines_of rest) first short in
-    let on = on_utf8_entry s l x one.utf8 (read s c x.0 x.1 w.0.0 w.0.1 w.0.2) in
-    ap (input_after s hs n) first ∙ takes_entry s hs n l (lines_of rest) x p.0 refl on
-    ∙ entries_back read lines s c (with_entry x.0 x.1 hs) (n + 1) xs w.1 p.1
+    let p = entry_back read lines s c hs n (x.0, record { id = []; entry = x.1 }) (w.0, inl refl) (entries_text s xs) short in
+    p.0 ∙ entries_back read lines s c (with_entry x.0 x.1 hs) (n + 1) xs w.1 p.1
+
+asked_back : EntriesAreRead → EntriesAreLines → (s : Settings) → IsConfigured s → (hs : List (List Entry)) (n : ℕ)
+    (xs : List (ℕ × AskedEntry)) → Each (IsAskedWritable s) xs → HasShortLines (asked_text s xs)
+    → input_after s hs n (lines_of (asked_text s xs)) ≡ Ok (record { settings = s; histories = with_entries (map without_id xs) hs })
+asked_back read lines s c hs n [] w short = refl
+asked_back read lines s c hs n (x ∷ xs) w short =
+    let p = entry_back read lines s c hs n x w.0 (asked_text s xs) short in
+    p.0 ∙ asked_back read lines s c (with_entry x.0 x.1.entry hs) (n + 1) xs w.1 p.1
 
 -- what is written for an input is taken as it
 pub inputs_back : ConfigsAreRead → EntriesAreRead → ConfigsAreLines → EntriesAreLines → InputsAreReadBack
 inputs_back configs entries config_lines entry_lines s c xs w short =
-    let l = compact_text (config_json s) in
-    let rest = entries_text s xs in
-    let one = config_lines s c in
-    let first = first_cut l rest one in
-    let p = short_first (input_text s xs) l (lines_of rest) first short in
-    let on = on_utf8_config l s one.utf8 (configs s c) in
-    ap input_of first ∙ takes_config l (lines_of rest) s p.0 refl on
-    ∙ entries_back entries entry_lines s c (replicate s.sites []) 2 xs w p.1
+    let p = config_back configs config_lines s c (entries_text s xs) short in
+    p.0 ∙ entries_back entries entry_lines s c (replicate s.sites []) 2 xs w p.1
+
+-- and so is what is written with ids
+pub asked_inputs_back : ConfigsAreRead → EntriesAreRead → ConfigsAreLines → EntriesAreLines → AskedInputsAreReadBack
+asked_inputs_back configs entries config_lines entry_lines s c xs w short =
+    let p = config_back configs config_lines s c (asked_text s xs) short in
+    p.0 ∙ asked_back entries entry_lines s c (replicate s.sites []) 2 xs w p.1

@@ -3,10 +3,10 @@ use Rattle.std.specs.Prelude.{ℕ, ◌+◌, List, [], ◌∷◌, ◌++◌, Optio
 use Rattle.std.specs.Option.{option_map_or}
 use Rattle.serde_json.specs.Written.{compact_text}
 use Rattle.rb_money.specs.Settings.{Settings, in_version_2}
-use Rattle.rb_site.specs.declared.entry.Entry.{Entry}
 use Rattle.rb_history.specs.Configurations.{config_on}
 use Rattle.rb_history.specs.ConfigLines.{config_json}
-use Rattle.rb_history.specs.Entries.{entry_json, entry_on}
+use Rattle.rb_history.specs.Entries.{asked_entry_json, asked_entry_on}
+use Rattle.rb_history.specs.Ids.{AskedEntry}
 use Rattle.rb_lines.specs.Answers.{LinesOutcome, RunEndsAs, after_text, no_outcome}
 use Rattle.rb_lines.specs.Lines.{is_blank, is_long}
 use Rattle.rb_lines.specs.declared.fault.ScriptFault.{ScriptFault}
@@ -16,15 +16,15 @@ use Rattle.rb_lines.specs.declared.fault.ScriptFault.TheVariants.{NoConfig, BadC
 abbrev pub migrated_config_line : Settings → List ℕ
 migrated_config_line s = compact_text (config_json (in_version_2 s)) ++ codes "\n"
 
--- the line of a site's entry in version 2
-abbrev pub migrated_entry_line : Settings → ℕ × Entry → List ℕ
-migrated_entry_line s x = compact_text (entry_json (in_version_2 s) x.0 x.1) ++ codes "\n"
+-- the line of a site's entry in version 2, with its id, if it has one
+abbrev pub migrated_entry_line : Settings → ℕ × AskedEntry → List ℕ
+migrated_entry_line s x = compact_text (asked_entry_json (in_version_2 s) x.0 x.1) ++ codes "\n"
 
 -- what lines of entries come to, the first of which is line n
 abbrev pub entries_from : Settings → ℕ → List (List ℕ) → LinesOutcome
 entries_from s n [] = record { text = []; count = 0; fault = None }
 entries_from s n (l ∷ ls) = if is_long l then no_outcome (LongLine n) else (if is_blank l then entries_from s (n + 1) ls
-    else option_map_or (λ (x : ℕ × Entry). after_text (migrated_entry_line s x) 1 (entries_from s (n + 1) ls)) (entry_on s l)
+    else option_map_or (λ (x : ℕ × AskedEntry). after_text (migrated_entry_line s x) 1 (entries_from s (n + 1) ls)) (asked_entry_on s l)
     (no_outcome (BadLine n)))
 
 -- the first line that isn't skipped is the configuration, and entries follow

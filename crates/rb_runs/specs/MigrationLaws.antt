@@ -3,11 +3,11 @@ use Rattle.std.specs.Prelude.{◌≡◌, ℕ, List, Some, None, Ok}
 use Rattle.serde_json.specs.Written.{compact_text}
 use Rattle.rb_money.specs.Settings.{Settings, in_version_2}
 use Rattle.rb_site.specs.Events.{ModelSite, after_events, replies_to_events}
-use Rattle.rb_site.specs.declared.entry.Entry.{Entry}
 use Rattle.rb_site.specs.declared.event.Event.{Event}
 use Rattle.rb_history.specs.Configurations.{config_at}
 use Rattle.rb_history.specs.ConfigLines.{config_json}
-use Rattle.rb_history.specs.Entries.{entry_of_line, entry_json}
+use Rattle.rb_history.specs.Entries.{asked_entry_json, asked_entry_of_line}
+use Rattle.rb_history.specs.Ids.{AskedEntry}
 use Rattle.rb_lines.specs.Lines.{lines_of}
 use Rattle.rb_runs.specs.Inputs.{Input, input_of}
 use Rattle.rb_runs.specs.InputLaws.{HasShortLines}
@@ -19,11 +19,11 @@ MigratedConfigsAreRead = (line : List ℕ) (s : Settings) → config_at line ≡
     → config_at (compact_text (config_json (in_version_2 s))) ≡ Some (in_version_2 s)
 
 -- under whatever a configuration's line was read as: each entry that a line is, in either version, is read again from
--- its line in version 2, the same site and the same entry
+-- its line in version 2, the same site, and the same entry with the same id
 abbrev pub MigratedEntriesAreRead : Type 0
-MigratedEntriesAreRead = (first : List ℕ) (s : Settings) → config_at first ≡ Some s → (line : List ℕ) (site : ℕ) (x : Entry)
-    → entry_of_line s line ≡ Some (site, x)
-    → entry_of_line (in_version_2 s) (compact_text (entry_json (in_version_2 s) site x)) ≡ Some (site, x)
+MigratedEntriesAreRead = (first : List ℕ) (s : Settings) → config_at first ≡ Some s → (line : List ℕ) (site : ℕ) (x : AskedEntry)
+    → asked_entry_of_line s line ≡ Some (site, x)
+    → asked_entry_of_line (in_version_2 s) (compact_text (asked_entry_json (in_version_2 s) site x)) ≡ Some (site, x)
 
 -- a site answers a list of events in version 2 as before, and has the same state afterwards: replays are equal
 pub record ReplaysAreEqual (s : Settings) (t : ModelSite) (es : List Event) : Type 0 where

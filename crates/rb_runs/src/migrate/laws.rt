@@ -2,13 +2,13 @@
 ghost use Rattle.rb_runs.specs.MigrationLaws.{MigratedConfigsAreRead, MigratedEntriesAreRead, MigratedReplaysAreEqual};
 ghost use Rattle.rb_runs.specs.MigrationLaws.{MigrationsAreRead};
 
-use crate::audit::laws::inputs_are_read_back;
 use rb_history::{
-    configs_are_read, entries_are_read, read_configs_are_configured, read_entries_fit,
+    configs_are_read, entries_are_read, lines_are_single, read_configs_are_configured,
+    read_entries_fit,
 };
 
 /// What is written in version 2 for lines that were read is read, under the configuration in version 2, as what
-/// they were read as.
+/// they were read as, an entry with its id.
 pub fn migrated_lines_are_read()
     ensures configs { MigratedConfigsAreRead }
     ensures entries { MigratedEntriesAreRead }
@@ -25,11 +25,13 @@ pub fn migrated_replays_are_equal()
 {}
 
 /// Where a migration of some bytes has no fault, an audit takes the text that it writes as what it takes the bytes
-/// as, in version 2, unless a line of the text is too long.
+/// as, in version 2, unless a line of the text is too long. It takes both with the ids left out.
 pub fn migrations_are_read()
     ensures { MigrationsAreRead }
 {
     read_configs_are_configured();
     read_entries_fit();
-    inputs_are_read_back();
+    configs_are_read();
+    entries_are_read();
+    lines_are_single();
 }

@@ -1,9 +1,9 @@
 //! The lines of a migration, one at a time.
 ghost use Rattle.std.specs.Prelude.{◌≡◌, ◌++◌, ℕ, None, Some, MatchResult, OnErr};
-ghost use Rattle.rb_site.specs.declared.entry.Entry.{Entry};
 ghost use Rattle.rb_history.specs.declared.fault.LineFault.TheVariants.{Bad};
 ghost use Rattle.rb_history.specs.Configurations.{config_on};
-ghost use Rattle.rb_history.specs.Entries.{entry_on};
+ghost use Rattle.rb_history.specs.Entries.{asked_entry_on};
+ghost use Rattle.rb_history.specs.Ids.{AskedEntry};
 ghost use Rattle.rb_runs.specs.Migration.{migrated_config_line, migrated_entry_line};
 ghost use Rattle.rb_runs.specs.MigrationSession.{first_migration};
 
@@ -39,8 +39,8 @@ fn open(alloc: Global, line: &[u8], buffered: &mut Vec<u8>) -> Result<Versions, 
     }
 }
 
-/// Buffers the entry on a line in version 2. An `Err` buffers nothing.
-#[tactic(auto, unfolding(rb_history::specs::Entries::entry_on))]
+/// Buffers the entry on a line in version 2, with its id, if it has one. An `Err` buffers nothing.
+#[tactic(auto, unfolding(rb_history::specs::Entries::asked_entry_on))]
 fn answer_entry(
     alloc: Global,
     versions: &Versions,
@@ -48,9 +48,9 @@ fn answer_entry(
     buffered: &mut Vec<u8>,
 ) -> Result<(), LineFault>
     ensures answered { MatchResult result
-        (λ _. (x : ℕ × Entry) × (entry_on versions.now line.now ≡ Some x)
+        (λ _. (x : ℕ × AskedEntry) × (asked_entry_on versions.now line.now ≡ Some x)
         × (buffered.new.items ≡ buffered.old.items ++ migrated_entry_line versions.now x))
-        (λ why. why ≡ Bad → entry_on versions.now line.now ≡ None) }
+        (λ why. why ≡ Bad → asked_entry_on versions.now line.now ≡ None) }
     ensures err { OnErr result (buffered.new.items ≡ buffered.old.items) }
 {
     let Some(text) = text_on(line) else {

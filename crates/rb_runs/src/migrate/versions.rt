@@ -1,8 +1,8 @@
 //! A configuration as its line has it, and in version 2 of the format.
 ghost use Rattle.std.specs.Prelude.{◌≡◌, ◌≤◌, ◌++◌, ℕ, None, Some, codes, length, take, IfOk, MatchResult, OnErr, OnOk};
-ghost use Rattle.rb_site.specs.declared.entry.Entry.{Entry};
 ghost use Rattle.rb_history.specs.declared.fault.LineFault.TheVariants.{Bad};
-ghost use Rattle.rb_history.specs.Entries.{entry_of_line};
+ghost use Rattle.rb_history.specs.Entries.{asked_entry_of_line};
+ghost use Rattle.rb_history.specs.Ids.{AskedEntry};
 ghost use Rattle.rb_runs.specs.Migration.{migrated_config_line, migrated_entry_line};
 
 use rb_history::write::append::append;
@@ -74,7 +74,7 @@ impl Versions {
         Ok(())
     }
 
-    /// Adds the line in version 2 of the entry that a line is. An `Err` adds nothing.
+    /// Adds the line in version 2 of the entry that a line is, with its id, if it has one. An `Err` adds nothing.
     #[inline(always)]
     pub fn append_entry(
         &self,
@@ -83,9 +83,9 @@ impl Versions {
         out: &mut Vec<u8>,
     ) -> Result<(), LineFault>
         ensures answered { MatchResult result
-            (λ _. (x : ℕ × Entry) × (entry_of_line self.now line.now ≡ Some x)
+            (λ _. (x : ℕ × AskedEntry) × (asked_entry_of_line self.now line.now ≡ Some x)
             × (out.new.items ≡ out.old.items ++ migrated_entry_line self.now x))
-            (λ why. why ≡ Bad → entry_of_line self.now line.now ≡ None) }
+            (λ why. why ≡ Bad → asked_entry_of_line self.now line.now ≡ None) }
         ensures err { OnErr result (out.new.items ≡ out.old.items) }
     {
         let before = out.len();

@@ -3,22 +3,22 @@ use Rattle.std.proofs.Common.{◌≡◌, ◌++◌, ℕ, List, Some, None, true, 
 use Rattle.std.specs.Prelude.{MatchResult}
 use Rattle.std.specs.Str.{is_utf8}
 use Rattle.rb_money.specs.Settings.{Settings}
-use Rattle.rb_site.specs.declared.entry.Entry.{Entry}
 use Rattle.rb_history.specs.declared.fault.LineFault.TheVariants.{Bad}
-use Rattle.rb_history.specs.Entries.{entry_of_line, entry_on}
+use Rattle.rb_history.specs.Entries.{asked_entry_of_line, asked_entry_on}
+use Rattle.rb_history.specs.Ids.{AskedEntry}
 use Rattle.rb_runs.specs.Migration.{migrated_entry_line}
 use Rattle.rb_runs.proofs.migrate.session.answer_entry.Goals as goal
 
 -- the entry on a line is that of its text
-on_text : (s : Settings) (line text : List ℕ) → text ≡ line → is_utf8 line ≡ true → entry_of_line s text ≡ entry_on s line
-unfolding entry_on
-on_text s line text e utf8 = rw utf8 (ap (entry_of_line s) e)
+on_text : (s : Settings) (line text : List ℕ) → text ≡ line → is_utf8 line ≡ true → asked_entry_of_line s text ≡ asked_entry_on s line
+unfolding asked_entry_on
+on_text s line text e utf8 = rw utf8 (ap (asked_entry_of_line s) e)
 
 pub returns-clause-answered : goal.returns-clause-answered
 returns-clause-answered c =
     let s = c.args.versions.now in
     let old = c.args.buffered.now.items in
     let new = c.append_entry.new.out.items in
-    subst (λ o. MatchResult c.append_entry.result (λ _. (x : ℕ × Entry) × (o ≡ Some x) × (new ≡ old ++ migrated_entry_line s x))
+    subst (λ o. MatchResult c.append_entry.result (λ _. (x : ℕ × AskedEntry) × (o ≡ Some x) × (new ≡ old ++ migrated_entry_line s x))
     (λ why. why ≡ Bad → o ≡ None)) (on_text s c.args.line.now c.in-Some.text.now c.in-Some.ensures.0 c.in-Some.ensures.1)
     c.append_entry.ensures.answered
