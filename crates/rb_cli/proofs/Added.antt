@@ -1,4 +1,4 @@
--- A command with three or four options added in turn.
+-- A command with three or five options added in turn.
 use Rattle.std.proofs.Common.{◌≡◌, false, List, [], ◌∷◌, ap, subst, ◌∙◌}
 use Rattle.std.specs.Prelude.{IfOk, Result}
 use Rattle.std.proofs.lemmas.Result.{IfOk-weaker}
@@ -37,14 +37,19 @@ with_three old a b d options result app r s t are is has_a has_b has_d = IfOk-we
     let three = with_one _ _ d _ t two has_d all.2.2.1 in
     subst (λ (command : Command). Is command (with_rule (with_rule (with_rule app r) s) t)) all.2.2.2 three)
 
--- four more
-pub with_four : (old : Command) (a b d e : Arg) (options : List Arg) (result : Result Command AllocError) (app : App) (r s t u : Rule)
-    → options ≡ a ∷ b ∷ d ∷ e ∷ [] → Is old app → HasRule a r → HasRule b s → HasRule d t → HasRule e u
-    → IfOk result (AddsInTurn AddsArg old options) → IfOk result (λ new. Is new (with_rule (with_rule (with_rule (with_rule app r) s) t) u))
-with_four old a b d e options result app r s t u are is has_a has_b has_d has_e = IfOk-weaker result _ _ (λ new in_turn.
+-- five more
+pub with_five : (old : Command) (a b d e f : Arg) (options : List Arg) (result : Result Command AllocError) (app : App)
+    (r s t u v : Rule) → options ≡ a ∷ b ∷ d ∷ e ∷ f ∷ [] → Is old app → HasRule a r → HasRule b s → HasRule d t → HasRule e u
+    → HasRule f v
+    → IfOk result (AddsInTurn AddsArg old options)
+    → IfOk result (λ new. Is new (with_rule (with_rule (with_rule (with_rule (with_rule app r) s) t) u) v))
+with_five old a b d e f options result app r s t u v are is has_a has_b has_d has_e has_f = IfOk-weaker result _ _
+    (λ new in_turn.
     let all = subst (λ (xs : List Arg). AddsInTurn AddsArg old xs new) are in_turn in
     let one = with_one _ _ a app r is has_a all.1 in
     let two = with_one _ _ b _ s one has_b all.2.1 in
     let three = with_one _ _ d _ t two has_d all.2.2.1 in
     let four = with_one _ _ e _ u three has_e all.2.2.2.1 in
-    subst (λ (command : Command). Is command (with_rule (with_rule (with_rule (with_rule app r) s) t) u)) all.2.2.2.2 four)
+    let five = with_one _ _ f _ v four has_f all.2.2.2.2.1 in
+    subst (λ (command : Command). Is command (with_rule (with_rule (with_rule (with_rule (with_rule app r) s) t) u) v))
+    all.2.2.2.2.2 five)

@@ -1,7 +1,7 @@
 -- What a command's options are after a parse that fails nowhere.
 use Rattle.std.proofs.Common.{◌≡◌, ◌∙◌, ◌&&◌, ◌⊎◌, ◌==◌, ℕ, Bool, cond, true, false, not, refl, sym, ap, subst, arith}
-use Rattle.std.proofs.Common.{List, [], ◌∷◌, drop, Option, Some, None, inl, inr, pos, rules}
-use Rattle.std.specs.Prelude.{IfSome, find, fold, option_and_then, slice_get, unwrap_or}
+use Rattle.std.proofs.Common.{List, [], ◌∷◌, drop, Option, Some, None, inl, inr, pos}
+use Rattle.std.specs.Prelude.{IfSome, find, option_and_then, slice_get, unwrap_or}
 use Rattle.std.specs.List.{list_any}
 use Rattle.std.specs.Option.{option_map_or}
 use Rattle.std.specs.Str.{bytes_eq}

@@ -21,8 +21,8 @@ use Rattle.clap.specs.declared.error.kind.ErrorKind.TheVariants.{DisplayHelp, In
 use Rattle.clap.proofs.OnLiterals.{clap_on_literals}
 use Rattle.rb_money.specs.declared.limits.TheConstants.{MOST_HISTORY, MOST_SITES}
 use Rattle.rb_cli.specs.declared.words.TheConstants.{MOST_TELLERS}
-use Rattle.rb_cli.specs.Words.{AreFit, Asked, IsInRange, IsNumberWithin, IsSwitchWord, command_line, option_rule, site_line}
-use Rattle.rb_cli.specs.Words.{switch_at, switch_rule}
+use Rattle.rb_cli.specs.Words.{AreFit, Asked, IsInRange, IsNumberWithin, IsSwitchWord, TextRefs, command_line, option_rule, plain_line}
+use Rattle.rb_cli.specs.Words.{choice_at, site_line, switch_at, switch_rule}
 use Rattle.rb_cli.specs.Words.{threads_line, within, numeral_value, words_of_matches, script, audit, histories, migrate, threads}
 use Rattle.rb_cli.specs.Words.{site}
 use Rattle.rb_cli.proofs.Options.{HasText, at_option, fits, given_text, none_missing, leaf_passes, number_of_text}
@@ -149,7 +149,7 @@ nothing_missing false b d e = absurd (true≢false e)
 
 -- a command as it is built, below the command line
 abbrev pub leaf : App → Shape
-leaf a = built_leaf (inherited (with_leaf_noted (marked_built command_line.top)) a.top)
+leaf a = built_leaf (inherited (with_leaf_noted (marked_built plain_line.top)) a.top)
 
 -- the rule of an option whose value is a number in a range
 abbrev pub numbers : Text → ℕ → ℕ → Bool → Rule
@@ -169,8 +169,8 @@ threads_options = (
 )
 
 -- and so are those of `site`
-pub site_options : HasOptions (leaf site_line)
-site_options = (
+pub site_options : (names : TextRefs) → HasOptions (leaf (site_line names))
+site_options names = (
   record { own = refl; defaults = tt; kind = inl (refl, omega arith) },
   (
     record { own = refl; defaults = tt; kind = inl (refl, omega arith) },
@@ -178,7 +178,10 @@ site_options = (
       record { own = refl; defaults = (refl, tt); kind = inr (inr (refl, codes "true", [], refl)) },
       (
         record { own = refl; defaults = tt; kind = inl (refl, omega arith) },
-        (record { own = refl; defaults = tt; kind = inr (inl refl) }, tt),
+        (
+          record { own = refl; defaults = tt; kind = inl (refl, omega arith) },
+          (record { own = refl; defaults = tt; kind = inr (inl refl) }, tt),
+        ),
       ),
     ),
   ),
@@ -221,14 +224,15 @@ threads_asks its_rows all none =
       };
     }
 
-site_given : (its_rows : List Row) → Each (Passes (leaf site_line).rules) its_rows → check_fault (leaf site_line) its_rows false ≡ []
+site_given : (names : TextRefs) (its_rows : List Row) → Each (Passes (leaf (site_line names)).rules) its_rows
+    → check_fault (leaf (site_line names)) its_rows false ≡ []
     → HasText (numbers (codes "me") 0 15 true) (codes "me") its_rows
     × HasText (filled (option_rule (codes "journal") None true)) (codes "journal") its_rows
-site_given its_rows all none =
+site_given names its_rows all none =
     let given = nothing_missing (is_given (codes "me") its_rows) (is_given (codes "journal") its_rows) true
-    (none_missing (leaf site_line) its_rows none) in (
-      given_text (leaf site_line).rules _ _ its_rows all refl given.0,
-      given_text (leaf site_line).rules _ _ its_rows all refl given.1,
+    (none_missing (leaf (site_line names)) its_rows none) in (
+      given_text (leaf (site_line names)).rules _ _ its_rows all refl given.0,
+      given_text (leaf (site_line names)).rules _ _ its_rows all refl given.1,
     )
 
 -- the number of entries that are sent again, if it is given
@@ -251,17 +255,18 @@ switched : (id : Text) (its_rows : List Row)
 switched id its_rows (inl none) = subst (λ o. IfSome o IsSwitchWord) (sym none.0) tt
 switched id its_rows (inr has) = subst (λ o. IfSome o IsSwitchWord) (sym has.one) (switch_word has.text has.passes)
 
-site_asks : (its_rows : List Row) → Each (Passes (leaf site_line).rules) its_rows → check_fault (leaf site_line) its_rows false ≡ []
+site_asks : (names : TextRefs) (its_rows : List Row) → Each (Passes (leaf (site_line names)).rules) its_rows
+    → check_fault (leaf (site_line names)) its_rows false ≡ []
     → Asks (Some (codes "site", its_rows))
-site_asks its_rows all none =
-    let given = site_given its_rows all none in
+site_asks names its_rows all none =
+    let given = site_given names its_rows all none in
     let me = number_of_text _ _ its_rows 0 15 given.0 refl in
-    let rules = (leaf site_line).rules in
+    let rules = (leaf (site_line names)).rules in
     let again = fits _ _ its_rows 0 MOST_HISTORY
     (at_option rules (numbers (codes "resend") 0 MOST_HISTORY false) (codes "resend") its_rows all refl) refl in
     record {
       asked = site (numeral_value (without_minus given.0.text)) given.1.text (switch_at (codes "new") its_rows)
-          (option_map numeral_value (one_of (codes "resend") its_rows));
+          (option_map numeral_value (one_of (codes "resend") its_rows)) (choice_at its_rows);
       is = rw (me.0, given.1.first) refl;
       in_range = (omega (arith, me.1.2), resent (one_of (codes "resend") its_rows) again);
       fit = record {
@@ -292,8 +297,8 @@ plain_asks name a asked is in_range no_threads no_site words none named = record
   fit = no_options _ _ no_threads no_site;
 }
 
-each_asks : (name : Text) → IsOther name → Each (AsksBy name) (built command_line).subs
-each_asks name other = (
+each_asks : (names : TextRefs) (name : Text) → IsOther name → Each (AsksBy name) (built (command_line names)).subs
+each_asks names name other = (
   plain_asks name (new_app (codes "script")) script (λ its_rows. refl) tt refl refl,
   (
     plain_asks name (new_app (codes "histories")) histories (λ its_rows. refl) tt refl refl,
@@ -307,8 +312,8 @@ each_asks name other = (
               threads_asks (rows_after (leaf threads_line).rules [] words) done.0 done.1),
           (
             (λ words none named.
-                let done = leaf_passes (leaf site_line) site_options words none in
-                site_asks (rows_after (leaf site_line).rules [] words) done.0 done.1),
+                let done = leaf_passes (leaf (site_line names)) (site_options names) words none in
+                site_asks names (rows_after (leaf (site_line names)).rules [] words) done.0 done.1),
             ((λ words none named. absurd (no_help name other (or_false _ named))), tt),
           ),
         ),
@@ -324,12 +329,14 @@ each_asks name other = (
     no_help : (name : Text) → IsOther name → bytes_eq (codes "help") name ≡ true → ⊥
     no_help name other is = other_text name (codes "help") other (sym ((bytes_eq-Decides (codes "help") name).0 is))
 
-entered_asks : (stop : Option (Text × List Text)) → StopsElsewhere stop → entered_fault (built command_line) stop ≡ []
-    → is_some (entered (built command_line) stop) ≡ true → Asks (entered (built command_line) stop)
-entered_asks None ok none some = absurd (true≢false (sym some))
-entered_asks (Some p) ok none some =
-    go (find (λ s. answers_to p.0 (label_of s)) (built command_line).subs)
-    (found_in (AsksBy p.0) (λ s. answers_to p.0 (label_of s)) (built command_line).subs (each_asks p.0 ok)) none some
+entered_asks : (names : TextRefs) (stop : Option (Text × List Text)) → StopsElsewhere stop
+    → entered_fault (built (command_line names)) stop ≡ [] → is_some (entered (built (command_line names)) stop) ≡ true
+    → Asks (entered (built (command_line names)) stop)
+entered_asks names None ok none some = absurd (true≢false (sym some))
+entered_asks names (Some p) ok none some =
+    go (find (λ s. answers_to p.0 (label_of s)) (built (command_line names)).subs)
+    (found_in (AsksBy p.0) (λ s. answers_to p.0 (label_of s)) (built (command_line names)).subs
+    (each_asks names p.0 ok)) none some
   where
     go : (o : Option Shape) → IfSome o (λ s. AsksBy p.0 s × (answers_to p.0 (label_of s) ≡ true))
         → option_map_or (λ s. level_fault s [] nothing_held p.1 false []) o [] ≡ []
@@ -338,18 +345,20 @@ entered_asks (Some p) ok none some =
     go None h fault some = absurd (true≢false (sym some))
     go (Some s) h fault some = h.0 p.1 fault h.1
 
-entered_one : (its_rows : List Row) (has : Bool) → check_fault (built command_line).top its_rows has ≡ [] → has ≡ true
-entered_one its_rows true e = refl
-entered_one its_rows false e = absurd (never MissingSubcommand [] e)
+entered_one : (names : TextRefs) (its_rows : List Row) (has : Bool)
+    → check_fault (built (command_line names)).top its_rows has ≡ [] → has ≡ true
+entered_one names its_rows true e = refl
+entered_one names its_rows false e = absurd (never MissingSubcommand [] e)
 
 -- words that the command line takes ask for something
-pub taken_asks : (words : List Text) → fault_of command_line words ≡ [] → Asks (subcommand_of command_line words)
-taken_asks words none =
-    let app = built command_line in
+pub taken_asks : (names : TextRefs) (words : List Text) → fault_of (command_line names) words ≡ []
+    → Asks (subcommand_of (command_line names) words)
+taken_asks names words none =
+    let app = built (command_line names) in
     let stop = stop_after app.top.rules (names_of app) words in
     let one = none_of _ _ none in
     let two = none_of _ _ one.1 in
     let three = none_of _ _ two.1 in
     let four = none_of _ _ three.1 in
-    entered_asks stop (walk_stop app.top (names_of app) refl (walk_from nothing_held) words one.0 tt) two.0
-    (entered_one (rows_after app.top.rules (names_of app) words) (is_some (entered app stop)) four.1)
+    entered_asks names stop (walk_stop app.top (names_of app) refl (walk_from nothing_held) words one.0 tt) two.0
+    (entered_one names (rows_after app.top.rules (names_of app) words) (is_some (entered app stop)) four.1)

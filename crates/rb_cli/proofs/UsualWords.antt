@@ -1,8 +1,10 @@
 -- Words in their usual spelling are taken, and read as what they ask for.
 use Rattle.std.proofs.Common.{◌≡◌, ◌∙◌, ◌<◌, ◌≤◌, ◌==◌, ◌+◌, ◌*◌, ◌^◌, ◌⊎◌, ℕ, Bool, cond, codes, decimal, zero, suc}
 use Rattle.std.proofs.Common.{true, false, true≢false, refl, sym, ap, subst, arith, List, [], ◌∷◌, length, Option}
-use Rattle.std.proofs.Common.{Some, None, inl, inr, pos, ◌&&◌, ◌++◌, drop, not, take}
+use Rattle.std.proofs.Common.{Some, None, inl, inr, pos, ◌&&◌, ◌||◌, ◌++◌, drop, is_some, map, not, take}
 use Rattle.std.specs.Prelude.{fold, slice_get, unwrap_or}
+use Rattle.std.specs.Borrow.{Bor}
+use Rattle.std.specs.List.{list_any}
 use Rattle.std.specs.Str.{bytes_eq}
 use Rattle.std.specs.Str.Parse.{IsNumeral, digits_value, starts_with_minus, without_leading_plus}
 use Rattle.std.proofs.lemmas.Bool.{ne_eqb}
@@ -14,27 +16,33 @@ use Rattle.std.proofs.lemmas.Str.Parse.{digit_from_value}
 use Rattle.clap.specs.Lexer.{without_minus}
 use Rattle.clap.specs.Facts.{unwrap_or_range}
 use Rattle.clap.specs.Kinds.{Kinds, or_else}
-use Rattle.clap.specs.Faults.{check_fault, defaults_fault, level_fault, settle_fault, turn_fault}
-use Rattle.clap.specs.Simple.{Shape, filled}
+use Rattle.clap.specs.Faults.{check_fault, defaults_fault, entered_fault, level_fault, settle_fault, turn_fault, walk_fault}
+use Rattle.clap.specs.Simple.{App, Shape, built, entered, filled, names_of}
 use Rattle.clap.specs.Takes.{value_passes}
 use Rattle.clap.specs.Values.{IsSignedIn}
-use Rattle.clap.specs.Walk.{Row, Rule, action_of, arg_by_id, has_row, most_values, nothing_held, rows_after, settled_rows, walked, with_default}
+use Rattle.clap.specs.Walk.{Row, Rule, Walk, action_of, arg_by_id, finished, has_row, most_values, nothing_held, rows_after}
+use Rattle.clap.specs.Walk.{settled, settled_rows, walk_from, walked, with_default}
 use Rattle.clap.specs.Words.{Text, fault_of, subcommand_of}
 use Rattle.clap.proofs.OnLiterals.{clap_on_literals}
+use Rattle.clap.proofs.FaultLemmas.{stopped_fault}
 use Rattle.clap.proofs.ValueTestLemmas.{Accepts-accepts}
+use Rattle.clap.proofs.WalkLemmas.{walk_stopped}
 use Rattle.clap.specs.declared.builder.action.ArgAction.TheVariants.{Set}
 use Rattle.clap.specs.declared.builder.value_parser.ValueParser.TheVariants.{Signed}
 use Rattle.clap.specs.declared.error.kind.ErrorKind.TheVariants.{ArgumentConflict}
 use Rattle.rb_money.specs.declared.limits.TheConstants.{MOST_HISTORY, MOST_SITES}
 use Rattle.rb_cli.specs.declared.words.TheConstants.{MOST_TELLERS}
-use Rattle.rb_cli.specs.Words.{Ask, Asked, AskForJournal, AskForSite, AskForThreads, IsFileName, as_asked, command_line}
-use Rattle.rb_cli.specs.Words.{numeral_value, option_rule, script, audit, histories, migrate, site, site_line, switch_rule}
-use Rattle.rb_cli.specs.Words.{threads, threads_line, words_of_matches}
+use Rattle.rb_cli.specs.Words.{AreRecordWords, Ask, Asked, AskForJournal, AskForSite, AskForThreads, IsFileName, IsNewGiven, TextRefs}
+use Rattle.rb_cli.specs.Words.{as_asked, command_line, numeral_value, option_rule, record_of, record_rule, record_word}
+use Rattle.rb_cli.specs.Words.{script, audit, histories, migrate, site, site_line, switch_rule, threads, threads_line, words_of_matches}
+use Rattle.rb_cli.specs.declared.recorded.Record.{Record}
+use Rattle.rb_cli.specs.declared.recorded.Record.TheVariants.{Changes, All}
 use Rattle.rb_cli.specs.declared.words.Words.{Words}
 use Rattle.rb_cli.specs.declared.words.Words.TheVariants.{Script, Histories, Audit, Migrate, Threads, Site}
-use Rattle.rb_cli.proofs.GivenOptions.{AreGiven, Given, IsNamed, IsPlain, IsSwitch, at, rows_with, spelled, switch, takes_given, valued}
-use Rattle.rb_cli.proofs.GivenOptions.{waiting_at}
+use Rattle.rb_cli.proofs.GivenOptions.{AreGiven, Given, IsNamed, IsPlain, IsSwitch, at, both_none, rows_with, spelled, switch, takes_given}
+use Rattle.rb_cli.proofs.GivenOptions.{valued, waiting_at}
 use Rattle.rb_cli.proofs.Options.{no_plus}
+use Rattle.rb_cli.proofs.Passing.{Each, each_append}
 use Rattle.rb_cli.proofs.Reading.{leaf, numbers}
 
 -- ---- values
@@ -124,8 +132,8 @@ me_given n = valued (codes "--me") (numbers (codes "me") 0 15 true) (decimal n)
 abbrev journal_given : Text → Given
 journal_given file = valued (codes "--journal") (filled (option_rule (codes "journal") None true)) file
 
-abbrev new_given : Given
-new_given = switch (codes "--new") (filled (switch_rule (codes "new")))
+abbrev fresh : Given
+fresh = switch (codes "--new") (filled (switch_rule (codes "new")))
 
 abbrev resend_given : ℕ → Given
 resend_given n = valued (codes "--resend") (numbers (codes "resend") 0 MOST_HISTORY false) (decimal n)
@@ -149,320 +157,75 @@ seed_fits n high = FitsValued
     (decimal_digits n (omega (arith, high))).plain
     (number_passes (codes "seed") true n 0 4294967295 (omega (arith, high)) (omega arith) (omega (arith, high)))
 
-me_fits : (n : ℕ) → n < MOST_SITES → Fits (leaf site_line) (me_given n)
-unfolding clap_on_literals
-me_fits n high = FitsValued
-    (named (leaf site_line) _ _ (λ rows pending. refl) (λ rows pending. refl) refl refl refl refl)
-    (decimal_digits n (omega (arith, high))).plain
-    (number_passes (codes "me") true n 0 15 (omega (arith, high)) (omega arith) (omega (arith, high)))
-
-journal_fits : (file : Text) → IsFileName file → Fits (leaf site_line) (journal_given file)
-unfolding clap_on_literals
-journal_fits file is = FitsValued
-    (named (leaf site_line) _ _ (λ rows pending. refl) (λ rows pending. refl) refl refl refl refl) (file_plain file is) refl
-
-resend_fits : (n : ℕ) → n ≤ MOST_HISTORY → Fits (leaf site_line) (resend_given n)
-unfolding clap_on_literals
-resend_fits n high = FitsValued
-    (named (leaf site_line) _ _ (λ rows pending. refl) (λ rows pending. refl) refl refl refl refl)
-    (decimal_digits n (omega (arith, high))).plain
-    (number_passes (codes "resend") false n 0 MOST_HISTORY (omega (arith, high)) (omega arith) high)
-
 -- a switch that isn't given before is refused by nothing but what is pending
 switched : (settle : Kinds) (again has : Bool) → settle ≡ [] → has ≡ false
     → or_else (or_else settle (or_else (cond (has && not again) (ArgumentConflict ∷ []) []) [])) [] ≡ []
 switched settle again has none new = rw (none, new) refl
 
-new_fits : Fits (leaf site_line) new_given
-unfolding clap_on_literals
-new_fits = FitsSwitch (record {
-  met = λ rows pending. refl;
-  fault = λ rows pending settled new. switched _ false _ settled new;
-})
-
 -- ---- options in turn
+
+-- there is no fault
+abbrev is_none : Kinds → Bool
+is_none [] = true
+is_none (k ∷ kinds) = false
+
+no_fault : (kinds : Kinds) → is_none kinds ≡ true → kinds ≡ []
+no_fault [] is = refl
+no_fault (k ∷ kinds) is = absurd (true≢false (sym is))
 
 -- what an option's rows are known by
 abbrev id_of : Given → Text
 id_of (valued word rule value) = rule.id
 id_of (switch word rule) = rule.id
 
--- an option fits behind those that have these rows
-fits_behind : (s : Shape) (rows : List Row) (g : Given) (gs : List Given) → Fits s g → has_row (id_of g) rows ≡ false
-    → AreGiven s (rows_with rows (g ∷ [])) gs → AreGiven s rows (g ∷ gs)
-fits_behind s rows (valued word rule value) gs (FitsValued is plain passes) new more = (is, plain, new, passes, more)
-fits_behind s rows (switch word rule) gs (FitsSwitch is) new more = (is, new, more)
+-- none of the options is given before, by these rows, or twice
+abbrev are_new : List Row → List Given → Bool
+are_new rows [] = true
+are_new rows (g ∷ gs) = not (has_row (id_of g) rows) && are_new (rows_with rows (g ∷ [])) gs
 
-two : (s : Shape) (f g : Given) → Fits s f → Fits s g → has_row (id_of g) (rows_with [] (f ∷ [])) ≡ false → AreGiven s [] (f ∷ g ∷ [])
-two s f g x y second = fits_behind s _ f _ x refl (fits_behind s _ g _ y second tt)
+both : (a b : Bool) → (not a && b) ≡ true → (a ≡ false) × (b ≡ true)
+both false true is = (refl, refl)
+both false false is = absurd (true≢false (sym is))
+both true b is = absurd (true≢false (sym is))
 
-three : (s : Shape) (f g h : Given) → Fits s f → Fits s g → Fits s h → has_row (id_of g) (rows_with [] (f ∷ [])) ≡ false
-    → has_row (id_of h) (rows_with (rows_with [] (f ∷ [])) (g ∷ [])) ≡ false → AreGiven s [] (f ∷ g ∷ h ∷ [])
-three s f g h x y z second third =
-    fits_behind s _ f _ x refl (fits_behind s _ g _ y second (fits_behind s _ h _ z third tt))
-
-four : (s : Shape) (f g h j : Given) → Fits s f → Fits s g → Fits s h → Fits s j → has_row (id_of g) (rows_with [] (f ∷ [])) ≡ false
-    → has_row (id_of h) (rows_with (rows_with [] (f ∷ [])) (g ∷ [])) ≡ false
-    → has_row (id_of j) (rows_with (rows_with (rows_with [] (f ∷ [])) (g ∷ [])) (h ∷ [])) ≡ false
-    → AreGiven s [] (f ∷ g ∷ h ∷ j ∷ [])
-four s f g h j x y z w second third last =
-    fits_behind s _ f _ x refl (fits_behind s _ g _ y second (fits_behind s _ h _ z third (fits_behind s _ j _ w last tt)))
-
--- the words are taken, and read as this
-abbrev TakesAs : List Text → Asked → Type 0
-TakesAs words asked = (fault_of command_line words ≡ []) × (words_of_matches (subcommand_of command_line words) ≡ Some asked)
-
--- words behind a command's name are the command's own
-record AreBehind (name : Text) (s : Shape) (words : List Text) : Type 0 where
-  fault : level_fault s [] nothing_held words false [] ≡ [] → fault_of command_line (name ∷ words) ≡ []
-  met : subcommand_of command_line (name ∷ words) ≡ Some (name, rows_after s.rules [] words)
-
-behind_threads : (a b d e f g : Text) → AreBehind (codes "threads") (leaf threads_line) (a ∷ b ∷ d ∷ e ∷ f ∷ g ∷ [])
-unfolding clap_on_literals
-behind_threads a b d e f g = record { fault = λ none. ap (λ k. or_else k []) none; met = refl }
-
-four_behind : (a b d e : Text) → AreBehind (codes "site") (leaf site_line) (a ∷ b ∷ d ∷ e ∷ [])
-unfolding clap_on_literals
-four_behind a b d e = record { fault = λ none. ap (λ k. or_else k []) none; met = refl }
-
-five_behind : (a b d e f : Text) → AreBehind (codes "site") (leaf site_line) (a ∷ b ∷ d ∷ e ∷ f ∷ [])
-unfolding clap_on_literals
-five_behind a b d e f = record { fault = λ none. ap (λ k. or_else k []) none; met = refl }
-
-six_behind : (a b d e f g : Text) → AreBehind (codes "site") (leaf site_line) (a ∷ b ∷ d ∷ e ∷ f ∷ g ∷ [])
-unfolding clap_on_literals
-six_behind a b d e f g = record { fault = λ none. ap (λ k. or_else k []) none; met = refl }
-
-seven_behind : (a b d e f g h : Text) → AreBehind (codes "site") (leaf site_line) (a ∷ b ∷ d ∷ e ∷ f ∷ g ∷ h ∷ [])
-unfolding clap_on_literals
-seven_behind a b d e f g h = record { fault = λ none. ap (λ k. or_else k []) none; met = refl }
+-- options that fit can be given in turn
+all_given : (s : Shape) (rows : List Row) (gs : List Given) → Each (Fits s) gs → are_new rows gs ≡ true
+    → AreGiven s rows gs
+all_given s rows [] fits new = tt
+all_given s rows (valued word rule value ∷ gs) (FitsValued is plain passes, more) new =
+    let parts = both (has_row rule.id rows) _ new in
+    (is, plain, parts.0, passes, all_given s (rows_with rows (valued word rule value ∷ [])) gs more parts.1)
+all_given s rows (switch word rule ∷ gs) (FitsSwitch is, more) new =
+    let parts = both (has_row rule.id rows) _ new in
+    (is, parts.0, all_given s (rows_with rows (switch word rule ∷ [])) gs more parts.1)
 
 -- the rows of options in turn, with those of the defaults
 abbrev all_rows : Shape → List Given → List Row
 all_rows s gs = fold with_default (rows_with [] gs) s.rules
 
--- a command takes options in turn, and what it reads them as
-taken : (name : Text) (s : Shape) (gs : List Given) (asked : Asked) → AreBehind name s (spelled gs) → AreGiven s [] gs
-    → defaults_fault (rows_with [] gs) s.rules ≡ [] → check_fault s (all_rows s gs) false ≡ []
-    → words_of_matches (Some (name, all_rows s gs)) ≡ Some asked
-    → TakesAs (name ∷ spelled gs) asked
-taken name s gs asked behind given defaults checks is =
-    let takes = takes_given s gs given defaults checks in (
-      behind.fault takes.0,
-      ap words_of_matches behind.met ∙ ap (λ (r : List Row). words_of_matches (Some (name, r))) takes.1 ∙ is,
-    )
+-- the options are new, each default passes, and what has to be given is there
+abbrev are_enough : Shape → List Given → Bool
+are_enough s gs = are_new [] gs
+    && (is_none (defaults_fault (rows_with [] gs) s.rules) && is_none (check_fault s (all_rows s gs) false))
 
--- ---- any order
+enough : (a b d : Bool) → (a && (b && d)) ≡ true → (a ≡ true) × (b ≡ true) × (d ≡ true)
+enough true true true is = (refl, refl, refl)
+enough true true false is = absurd (true≢false (sym is))
+enough true false d is = absurd (true≢false (sym is))
+enough false b d is = absurd (true≢false (sym is))
 
-module _ (a b d : ℕ) (x : Fits (leaf threads_line) (sites_given a)) (y : Fits (leaf threads_line) (tellers_given b))
-    (z : Fits (leaf threads_line) (seed_given d)) (xr : numeral_value (without_minus (decimal a)) ≡ a)
-    (yr : numeral_value (without_minus (decimal b)) ≡ b) (zr : numeral_value (without_minus (decimal d)) ≡ d) where
-  run_is : Some (threads (numeral_value (without_minus (decimal a))) (numeral_value (without_minus (decimal b)))
-      (numeral_value (without_minus (decimal d))))
-      ≡ Some (threads a b d)
-  run_is = λ i. Some (threads (xr i) (yr i) (zr i))
+-- what a command line fails by once its walk is at its end
+abbrev end_fault : App → Walk → Kinds
+end_fault app end = or_else (entered_fault app end.stopped)
+    (or_else (settle_fault app.top.rules app.top.args_override_self end.held)
+    (or_else (defaults_fault (settled app.top.rules end.held).rows app.top.rules)
+    (check_fault app.top (finished app.top.rules end.held) (is_some (entered app end.stopped)))))
 
-  sites_tellers_seed : TakesAs (codes "threads" ∷ spelled (sites_given a ∷ tellers_given b ∷ seed_given d ∷ [])) (threads a b d)
-  unfolding clap_on_literals
-  sites_tellers_seed = taken (codes "threads") (leaf threads_line) (sites_given a ∷ tellers_given b ∷ seed_given d ∷ []) (threads a b d)
-      (behind_threads _ _ _ _ _ _) (three _ _ _ _ x y z refl refl) refl refl run_is
+-- a walk that stopped at this command, with these words behind it
+abbrev stopped_at : Text → List Text → Walk
+stopped_at name words = record (walk_from nothing_held) { stopped = Some (name, words) }
 
-  sites_seed_tellers : TakesAs (codes "threads" ∷ spelled (sites_given a ∷ seed_given d ∷ tellers_given b ∷ [])) (threads a b d)
-  unfolding clap_on_literals
-  sites_seed_tellers = taken (codes "threads") (leaf threads_line) (sites_given a ∷ seed_given d ∷ tellers_given b ∷ []) (threads a b d)
-      (behind_threads _ _ _ _ _ _) (three _ _ _ _ x z y refl refl) refl refl run_is
-
-  tellers_sites_seed : TakesAs (codes "threads" ∷ spelled (tellers_given b ∷ sites_given a ∷ seed_given d ∷ [])) (threads a b d)
-  unfolding clap_on_literals
-  tellers_sites_seed = taken (codes "threads") (leaf threads_line) (tellers_given b ∷ sites_given a ∷ seed_given d ∷ []) (threads a b d)
-      (behind_threads _ _ _ _ _ _) (three _ _ _ _ y x z refl refl) refl refl run_is
-
-  tellers_seed_sites : TakesAs (codes "threads" ∷ spelled (tellers_given b ∷ seed_given d ∷ sites_given a ∷ [])) (threads a b d)
-  unfolding clap_on_literals
-  tellers_seed_sites = taken (codes "threads") (leaf threads_line) (tellers_given b ∷ seed_given d ∷ sites_given a ∷ []) (threads a b d)
-      (behind_threads _ _ _ _ _ _) (three _ _ _ _ y z x refl refl) refl refl run_is
-
-  seed_sites_tellers : TakesAs (codes "threads" ∷ spelled (seed_given d ∷ sites_given a ∷ tellers_given b ∷ [])) (threads a b d)
-  unfolding clap_on_literals
-  seed_sites_tellers = taken (codes "threads") (leaf threads_line) (seed_given d ∷ sites_given a ∷ tellers_given b ∷ []) (threads a b d)
-      (behind_threads _ _ _ _ _ _) (three _ _ _ _ z x y refl refl) refl refl run_is
-
-  seed_tellers_sites : TakesAs (codes "threads" ∷ spelled (seed_given d ∷ tellers_given b ∷ sites_given a ∷ [])) (threads a b d)
-  unfolding clap_on_literals
-  seed_tellers_sites = taken (codes "threads") (leaf threads_line) (seed_given d ∷ tellers_given b ∷ sites_given a ∷ []) (threads a b d)
-      (behind_threads _ _ _ _ _ _) (three _ _ _ _ z y x refl refl) refl refl run_is
-
--- the words are taken, and with `--new` among them too, and read as what they then ask for
-record Takes (others : List Text) (asked : Bool → Asked) : Type 0 where
-  plain : TakesAs others (asked false)
-  new : (i : ℕ) → 2 * i < length others → TakesAs (take (2 * i + 1) others ++ codes "--new" ∷ drop (2 * i + 1) others) (asked true)
-
--- so it is with seven words, where `--new` is taken in each of its places, or with five
-takes_seven : (w a b d e f g : Text) (asked : Bool → Asked) → TakesAs (w ∷ a ∷ b ∷ d ∷ e ∷ f ∷ g ∷ []) (asked false)
-    → TakesAs (w ∷ codes "--new" ∷ a ∷ b ∷ d ∷ e ∷ f ∷ g ∷ []) (asked true)
-    → TakesAs (w ∷ a ∷ b ∷ codes "--new" ∷ d ∷ e ∷ f ∷ g ∷ []) (asked true)
-    → TakesAs (w ∷ a ∷ b ∷ d ∷ e ∷ codes "--new" ∷ f ∷ g ∷ []) (asked true)
-    → TakesAs (w ∷ a ∷ b ∷ d ∷ e ∷ f ∷ g ∷ codes "--new" ∷ []) (asked true) → Takes (w ∷ a ∷ b ∷ d ∷ e ∷ f ∷ g ∷ []) asked
-takes_seven w a b d e f g asked plain first second third last = record { plain = plain; new = go }
-  where
-    go : (i : ℕ) → 2 * i < 7 → TakesAs (take (2 * i + 1) (w ∷ a ∷ b ∷ d ∷ e ∷ f ∷ g ∷ [])
-        ++ codes "--new" ∷ drop (2 * i + 1) (w ∷ a ∷ b ∷ d ∷ e ∷ f ∷ g ∷ [])) (asked true)
-    go zero below = first
-    go (suc zero) below = second
-    go (suc (suc zero)) below = third
-    go (suc (suc (suc zero))) below = last
-    go (suc (suc (suc (suc k)))) below = absurd (omega (arith, below))
-
-takes_five : (w a b d e : Text) (asked : Bool → Asked) → TakesAs (w ∷ a ∷ b ∷ d ∷ e ∷ []) (asked false)
-    → TakesAs (w ∷ codes "--new" ∷ a ∷ b ∷ d ∷ e ∷ []) (asked true) → TakesAs (w ∷ a ∷ b ∷ codes "--new" ∷ d ∷ e ∷ []) (asked true)
-    → TakesAs (w ∷ a ∷ b ∷ d ∷ e ∷ codes "--new" ∷ []) (asked true) → Takes (w ∷ a ∷ b ∷ d ∷ e ∷ []) asked
-takes_five w a b d e asked plain first second last = record { plain = plain; new = go }
-  where
-    go : (i : ℕ) → 2 * i < 5 → TakesAs (take (2 * i + 1) (w ∷ a ∷ b ∷ d ∷ e ∷ [])
-        ++ codes "--new" ∷ drop (2 * i + 1) (w ∷ a ∷ b ∷ d ∷ e ∷ [])) (asked true)
-    go zero below = first
-    go (suc zero) below = second
-    go (suc (suc zero)) below = last
-    go (suc (suc (suc k))) below = absurd (omega (arith, below))
-
--- a site's options in turn
-site_taken : (gs : List Given) (asked : Asked) → AreBehind (codes "site") (leaf site_line) (spelled gs) → AreGiven (leaf site_line) [] gs
-    → defaults_fault (rows_with [] gs) (leaf site_line).rules ≡ [] → check_fault (leaf site_line) (all_rows (leaf site_line) gs) false ≡ []
-    → words_of_matches (Some (codes "site", all_rows (leaf site_line) gs)) ≡ Some asked
-    → TakesAs (codes "site" ∷ spelled gs) asked
-site_taken = taken (codes "site") (leaf site_line)
-
-module _ (a b : ℕ) (file : Text) (x : Fits (leaf site_line) (me_given a)) (y : Fits (leaf site_line) (journal_given file))
-    (z : Fits (leaf site_line) (resend_given b)) (xr : numeral_value (without_minus (decimal a)) ≡ a)
-    (zr : numeral_value (without_minus (decimal b)) ≡ b) where
-  site_is : (new : Bool) → Some (site (numeral_value (without_minus (decimal a))) file new
-      (Some (numeral_value (without_minus (decimal b))))) ≡ Some (site a file new (Some b))
-  site_is new = λ i. Some (site (xr i) file new (Some (zr i)))
-
-  abbrev me : Given
-  me = me_given a
-
-  abbrev journal : Given
-  journal = journal_given file
-
-  abbrev resend : Given
-  resend = resend_given b
-
-  abbrev asked : Bool → Asked
-  asked new = site a file new (Some b)
-
-  me_journal_resend : Takes (codes "site" ∷ spelled (me ∷ journal ∷ resend ∷ [])) asked
-  unfolding clap_on_literals
-  me_journal_resend = takes_seven _ _ _ _ _ _ _ asked
-      (site_taken (me ∷ journal ∷ resend ∷ []) (asked false) (six_behind _ _ _ _ _ _) (three _ _ _ _ x y z refl refl) refl refl
-      (site_is false))
-      (site_taken (new_given ∷ me ∷ journal ∷ resend ∷ []) (asked true) (seven_behind _ _ _ _ _ _ _)
-      (four _ _ _ _ _ new_fits x y z refl refl refl) refl refl (site_is true))
-      (site_taken (me ∷ new_given ∷ journal ∷ resend ∷ []) (asked true) (seven_behind _ _ _ _ _ _ _)
-      (four _ _ _ _ _ x new_fits y z refl refl refl) refl refl (site_is true))
-      (site_taken (me ∷ journal ∷ new_given ∷ resend ∷ []) (asked true) (seven_behind _ _ _ _ _ _ _)
-      (four _ _ _ _ _ x y new_fits z refl refl refl) refl refl (site_is true))
-      (site_taken (me ∷ journal ∷ resend ∷ new_given ∷ []) (asked true) (seven_behind _ _ _ _ _ _ _)
-      (four _ _ _ _ _ x y z new_fits refl refl refl) refl refl (site_is true))
-
-  me_resend_journal : Takes (codes "site" ∷ spelled (me ∷ resend ∷ journal ∷ [])) asked
-  unfolding clap_on_literals
-  me_resend_journal = takes_seven _ _ _ _ _ _ _ asked
-      (site_taken (me ∷ resend ∷ journal ∷ []) (asked false) (six_behind _ _ _ _ _ _) (three _ _ _ _ x z y refl refl) refl refl
-      (site_is false))
-      (site_taken (new_given ∷ me ∷ resend ∷ journal ∷ []) (asked true) (seven_behind _ _ _ _ _ _ _)
-      (four _ _ _ _ _ new_fits x z y refl refl refl) refl refl (site_is true))
-      (site_taken (me ∷ new_given ∷ resend ∷ journal ∷ []) (asked true) (seven_behind _ _ _ _ _ _ _)
-      (four _ _ _ _ _ x new_fits z y refl refl refl) refl refl (site_is true))
-      (site_taken (me ∷ resend ∷ new_given ∷ journal ∷ []) (asked true) (seven_behind _ _ _ _ _ _ _)
-      (four _ _ _ _ _ x z new_fits y refl refl refl) refl refl (site_is true))
-      (site_taken (me ∷ resend ∷ journal ∷ new_given ∷ []) (asked true) (seven_behind _ _ _ _ _ _ _)
-      (four _ _ _ _ _ x z y new_fits refl refl refl) refl refl (site_is true))
-
-  journal_me_resend : Takes (codes "site" ∷ spelled (journal ∷ me ∷ resend ∷ [])) asked
-  unfolding clap_on_literals
-  journal_me_resend = takes_seven _ _ _ _ _ _ _ asked
-      (site_taken (journal ∷ me ∷ resend ∷ []) (asked false) (six_behind _ _ _ _ _ _) (three _ _ _ _ y x z refl refl) refl refl
-      (site_is false))
-      (site_taken (new_given ∷ journal ∷ me ∷ resend ∷ []) (asked true) (seven_behind _ _ _ _ _ _ _)
-      (four _ _ _ _ _ new_fits y x z refl refl refl) refl refl (site_is true))
-      (site_taken (journal ∷ new_given ∷ me ∷ resend ∷ []) (asked true) (seven_behind _ _ _ _ _ _ _)
-      (four _ _ _ _ _ y new_fits x z refl refl refl) refl refl (site_is true))
-      (site_taken (journal ∷ me ∷ new_given ∷ resend ∷ []) (asked true) (seven_behind _ _ _ _ _ _ _)
-      (four _ _ _ _ _ y x new_fits z refl refl refl) refl refl (site_is true))
-      (site_taken (journal ∷ me ∷ resend ∷ new_given ∷ []) (asked true) (seven_behind _ _ _ _ _ _ _)
-      (four _ _ _ _ _ y x z new_fits refl refl refl) refl refl (site_is true))
-
-  journal_resend_me : Takes (codes "site" ∷ spelled (journal ∷ resend ∷ me ∷ [])) asked
-  unfolding clap_on_literals
-  journal_resend_me = takes_seven _ _ _ _ _ _ _ asked
-      (site_taken (journal ∷ resend ∷ me ∷ []) (asked false) (six_behind _ _ _ _ _ _) (three _ _ _ _ y z x refl refl) refl refl
-      (site_is false))
-      (site_taken (new_given ∷ journal ∷ resend ∷ me ∷ []) (asked true) (seven_behind _ _ _ _ _ _ _)
-      (four _ _ _ _ _ new_fits y z x refl refl refl) refl refl (site_is true))
-      (site_taken (journal ∷ new_given ∷ resend ∷ me ∷ []) (asked true) (seven_behind _ _ _ _ _ _ _)
-      (four _ _ _ _ _ y new_fits z x refl refl refl) refl refl (site_is true))
-      (site_taken (journal ∷ resend ∷ new_given ∷ me ∷ []) (asked true) (seven_behind _ _ _ _ _ _ _)
-      (four _ _ _ _ _ y z new_fits x refl refl refl) refl refl (site_is true))
-      (site_taken (journal ∷ resend ∷ me ∷ new_given ∷ []) (asked true) (seven_behind _ _ _ _ _ _ _)
-      (four _ _ _ _ _ y z x new_fits refl refl refl) refl refl (site_is true))
-
-  resend_me_journal : Takes (codes "site" ∷ spelled (resend ∷ me ∷ journal ∷ [])) asked
-  unfolding clap_on_literals
-  resend_me_journal = takes_seven _ _ _ _ _ _ _ asked
-      (site_taken (resend ∷ me ∷ journal ∷ []) (asked false) (six_behind _ _ _ _ _ _) (three _ _ _ _ z x y refl refl) refl refl
-      (site_is false))
-      (site_taken (new_given ∷ resend ∷ me ∷ journal ∷ []) (asked true) (seven_behind _ _ _ _ _ _ _)
-      (four _ _ _ _ _ new_fits z x y refl refl refl) refl refl (site_is true))
-      (site_taken (resend ∷ new_given ∷ me ∷ journal ∷ []) (asked true) (seven_behind _ _ _ _ _ _ _)
-      (four _ _ _ _ _ z new_fits x y refl refl refl) refl refl (site_is true))
-      (site_taken (resend ∷ me ∷ new_given ∷ journal ∷ []) (asked true) (seven_behind _ _ _ _ _ _ _)
-      (four _ _ _ _ _ z x new_fits y refl refl refl) refl refl (site_is true))
-      (site_taken (resend ∷ me ∷ journal ∷ new_given ∷ []) (asked true) (seven_behind _ _ _ _ _ _ _)
-      (four _ _ _ _ _ z x y new_fits refl refl refl) refl refl (site_is true))
-
-  resend_journal_me : Takes (codes "site" ∷ spelled (resend ∷ journal ∷ me ∷ [])) asked
-  unfolding clap_on_literals
-  resend_journal_me = takes_seven _ _ _ _ _ _ _ asked
-      (site_taken (resend ∷ journal ∷ me ∷ []) (asked false) (six_behind _ _ _ _ _ _) (three _ _ _ _ z y x refl refl) refl refl
-      (site_is false))
-      (site_taken (new_given ∷ resend ∷ journal ∷ me ∷ []) (asked true) (seven_behind _ _ _ _ _ _ _)
-      (four _ _ _ _ _ new_fits z y x refl refl refl) refl refl (site_is true))
-      (site_taken (resend ∷ new_given ∷ journal ∷ me ∷ []) (asked true) (seven_behind _ _ _ _ _ _ _)
-      (four _ _ _ _ _ z new_fits y x refl refl refl) refl refl (site_is true))
-      (site_taken (resend ∷ journal ∷ new_given ∷ me ∷ []) (asked true) (seven_behind _ _ _ _ _ _ _)
-      (four _ _ _ _ _ z y new_fits x refl refl refl) refl refl (site_is true))
-      (site_taken (resend ∷ journal ∷ me ∷ new_given ∷ []) (asked true) (seven_behind _ _ _ _ _ _ _)
-      (four _ _ _ _ _ z y x new_fits refl refl refl) refl refl (site_is true))
-
-module _ (a : ℕ) (file : Text) (x : Fits (leaf site_line) (me_given a)) (y : Fits (leaf site_line) (journal_given file))
-    (xr : numeral_value (without_minus (decimal a)) ≡ a) where
-  all_is : (new : Bool) → Some (site (numeral_value (without_minus (decimal a))) file new None) ≡ Some (site a file new None)
-  all_is new = ap (λ n. Some (site n file new None)) xr
-
-  me_journal : Takes (codes "site" ∷ spelled (me_given a ∷ journal_given file ∷ [])) (λ new. site a file new None)
-  unfolding clap_on_literals
-  me_journal = takes_five _ _ _ _ _ (λ new. site a file new None)
-      (site_taken (me_given a ∷ journal_given file ∷ []) (site a file false None) (four_behind _ _ _ _) (two _ _ _ x y refl) refl refl (all_is false))
-      (site_taken (new_given ∷ me_given a ∷ journal_given file ∷ []) (site a file true None) (five_behind _ _ _ _ _)
-      (three _ _ _ _ new_fits x y refl refl) refl refl (all_is true))
-      (site_taken (me_given a ∷ new_given ∷ journal_given file ∷ []) (site a file true None) (five_behind _ _ _ _ _)
-      (three _ _ _ _ x new_fits y refl refl) refl refl (all_is true))
-      (site_taken (me_given a ∷ journal_given file ∷ new_given ∷ []) (site a file true None) (five_behind _ _ _ _ _)
-      (three _ _ _ _ x y new_fits refl refl) refl refl (all_is true))
-
-  journal_me : Takes (codes "site" ∷ spelled (journal_given file ∷ me_given a ∷ [])) (λ new. site a file new None)
-  unfolding clap_on_literals
-  journal_me = takes_five _ _ _ _ _ (λ new. site a file new None)
-      (site_taken (journal_given file ∷ me_given a ∷ []) (site a file false None) (four_behind _ _ _ _) (two _ _ _ y x refl) refl refl (all_is false))
-      (site_taken (new_given ∷ journal_given file ∷ me_given a ∷ []) (site a file true None) (five_behind _ _ _ _ _)
-      (three _ _ _ _ new_fits y x refl refl) refl refl (all_is true))
-      (site_taken (journal_given file ∷ new_given ∷ me_given a ∷ []) (site a file true None) (five_behind _ _ _ _ _)
-      (three _ _ _ _ y new_fits x refl refl) refl refl (all_is true))
-      (site_taken (journal_given file ∷ me_given a ∷ new_given ∷ []) (site a file true None) (five_behind _ _ _ _ _)
-      (three _ _ _ _ y x new_fits refl refl) refl refl (all_is true))
-
--- ---- the words that ask
+-- ---- where the options' names stand
 
 -- two texts behind one another
 abbrev Pair : Text → Text → Text → Text → Type 0
@@ -492,109 +255,48 @@ in_two w a b d e (suc (suc k)) name value x y =
     let within : 2 * (suc (suc k)) + 2 < 5 = slice_get_within (w ∷ a ∷ b ∷ d ∷ e ∷ []) _ value y in
     absurd (omega (arith, within))
 
-seven_words : (w a b d e f g w' a' b' d' e' f' g' : Text) → w ≡ w' → a ≡ a' → b ≡ b' → d ≡ d' → e ≡ e' → f ≡ f' → g ≡ g'
-    → w' ∷ a' ∷ b' ∷ d' ∷ e' ∷ f' ∷ g' ∷ [] ≡ w ∷ a ∷ b ∷ d ∷ e ∷ f ∷ g ∷ []
-seven_words w a b d e f g w' a' b' d' e' f' g' p q r s t u v =
-    λ i. sym p i ∷ sym q i ∷ sym r i ∷ sym s i ∷ sym t i ∷ sym u i ∷ sym v i ∷ []
+seven_words : {w a b d e f g a' b' d' e' f' g' : Text} → a ≡ a' → b ≡ b' → d ≡ d' → e ≡ e' → f ≡ f' → g ≡ g'
+    → w ∷ a' ∷ b' ∷ d' ∷ e' ∷ f' ∷ g' ∷ [] ≡ w ∷ a ∷ b ∷ d ∷ e ∷ f ∷ g ∷ []
+seven_words {w} q r s t u v = λ i. w ∷ sym q i ∷ sym r i ∷ sym s i ∷ sym t i ∷ sym u i ∷ sym v i ∷ []
 
-five_words : (w a b d e w' a' b' d' e' : Text) → w ≡ w' → a ≡ a' → b ≡ b' → d ≡ d' → e ≡ e'
-    → w' ∷ a' ∷ b' ∷ d' ∷ e' ∷ [] ≡ w ∷ a ∷ b ∷ d ∷ e ∷ []
-five_words w a b d e w' a' b' d' e' p q r s t = λ i. sym p i ∷ sym q i ∷ sym r i ∷ sym s i ∷ sym t i ∷ []
+five_words : {w a b d e a' b' d' e' : Text} → a ≡ a' → b ≡ b' → d ≡ d' → e ≡ e'
+    → w ∷ a' ∷ b' ∷ d' ∷ e' ∷ [] ≡ w ∷ a ∷ b ∷ d ∷ e ∷ []
+five_words {w} q r s t = λ i. w ∷ sym q i ∷ sym r i ∷ sym s i ∷ sym t i ∷ []
 
 no_both : (a x y : Text) → bytes_eq x y ≡ false → a ≡ x → a ≡ y → ⊥
 no_both a x y differ is_x is_y = true≢false (sym ((bytes_eq-Decides x y).1 (sym is_x ∙ is_y)) ∙ differ)
 
-module _ (w a b d e f g : Text) (k m n : ℕ) (first : w ≡ codes "threads") (x : Fits (leaf threads_line) (sites_given k))
-    (y : Fits (leaf threads_line) (tellers_given m)) (z : Fits (leaf threads_line) (seed_given n))
-    (xr : numeral_value (without_minus (decimal k)) ≡ k) (yr : numeral_value (without_minus (decimal m)) ≡ m)
-    (zr : numeral_value (without_minus (decimal n)) ≡ n) where
-  threads_in : InThree a b d e f g (codes "--sites") (decimal k) → InThree a b d e f g (codes "--tellers") (decimal m)
-      → InThree a b d e f g (codes "--seed") (decimal n) → TakesAs (w ∷ a ∷ b ∷ d ∷ e ∷ f ∷ g ∷ []) (threads k m n)
-  threads_in (inl s) (inl t) u = absurd (no_both _ (codes "--sites") (codes "--tellers") refl s.0 t.0)
-  threads_in (inl s) (inr (inl t)) (inl u) = absurd (no_both _ (codes "--sites") (codes "--seed") refl s.0 u.0)
-  threads_in (inl s) (inr (inl t)) (inr (inl u)) = absurd (no_both _ (codes "--tellers") (codes "--seed") refl t.0 u.0)
-  threads_in (inl s) (inr (inl t)) (inr (inr u)) =
-      subst (λ ws. TakesAs ws (threads k m n)) (seven_words _ _ _ _ _ _ _ _ _ _ _ _ _ _ first s.0 s.1 t.0 t.1 u.0 u.1)
-      (sites_tellers_seed k m n x y z xr yr zr)
-  threads_in (inl s) (inr (inr t)) (inl u) = absurd (no_both _ (codes "--sites") (codes "--seed") refl s.0 u.0)
-  threads_in (inl s) (inr (inr t)) (inr (inl u)) =
-      subst (λ ws. TakesAs ws (threads k m n)) (seven_words _ _ _ _ _ _ _ _ _ _ _ _ _ _ first s.0 s.1 u.0 u.1 t.0 t.1)
-      (sites_seed_tellers k m n x y z xr yr zr)
-  threads_in (inl s) (inr (inr t)) (inr (inr u)) = absurd (no_both _ (codes "--tellers") (codes "--seed") refl t.0 u.0)
-  threads_in (inr (inl s)) (inl t) (inl u) = absurd (no_both _ (codes "--tellers") (codes "--seed") refl t.0 u.0)
-  threads_in (inr (inl s)) (inl t) (inr (inl u)) = absurd (no_both _ (codes "--sites") (codes "--seed") refl s.0 u.0)
-  threads_in (inr (inl s)) (inl t) (inr (inr u)) =
-      subst (λ ws. TakesAs ws (threads k m n)) (seven_words _ _ _ _ _ _ _ _ _ _ _ _ _ _ first t.0 t.1 s.0 s.1 u.0 u.1)
-      (tellers_sites_seed k m n x y z xr yr zr)
-  threads_in (inr (inl s)) (inr (inl t)) u = absurd (no_both _ (codes "--sites") (codes "--tellers") refl s.0 t.0)
-  threads_in (inr (inl s)) (inr (inr t)) (inl u) =
-      subst (λ ws. TakesAs ws (threads k m n)) (seven_words _ _ _ _ _ _ _ _ _ _ _ _ _ _ first u.0 u.1 s.0 s.1 t.0 t.1)
-      (seed_sites_tellers k m n x y z xr yr zr)
-  threads_in (inr (inl s)) (inr (inr t)) (inr (inl u)) = absurd (no_both _ (codes "--sites") (codes "--seed") refl s.0 u.0)
-  threads_in (inr (inl s)) (inr (inr t)) (inr (inr u)) = absurd (no_both _ (codes "--tellers") (codes "--seed") refl t.0 u.0)
-  threads_in (inr (inr s)) (inl t) (inl u) = absurd (no_both _ (codes "--tellers") (codes "--seed") refl t.0 u.0)
-  threads_in (inr (inr s)) (inl t) (inr (inl u)) =
-      subst (λ ws. TakesAs ws (threads k m n)) (seven_words _ _ _ _ _ _ _ _ _ _ _ _ _ _ first t.0 t.1 u.0 u.1 s.0 s.1)
-      (tellers_seed_sites k m n x y z xr yr zr)
-  threads_in (inr (inr s)) (inl t) (inr (inr u)) = absurd (no_both _ (codes "--sites") (codes "--seed") refl s.0 u.0)
-  threads_in (inr (inr s)) (inr (inl t)) (inl u) =
-      subst (λ ws. TakesAs ws (threads k m n)) (seven_words _ _ _ _ _ _ _ _ _ _ _ _ _ _ first u.0 u.1 t.0 t.1 s.0 s.1)
-      (seed_tellers_sites k m n x y z xr yr zr)
-  threads_in (inr (inr s)) (inr (inl t)) (inr (inl u)) = absurd (no_both _ (codes "--tellers") (codes "--seed") refl t.0 u.0)
-  threads_in (inr (inr s)) (inr (inl t)) (inr (inr u)) = absurd (no_both _ (codes "--sites") (codes "--seed") refl s.0 u.0)
-  threads_in (inr (inr s)) (inr (inr t)) u = absurd (no_both _ (codes "--sites") (codes "--tellers") refl s.0 t.0)
-
-module _ (w a b d e f g file : Text) (k n : ℕ) (first : w ≡ codes "site") (x : Fits (leaf site_line) (me_given k))
-    (y : Fits (leaf site_line) (journal_given file)) (z : Fits (leaf site_line) (resend_given n))
-    (xr : numeral_value (without_minus (decimal k)) ≡ k) (zr : numeral_value (without_minus (decimal n)) ≡ n) where
-  site_in : InThree a b d e f g (codes "--me") (decimal k) → InThree a b d e f g (codes "--journal") file
-      → InThree a b d e f g (codes "--resend") (decimal n) → Takes (w ∷ a ∷ b ∷ d ∷ e ∷ f ∷ g ∷ []) (λ new. site k file new (Some n))
-  site_in (inl s) (inl t) u = absurd (no_both _ (codes "--me") (codes "--journal") refl s.0 t.0)
-  site_in (inl s) (inr (inl t)) (inl u) = absurd (no_both _ (codes "--me") (codes "--resend") refl s.0 u.0)
-  site_in (inl s) (inr (inl t)) (inr (inl u)) = absurd (no_both _ (codes "--journal") (codes "--resend") refl t.0 u.0)
-  site_in (inl s) (inr (inl t)) (inr (inr u)) =
-      subst (λ ws. Takes ws (λ new. site k file new (Some n))) (seven_words _ _ _ _ _ _ _ _ _ _ _ _ _ _ first s.0 s.1 t.0 t.1 u.0 u.1)
-      (me_journal_resend k n file x y z xr zr)
-  site_in (inl s) (inr (inr t)) (inl u) = absurd (no_both _ (codes "--me") (codes "--resend") refl s.0 u.0)
-  site_in (inl s) (inr (inr t)) (inr (inl u)) =
-      subst (λ ws. Takes ws (λ new. site k file new (Some n))) (seven_words _ _ _ _ _ _ _ _ _ _ _ _ _ _ first s.0 s.1 u.0 u.1 t.0 t.1)
-      (me_resend_journal k n file x y z xr zr)
-  site_in (inl s) (inr (inr t)) (inr (inr u)) = absurd (no_both _ (codes "--journal") (codes "--resend") refl t.0 u.0)
-  site_in (inr (inl s)) (inl t) (inl u) = absurd (no_both _ (codes "--journal") (codes "--resend") refl t.0 u.0)
-  site_in (inr (inl s)) (inl t) (inr (inl u)) = absurd (no_both _ (codes "--me") (codes "--resend") refl s.0 u.0)
-  site_in (inr (inl s)) (inl t) (inr (inr u)) =
-      subst (λ ws. Takes ws (λ new. site k file new (Some n))) (seven_words _ _ _ _ _ _ _ _ _ _ _ _ _ _ first t.0 t.1 s.0 s.1 u.0 u.1)
-      (journal_me_resend k n file x y z xr zr)
-  site_in (inr (inl s)) (inr (inl t)) u = absurd (no_both _ (codes "--me") (codes "--journal") refl s.0 t.0)
-  site_in (inr (inl s)) (inr (inr t)) (inl u) =
-      subst (λ ws. Takes ws (λ new. site k file new (Some n))) (seven_words _ _ _ _ _ _ _ _ _ _ _ _ _ _ first u.0 u.1 s.0 s.1 t.0 t.1)
-      (resend_me_journal k n file x y z xr zr)
-  site_in (inr (inl s)) (inr (inr t)) (inr (inl u)) = absurd (no_both _ (codes "--me") (codes "--resend") refl s.0 u.0)
-  site_in (inr (inl s)) (inr (inr t)) (inr (inr u)) = absurd (no_both _ (codes "--journal") (codes "--resend") refl t.0 u.0)
-  site_in (inr (inr s)) (inl t) (inl u) = absurd (no_both _ (codes "--journal") (codes "--resend") refl t.0 u.0)
-  site_in (inr (inr s)) (inl t) (inr (inl u)) =
-      subst (λ ws. Takes ws (λ new. site k file new (Some n))) (seven_words _ _ _ _ _ _ _ _ _ _ _ _ _ _ first t.0 t.1 u.0 u.1 s.0 s.1)
-      (journal_resend_me k n file x y z xr zr)
-  site_in (inr (inr s)) (inl t) (inr (inr u)) = absurd (no_both _ (codes "--me") (codes "--resend") refl s.0 u.0)
-  site_in (inr (inr s)) (inr (inl t)) (inl u) =
-      subst (λ ws. Takes ws (λ new. site k file new (Some n))) (seven_words _ _ _ _ _ _ _ _ _ _ _ _ _ _ first u.0 u.1 t.0 t.1 s.0 s.1)
-      (resend_journal_me k n file x y z xr zr)
-  site_in (inr (inr s)) (inr (inl t)) (inr (inl u)) = absurd (no_both _ (codes "--journal") (codes "--resend") refl t.0 u.0)
-  site_in (inr (inr s)) (inr (inl t)) (inr (inr u)) = absurd (no_both _ (codes "--me") (codes "--resend") refl s.0 u.0)
-  site_in (inr (inr s)) (inr (inr t)) u = absurd (no_both _ (codes "--me") (codes "--journal") refl s.0 t.0)
-
-module _ (w a b d e file : Text) (k : ℕ) (first : w ≡ codes "site") (x : Fits (leaf site_line) (me_given k))
-    (y : Fits (leaf site_line) (journal_given file)) (xr : numeral_value (without_minus (decimal k)) ≡ k) where
-  site_in_two : Pair a b (codes "--me") (decimal k) ⊎ Pair d e (codes "--me") (decimal k)
-      → Pair a b (codes "--journal") file ⊎ Pair d e (codes "--journal") file → Takes (w ∷ a ∷ b ∷ d ∷ e ∷ []) (λ new. site k file new None)
-  site_in_two (inl s) (inl t) = absurd (no_both _ (codes "--me") (codes "--journal") refl s.0 t.0)
-  site_in_two (inr s) (inr t) = absurd (no_both _ (codes "--me") (codes "--journal") refl s.0 t.0)
-  site_in_two (inl s) (inr t) =
-      subst (λ ws. Takes ws (λ new. site k file new None)) (five_words _ _ _ _ _ _ _ _ _ _ first s.0 s.1 t.0 t.1)
-      (me_journal k file x y xr)
-  site_in_two (inr s) (inl t) =
-      subst (λ ws. Takes ws (λ new. site k file new None)) (five_words _ _ _ _ _ _ _ _ _ _ first t.0 t.1 s.0 s.1)
-      (journal_me k file x y xr)
+-- three options are given by these names, and so in one of their orders
+in_any_order : (P : List Text → Type 0) (w a b d e f g k x m y n z : Text) → bytes_eq k m ≡ false → bytes_eq k n ≡ false
+    → bytes_eq m n ≡ false → InThree a b d e f g k x → InThree a b d e f g m y → InThree a b d e f g n z
+    → P (w ∷ k ∷ x ∷ m ∷ y ∷ n ∷ z ∷ []) → P (w ∷ k ∷ x ∷ n ∷ z ∷ m ∷ y ∷ []) → P (w ∷ m ∷ y ∷ k ∷ x ∷ n ∷ z ∷ [])
+    → P (w ∷ m ∷ y ∷ n ∷ z ∷ k ∷ x ∷ []) → P (w ∷ n ∷ z ∷ k ∷ x ∷ m ∷ y ∷ []) → P (w ∷ n ∷ z ∷ m ∷ y ∷ k ∷ x ∷ [])
+    → P (w ∷ a ∷ b ∷ d ∷ e ∷ f ∷ g ∷ [])
+in_any_order P w a b d e f g k x m y n z km kn mn at_k at_m at_n kmn knm mkn mnk nkm nmk = go at_k at_m at_n
+  where
+    go : InThree a b d e f g k x → InThree a b d e f g m y → InThree a b d e f g n z
+        → P (w ∷ a ∷ b ∷ d ∷ e ∷ f ∷ g ∷ [])
+    go (inl s) (inl t) u = absurd (no_both _ k m km s.0 t.0)
+    go (inl s) (inr (inl t)) (inl u) = absurd (no_both _ k n kn s.0 u.0)
+    go (inl s) (inr (inl t)) (inr (inl u)) = absurd (no_both _ m n mn t.0 u.0)
+    go (inl s) (inr (inl t)) (inr (inr u)) = subst P (seven_words s.0 s.1 t.0 t.1 u.0 u.1) kmn
+    go (inl s) (inr (inr t)) (inl u) = absurd (no_both _ k n kn s.0 u.0)
+    go (inl s) (inr (inr t)) (inr (inl u)) = subst P (seven_words s.0 s.1 u.0 u.1 t.0 t.1) knm
+    go (inl s) (inr (inr t)) (inr (inr u)) = absurd (no_both _ m n mn t.0 u.0)
+    go (inr (inl s)) (inl t) (inl u) = absurd (no_both _ m n mn t.0 u.0)
+    go (inr (inl s)) (inl t) (inr (inl u)) = absurd (no_both _ k n kn s.0 u.0)
+    go (inr (inl s)) (inl t) (inr (inr u)) = subst P (seven_words t.0 t.1 s.0 s.1 u.0 u.1) mkn
+    go (inr (inl s)) (inr (inl t)) u = absurd (no_both _ k m km s.0 t.0)
+    go (inr (inl s)) (inr (inr t)) (inl u) = subst P (seven_words u.0 u.1 s.0 s.1 t.0 t.1) nkm
+    go (inr (inl s)) (inr (inr t)) (inr (inl u)) = absurd (no_both _ k n kn s.0 u.0)
+    go (inr (inl s)) (inr (inr t)) (inr (inr u)) = absurd (no_both _ m n mn t.0 u.0)
+    go (inr (inr s)) (inl t) (inl u) = absurd (no_both _ m n mn t.0 u.0)
+    go (inr (inr s)) (inl t) (inr (inl u)) = subst P (seven_words t.0 t.1 u.0 u.1 s.0 s.1) mnk
+    go (inr (inr s)) (inl t) (inr (inr u)) = absurd (no_both _ k n kn s.0 u.0)
+    go (inr (inr s)) (inr (inl t)) (inl u) = subst P (seven_words u.0 u.1 t.0 t.1 s.0 s.1) nmk
+    go (inr (inr s)) (inr (inl t)) (inr (inl u)) = absurd (no_both _ m n mn t.0 u.0)
+    go (inr (inr s)) (inr (inl t)) (inr (inr u)) = absurd (no_both _ k n kn s.0 u.0)
+    go (inr (inr s)) (inr (inr t)) u = absurd (no_both _ k m km s.0 t.0)
 
 -- seven words, or five
 seven : (P : List Text → Type 0) → ((w a b d e f g : Text) → P (w ∷ a ∷ b ∷ d ∷ e ∷ f ∷ g ∷ [])) → (words : List Text)
@@ -618,64 +320,430 @@ five P h (w ∷ a ∷ b ∷ []) is = absurd (omega (arith, is))
 five P h (w ∷ a ∷ b ∷ d ∷ []) is = absurd (omega (arith, is))
 five P h (w ∷ a ∷ b ∷ d ∷ e ∷ x ∷ xs) is = absurd (omega (arith, is))
 
-usual_threads : (words : List Text) (k m n : ℕ) → AskForThreads words k m n → TakesAs words (threads k m n)
-usual_threads words k m n ask =
-    seven (λ ws. AskForThreads ws k m n → TakesAs ws (threads k m n)) (λ w a b d e f g is.
-    threads_in w a b d e f g k m n (some_same _ _ is.first)
-    (sites_fit k is.some_sites is.few_sites) (tellers_fit m is.some_tellers is.few_tellers) (seed_fits n is.seed_fits)
-    (reads k _ (decimal_digits k (omega (arith, is.few_sites)))) (reads m _ (decimal_digits m (omega (arith, is.few_tellers))))
-    (reads n _ (decimal_digits n (omega (arith, is.seed_fits))))
-    (in_three _ _ _ _ _ _ _ is.sites_given.0 _ _ is.sites_given.1 is.sites_given.2)
-    (in_three _ _ _ _ _ _ _ is.tellers_given.0 _ _ is.tellers_given.1 is.tellers_given.2)
-    (in_three _ _ _ _ _ _ _ is.seed_given.0 _ _ is.seed_given.1 is.seed_given.2)) words ask.count ask
+-- ---- any order
 
-takes_journal : (words : List Text) (k : ℕ) (file : Text) (resend : Option ℕ) → AskForJournal words k file resend
-    → Takes words (λ new. site k file new resend)
-takes_journal words k file None ask =
-    five (λ ws. AskForJournal ws k file None → Takes ws (λ new. site k file new None)) (λ w a b d e is.
-    site_in_two w a b d e file k (some_same _ _ is.first) (me_fits k is.is_site) (journal_fits file is.is_file)
-    (reads k _ (decimal_digits k (omega (arith, is.is_site))))
-    (in_two _ _ _ _ _ is.me_given.0 _ _ is.me_given.1 is.me_given.2)
-    (in_two _ _ _ _ _ is.journal_given.0 _ _ is.journal_given.1 is.journal_given.2)) words ask.resent ask
-takes_journal words k file (Some n) ask =
-    seven (λ ws. AskForJournal ws k file (Some n) → Takes ws (λ new. site k file new (Some n))) (λ w a b d e f g is.
-    site_in w a b d e f g file k n (some_same _ _ is.first) (me_fits k is.is_site) (journal_fits file is.is_file)
-    (resend_fits n is.resent.2)
-    (reads k _ (decimal_digits k (omega (arith, is.is_site)))) (reads n _ (decimal_digits n (omega (arith, is.resent.2))))
-    (in_three _ _ _ _ _ _ _ is.me_given.0 _ _ is.me_given.1 is.me_given.2)
-    (in_three _ _ _ _ _ _ _ is.journal_given.0 _ _ is.journal_given.1 is.journal_given.2)
-    (in_three _ _ _ _ _ _ _ is.resent.1.0 _ _ is.resent.1.1 is.resent.1.2)) words ask.resent.0 ask
+module _ (names : TextRefs) (are_words : AreRecordWords names) where
+  -- a site's command as it is built
+  abbrev site_shape : Shape
+  site_shape = leaf (site_line names)
 
-usual_site : (words : List Text) (k : ℕ) (file : Text) (new : Bool) (resend : Option ℕ) → AskForSite words k file new resend
-    → TakesAs words (site k file new resend)
-usual_site words k file false resend ask =
-    subst (λ ws. TakesAs ws (site k file false resend)) (sym ask.new_given) (takes_journal ask.others k file resend ask.ask).plain
-usual_site words k file true resend ask =
-    subst (λ ws. TakesAs ws (site k file true resend)) (sym ask.new_given.2)
-    ((takes_journal ask.others k file resend ask.ask).new ask.new_given.0 ask.new_given.1)
+  me_fits : (n : ℕ) → n < MOST_SITES → Fits site_shape (me_given n)
+  unfolding clap_on_literals
+  me_fits n high = FitsValued
+      (named site_shape _ _ (λ rows pending. refl) (λ rows pending. refl) refl refl refl refl)
+      (decimal_digits n (omega (arith, high))).plain
+      (number_passes (codes "me") true n 0 15 (omega (arith, high)) (omega arith) (omega (arith, high)))
 
-script_taken : TakesAs (codes "script" ∷ []) script
-unfolding clap_on_literals
-script_taken = (refl, refl)
+  journal_fits : (file : Text) → IsFileName file → Fits site_shape (journal_given file)
+  unfolding clap_on_literals
+  journal_fits file is = FitsValued
+      (named site_shape _ _ (λ rows pending. refl) (λ rows pending. refl) refl refl refl refl) (file_plain file is) refl
 
-histories_taken : TakesAs (codes "histories" ∷ []) histories
-unfolding clap_on_literals
-histories_taken = (refl, refl)
+  resend_fits : (n : ℕ) → n ≤ MOST_HISTORY → Fits site_shape (resend_given n)
+  unfolding clap_on_literals
+  resend_fits n high = FitsValued
+      (named site_shape _ _ (λ rows pending. refl) (λ rows pending. refl) refl refl refl refl)
+      (decimal_digits n (omega (arith, high))).plain
+      (number_passes (codes "resend") false n 0 MOST_HISTORY (omega (arith, high)) (omega arith) high)
 
-audit_taken : TakesAs (codes "audit" ∷ []) audit
-unfolding clap_on_literals
-audit_taken = (refl, refl)
+  new_fits : Fits site_shape fresh
+  unfolding clap_on_literals
+  new_fits = FitsSwitch (record {
+    met = λ rows pending. refl;
+    fault = λ rows pending settled new. switched _ false _ settled new;
+  })
 
-migrate_taken : TakesAs (codes "migrate" ∷ []) migrate
-unfolding clap_on_literals
-migrate_taken = (refl, refl)
+  -- a test of the words that an option takes reads no more than their texts
+  by_texts : (t : Text) (xs : List (Bor Text))
+      → list_any (λ name. bytes_eq name.now t) xs ≡ list_any (λ x. bytes_eq x t) (map (λ name. name.now) xs)
+  by_texts t [] = refl
+  by_texts t (x ∷ xs) = ap (λ b. bytes_eq x.now t || b) (by_texts t xs)
 
--- words that ask for something are taken, and read as that
-pub usual_words : (words : List Text) (asked : Words) → Ask words asked
-    → (fault_of command_line words ≡ []) × (words_of_matches (subcommand_of command_line words) ≡ Some (as_asked asked))
-usual_words words Script ask = subst (λ ws. TakesAs ws script) (sym ask) script_taken
-usual_words words Histories ask = subst (λ ws. TakesAs ws histories) (sym ask) histories_taken
-usual_words words Audit ask = subst (λ ws. TakesAs ws audit) (sym ask) audit_taken
-usual_words words Migrate ask = subst (λ ws. TakesAs ws migrate) (sym ask) migrate_taken
-usual_words words (Threads k m n) ask = usual_threads words k m n ask
-usual_words words (Site me journal is_new resend) ask = usual_site words me journal.now is_new resend ask
+  abbrev record_given : Record → Given
+  record_given r = valued (codes "--record") (filled (record_rule names)) (record_word r)
+
+  record_passes : (r : Record) → value_passes (filled (record_rule names)) (record_word r) ≡ true
+  record_passes r =
+      by_texts (record_word r) names.now ∙ ap (list_any (λ x. bytes_eq x (record_word r))) are_words ∙ go r
+    where
+      go : (r : Record) → list_any (λ x. bytes_eq x (record_word r)) (record_word Changes ∷ record_word All ∷ []) ≡ true
+      go Changes = refl
+      go All = refl
+
+  record_fits : (r : Record) → Fits site_shape (record_given r)
+  unfolding clap_on_literals
+  record_fits r = FitsValued
+      (named site_shape _ _ (λ rows pending. refl) (λ rows pending. refl) refl refl refl refl)
+      (plain r) (record_passes r)
+    where
+      plain : (r : Record) → IsPlain (record_word r)
+      plain Changes = refl
+      plain All = refl
+
+  -- the words are taken, and read as this
+  abbrev TakesAs : List Text → Asked → Type 0
+  TakesAs words asked =
+      (fault_of (command_line names) words ≡ [])
+      × (words_of_matches (subcommand_of (command_line names) words) ≡ Some asked)
+
+  -- words behind a command's name are the command's own
+  record AreBehind (name : Text) (s : Shape) (words : List Text) : Type 0 where
+    fault : level_fault s [] nothing_held words false [] ≡ [] → fault_of (command_line names) (name ∷ words) ≡ []
+    met : subcommand_of (command_line names) (name ∷ words) ≡ Some (name, rows_after s.rules [] words)
+
+  abbrev line : App
+  line = built (command_line names)
+
+  -- so it is where the walk stops at the name
+  behind : (name : Text) (s : Shape) (words : List Text)
+      → walked line.top.rules (names_of line) (walk_from nothing_held) name ≡ stopped_at name []
+      → turn_fault line.top (names_of line) (walk_from nothing_held) name ≡ []
+      → (level_fault s [] nothing_held words false [] ≡ [] → end_fault line (stopped_at name words) ≡ [])
+      → entered line (Some (name, words)) ≡ Some (name, rows_after s.rules [] words)
+      → AreBehind name s words
+  unfolding clap_on_literals
+  behind name s words stops starts ends met =
+      let end = walk_stopped line.top.rules (names_of line) (walk_from nothing_held) name [] words
+      ∙ ap (λ (w : Walk). fold (walked line.top.rules (names_of line)) w words) (sym stops) in
+      let none = subst (λ (w : Walk). walk_fault line.top (names_of line) w words ≡ []) (sym stops)
+      (stopped_fault line.top (names_of line) (walk_from nothing_held) (name, []) words) in
+      record {
+        fault = λ its. both_none _ _ (both_none _ _ starts none)
+            (subst (λ (w : Walk). end_fault line w ≡ []) end (ends its));
+        met = ap (λ (w : Walk). entered line w.stopped) (sym end) ∙ met;
+      }
+
+  behind_threads : (words : List Text) → AreBehind (codes "threads") (leaf threads_line) words
+  unfolding clap_on_literals
+  behind_threads words =
+      behind (codes "threads") (leaf threads_line) words refl refl (λ none. ap (λ k. or_else k []) none) refl
+
+  behind_site : (words : List Text) → AreBehind (codes "site") site_shape words
+  unfolding clap_on_literals
+  behind_site words = behind (codes "site") site_shape words refl refl (λ none. ap (λ k. or_else k []) none) refl
+
+  -- a command takes options in turn, and what it reads them as
+  taken : (name : Text) (s : Shape) (gs : List Given) (asked : Asked) → AreBehind name s (spelled gs) → Each (Fits s) gs
+      → are_enough s gs ≡ true → words_of_matches (Some (name, all_rows s gs)) ≡ Some asked
+      → TakesAs (name ∷ spelled gs) asked
+  taken name s gs asked behind fit all is =
+      let parts = enough (are_new [] gs) _ _ all in
+      let takes = takes_given s gs (all_given s [] gs fit parts.0) (no_fault _ parts.1) (no_fault _ parts.2) in (
+        behind.fault takes.0,
+        ap words_of_matches behind.met ∙ ap (λ (r : List Row). words_of_matches (Some (name, r))) takes.1 ∙ is,
+      )
+
+  -- options of a run of threads, in turn
+  threads_taken : (gs : List Given) (asked : Asked) → Each (Fits (leaf threads_line)) gs
+      → are_enough (leaf threads_line) gs ≡ true
+      → words_of_matches (Some (codes "threads", all_rows (leaf threads_line) gs)) ≡ Some asked
+      → TakesAs (codes "threads" ∷ spelled gs) asked
+  threads_taken gs asked = taken (codes "threads") (leaf threads_line) gs asked (behind_threads (spelled gs))
+
+  module _ (a b d : ℕ) (x : Fits (leaf threads_line) (sites_given a)) (y : Fits (leaf threads_line) (tellers_given b))
+      (z : Fits (leaf threads_line) (seed_given d)) (xr : numeral_value (without_minus (decimal a)) ≡ a)
+      (yr : numeral_value (without_minus (decimal b)) ≡ b) (zr : numeral_value (without_minus (decimal d)) ≡ d) where
+    abbrev sites : Given
+    sites = sites_given a
+
+    abbrev tellers : Given
+    tellers = tellers_given b
+
+    abbrev seed : Given
+    seed = seed_given d
+
+    run_is : Some (threads (numeral_value (without_minus (decimal a))) (numeral_value (without_minus (decimal b)))
+        (numeral_value (without_minus (decimal d))))
+        ≡ Some (threads a b d)
+    run_is = λ i. Some (threads (xr i) (yr i) (zr i))
+
+    sites_tellers_seed : TakesAs (codes "threads" ∷ spelled (sites ∷ tellers ∷ seed ∷ [])) (threads a b d)
+    unfolding clap_on_literals
+    sites_tellers_seed = threads_taken (sites ∷ tellers ∷ seed ∷ []) _ (x, (y, (z, tt))) refl run_is
+
+    sites_seed_tellers : TakesAs (codes "threads" ∷ spelled (sites ∷ seed ∷ tellers ∷ [])) (threads a b d)
+    unfolding clap_on_literals
+    sites_seed_tellers = threads_taken (sites ∷ seed ∷ tellers ∷ []) _ (x, (z, (y, tt))) refl run_is
+
+    tellers_sites_seed : TakesAs (codes "threads" ∷ spelled (tellers ∷ sites ∷ seed ∷ [])) (threads a b d)
+    unfolding clap_on_literals
+    tellers_sites_seed = threads_taken (tellers ∷ sites ∷ seed ∷ []) _ (y, (x, (z, tt))) refl run_is
+
+    tellers_seed_sites : TakesAs (codes "threads" ∷ spelled (tellers ∷ seed ∷ sites ∷ [])) (threads a b d)
+    unfolding clap_on_literals
+    tellers_seed_sites = threads_taken (tellers ∷ seed ∷ sites ∷ []) _ (y, (z, (x, tt))) refl run_is
+
+    seed_sites_tellers : TakesAs (codes "threads" ∷ spelled (seed ∷ sites ∷ tellers ∷ [])) (threads a b d)
+    unfolding clap_on_literals
+    seed_sites_tellers = threads_taken (seed ∷ sites ∷ tellers ∷ []) _ (z, (x, (y, tt))) refl run_is
+
+    seed_tellers_sites : TakesAs (codes "threads" ∷ spelled (seed ∷ tellers ∷ sites ∷ [])) (threads a b d)
+    unfolding clap_on_literals
+    seed_tellers_sites = threads_taken (seed ∷ tellers ∷ sites ∷ []) _ (z, (y, (x, tt))) refl run_is
+
+  -- words are taken, alone and with `--record` and its word behind them, and read as what they then ask for
+  abbrev TakesSite : List Text → (Record → Asked) → Type 0
+  TakesSite words asked = TakesAs words (asked Changes)
+      × ((r : Record) → TakesAs (words ++ codes "--record" ∷ record_word r ∷ []) (asked r))
+
+  -- so it is with these words, and with `--new` among them
+  record Takes (others : List Text) (asked : Bool → Record → Asked) : Type 0 where
+    plain : TakesSite others (asked false)
+    new : (i : ℕ) → 2 * i < length others
+        → TakesSite (take (2 * i + 1) others ++ codes "--new" ∷ drop (2 * i + 1) others) (asked true)
+
+  -- so it is with seven words, with `--new` in each of its places, or with five
+  takes_seven : (w a b d e f g : Text) (asked : Bool → Record → Asked)
+      → TakesSite (w ∷ a ∷ b ∷ d ∷ e ∷ f ∷ g ∷ []) (asked false)
+      → TakesSite (w ∷ codes "--new" ∷ a ∷ b ∷ d ∷ e ∷ f ∷ g ∷ []) (asked true)
+      → TakesSite (w ∷ a ∷ b ∷ codes "--new" ∷ d ∷ e ∷ f ∷ g ∷ []) (asked true)
+      → TakesSite (w ∷ a ∷ b ∷ d ∷ e ∷ codes "--new" ∷ f ∷ g ∷ []) (asked true)
+      → TakesSite (w ∷ a ∷ b ∷ d ∷ e ∷ f ∷ g ∷ codes "--new" ∷ []) (asked true)
+      → Takes (w ∷ a ∷ b ∷ d ∷ e ∷ f ∷ g ∷ []) asked
+  takes_seven w a b d e f g asked plain first second third last = record { plain = plain; new = go }
+    where
+      go : (i : ℕ) → 2 * i < 7 → TakesSite (take (2 * i + 1) (w ∷ a ∷ b ∷ d ∷ e ∷ f ∷ g ∷ [])
+          ++ codes "--new" ∷ drop (2 * i + 1) (w ∷ a ∷ b ∷ d ∷ e ∷ f ∷ g ∷ [])) (asked true)
+      go zero below = first
+      go (suc zero) below = second
+      go (suc (suc zero)) below = third
+      go (suc (suc (suc zero))) below = last
+      go (suc (suc (suc (suc k)))) below = absurd (omega (arith, below))
+
+  takes_five : (w a b d e : Text) (asked : Bool → Record → Asked) → TakesSite (w ∷ a ∷ b ∷ d ∷ e ∷ []) (asked false)
+      → TakesSite (w ∷ codes "--new" ∷ a ∷ b ∷ d ∷ e ∷ []) (asked true)
+      → TakesSite (w ∷ a ∷ b ∷ codes "--new" ∷ d ∷ e ∷ []) (asked true)
+      → TakesSite (w ∷ a ∷ b ∷ d ∷ e ∷ codes "--new" ∷ []) (asked true) → Takes (w ∷ a ∷ b ∷ d ∷ e ∷ []) asked
+  takes_five w a b d e asked plain first second last = record { plain = plain; new = go }
+    where
+      go : (i : ℕ) → 2 * i < 5 → TakesSite (take (2 * i + 1) (w ∷ a ∷ b ∷ d ∷ e ∷ [])
+          ++ codes "--new" ∷ drop (2 * i + 1) (w ∷ a ∷ b ∷ d ∷ e ∷ [])) (asked true)
+      go zero below = first
+      go (suc zero) below = second
+      go (suc (suc zero)) below = last
+      go (suc (suc (suc k))) below = absurd (omega (arith, below))
+
+  -- a site's options in turn, and with `--record` behind them
+  site_taken : (gs : List Given) (asked : Record → Asked) → Each (Fits site_shape) gs → are_enough site_shape gs ≡ true
+      → ((r : Record) → are_enough site_shape (gs ++ record_given r ∷ []) ≡ true)
+      → (words_of_matches (Some (codes "site", all_rows site_shape gs)) ≡ Some (asked Changes))
+      × ((r : Record) → words_of_matches (Some (codes "site", all_rows site_shape (gs ++ record_given r ∷ [])))
+      ≡ Some (asked r))
+      → TakesAs (codes "site" ∷ spelled gs) (asked Changes)
+      × ((r : Record) → TakesAs (codes "site" ∷ spelled (gs ++ record_given r ∷ [])) (asked r))
+  site_taken gs asked fit all all' is = (
+    taken (codes "site") site_shape gs (asked Changes) (behind_site (spelled gs)) fit all is.0,
+    λ r. taken (codes "site") site_shape (gs ++ record_given r ∷ []) (asked r) (behind_site _)
+        (each_append (Fits site_shape) gs _ fit (record_fits r, tt)) (all' r) (is.1 r),
+  )
+
+  -- the word for what is recorded is read as that
+  record_reads : (r : Record) → record_of (record_word r) ≡ r
+  record_reads Changes = refl
+  record_reads All = refl
+
+  -- what words for a site ask for, by whether they have `--new` and by what is recorded
+  abbrev asked : ℕ → Text → Option ℕ → Bool → Record → Asked
+  asked me file resend new r = site me file new resend r
+
+  -- numbers as they are read give what is asked for, alone and with `--record` behind
+  abbrev ReadAs : ℕ → Option ℕ → ℕ → Option ℕ → Text → Type 0
+  ReadAs k o me resend file = (new : Bool)
+      → (Some (asked k file o new Changes) ≡ Some (asked me file resend new Changes))
+      × ((r : Record) → Some (asked k file o new (record_of (record_word r))) ≡ Some (asked me file resend new r))
+
+  read_as : {k me : ℕ} {o resend : Option ℕ} (file : Text) → k ≡ me → o ≡ resend → ReadAs k o me resend file
+  read_as file x y new = (
+    λ i. Some (asked (x i) file (y i) new Changes),
+    λ r i. Some (asked (x i) file (y i) new (record_reads r i)),
+  )
+
+  module _ (a b : ℕ) (file : Text) (x : Fits site_shape (me_given a)) (y : Fits site_shape (journal_given file))
+      (z : Fits site_shape (resend_given b)) (reads : ReadAs (numeral_value (without_minus (decimal a)))
+      (Some (numeral_value (without_minus (decimal b)))) a (Some b) file) where
+    abbrev me : Given
+    me = me_given a
+
+    abbrev journal : Given
+    journal = journal_given file
+
+    abbrev resend : Given
+    resend = resend_given b
+
+    me_journal_resend : Takes (codes "site" ∷ spelled (me ∷ journal ∷ resend ∷ [])) (asked a file (Some b))
+    unfolding clap_on_literals
+    me_journal_resend = takes_seven _ _ _ _ _ _ _ _
+        (site_taken (me ∷ journal ∷ resend ∷ []) _ (x, (y, (z, tt))) refl (λ r. refl) (reads false))
+        (site_taken (fresh ∷ me ∷ journal ∷ resend ∷ []) _ (new_fits, (x, (y, (z, tt)))) refl (λ r. refl) (reads true))
+        (site_taken (me ∷ fresh ∷ journal ∷ resend ∷ []) _ (x, (new_fits, (y, (z, tt)))) refl (λ r. refl) (reads true))
+        (site_taken (me ∷ journal ∷ fresh ∷ resend ∷ []) _ (x, (y, (new_fits, (z, tt)))) refl (λ r. refl) (reads true))
+        (site_taken (me ∷ journal ∷ resend ∷ fresh ∷ []) _ (x, (y, (z, (new_fits, tt)))) refl (λ r. refl) (reads true))
+
+    me_resend_journal : Takes (codes "site" ∷ spelled (me ∷ resend ∷ journal ∷ [])) (asked a file (Some b))
+    unfolding clap_on_literals
+    me_resend_journal = takes_seven _ _ _ _ _ _ _ _
+        (site_taken (me ∷ resend ∷ journal ∷ []) _ (x, (z, (y, tt))) refl (λ r. refl) (reads false))
+        (site_taken (fresh ∷ me ∷ resend ∷ journal ∷ []) _ (new_fits, (x, (z, (y, tt)))) refl (λ r. refl) (reads true))
+        (site_taken (me ∷ fresh ∷ resend ∷ journal ∷ []) _ (x, (new_fits, (z, (y, tt)))) refl (λ r. refl) (reads true))
+        (site_taken (me ∷ resend ∷ fresh ∷ journal ∷ []) _ (x, (z, (new_fits, (y, tt)))) refl (λ r. refl) (reads true))
+        (site_taken (me ∷ resend ∷ journal ∷ fresh ∷ []) _ (x, (z, (y, (new_fits, tt)))) refl (λ r. refl) (reads true))
+
+    journal_me_resend : Takes (codes "site" ∷ spelled (journal ∷ me ∷ resend ∷ [])) (asked a file (Some b))
+    unfolding clap_on_literals
+    journal_me_resend = takes_seven _ _ _ _ _ _ _ _
+        (site_taken (journal ∷ me ∷ resend ∷ []) _ (y, (x, (z, tt))) refl (λ r. refl) (reads false))
+        (site_taken (fresh ∷ journal ∷ me ∷ resend ∷ []) _ (new_fits, (y, (x, (z, tt)))) refl (λ r. refl) (reads true))
+        (site_taken (journal ∷ fresh ∷ me ∷ resend ∷ []) _ (y, (new_fits, (x, (z, tt)))) refl (λ r. refl) (reads true))
+        (site_taken (journal ∷ me ∷ fresh ∷ resend ∷ []) _ (y, (x, (new_fits, (z, tt)))) refl (λ r. refl) (reads true))
+        (site_taken (journal ∷ me ∷ resend ∷ fresh ∷ []) _ (y, (x, (z, (new_fits, tt)))) refl (λ r. refl) (reads true))
+
+    journal_resend_me : Takes (codes "site" ∷ spelled (journal ∷ resend ∷ me ∷ [])) (asked a file (Some b))
+    unfolding clap_on_literals
+    journal_resend_me = takes_seven _ _ _ _ _ _ _ _
+        (site_taken (journal ∷ resend ∷ me ∷ []) _ (y, (z, (x, tt))) refl (λ r. refl) (reads false))
+        (site_taken (fresh ∷ journal ∷ resend ∷ me ∷ []) _ (new_fits, (y, (z, (x, tt)))) refl (λ r. refl) (reads true))
+        (site_taken (journal ∷ fresh ∷ resend ∷ me ∷ []) _ (y, (new_fits, (z, (x, tt)))) refl (λ r. refl) (reads true))
+        (site_taken (journal ∷ resend ∷ fresh ∷ me ∷ []) _ (y, (z, (new_fits, (x, tt)))) refl (λ r. refl) (reads true))
+        (site_taken (journal ∷ resend ∷ me ∷ fresh ∷ []) _ (y, (z, (x, (new_fits, tt)))) refl (λ r. refl) (reads true))
+
+    resend_me_journal : Takes (codes "site" ∷ spelled (resend ∷ me ∷ journal ∷ [])) (asked a file (Some b))
+    unfolding clap_on_literals
+    resend_me_journal = takes_seven _ _ _ _ _ _ _ _
+        (site_taken (resend ∷ me ∷ journal ∷ []) _ (z, (x, (y, tt))) refl (λ r. refl) (reads false))
+        (site_taken (fresh ∷ resend ∷ me ∷ journal ∷ []) _ (new_fits, (z, (x, (y, tt)))) refl (λ r. refl) (reads true))
+        (site_taken (resend ∷ fresh ∷ me ∷ journal ∷ []) _ (z, (new_fits, (x, (y, tt)))) refl (λ r. refl) (reads true))
+        (site_taken (resend ∷ me ∷ fresh ∷ journal ∷ []) _ (z, (x, (new_fits, (y, tt)))) refl (λ r. refl) (reads true))
+        (site_taken (resend ∷ me ∷ journal ∷ fresh ∷ []) _ (z, (x, (y, (new_fits, tt)))) refl (λ r. refl) (reads true))
+
+    resend_journal_me : Takes (codes "site" ∷ spelled (resend ∷ journal ∷ me ∷ [])) (asked a file (Some b))
+    unfolding clap_on_literals
+    resend_journal_me = takes_seven _ _ _ _ _ _ _ _
+        (site_taken (resend ∷ journal ∷ me ∷ []) _ (z, (y, (x, tt))) refl (λ r. refl) (reads false))
+        (site_taken (fresh ∷ resend ∷ journal ∷ me ∷ []) _ (new_fits, (z, (y, (x, tt)))) refl (λ r. refl) (reads true))
+        (site_taken (resend ∷ fresh ∷ journal ∷ me ∷ []) _ (z, (new_fits, (y, (x, tt)))) refl (λ r. refl) (reads true))
+        (site_taken (resend ∷ journal ∷ fresh ∷ me ∷ []) _ (z, (y, (new_fits, (x, tt)))) refl (λ r. refl) (reads true))
+        (site_taken (resend ∷ journal ∷ me ∷ fresh ∷ []) _ (z, (y, (x, (new_fits, tt)))) refl (λ r. refl) (reads true))
+
+  module _ (a : ℕ) (file : Text) (x : Fits site_shape (me_given a)) (y : Fits site_shape (journal_given file))
+      (reads : ReadAs (numeral_value (without_minus (decimal a))) None a None file) where
+    me_journal : Takes (codes "site" ∷ spelled (me_given a ∷ journal_given file ∷ [])) (asked a file None)
+    unfolding clap_on_literals
+    me_journal = takes_five _ _ _ _ _ _
+        (site_taken (me_given a ∷ journal_given file ∷ []) _ (x, (y, tt)) refl (λ r. refl) (reads false))
+        (site_taken (fresh ∷ me_given a ∷ journal_given file ∷ []) _ (new_fits, (x, (y, tt))) refl (λ r. refl) (reads true))
+        (site_taken (me_given a ∷ fresh ∷ journal_given file ∷ []) _ (x, (new_fits, (y, tt))) refl (λ r. refl) (reads true))
+        (site_taken (me_given a ∷ journal_given file ∷ fresh ∷ []) _ (x, (y, (new_fits, tt))) refl (λ r. refl) (reads true))
+
+    journal_me : Takes (codes "site" ∷ spelled (journal_given file ∷ me_given a ∷ [])) (asked a file None)
+    unfolding clap_on_literals
+    journal_me = takes_five _ _ _ _ _ _
+        (site_taken (journal_given file ∷ me_given a ∷ []) _ (y, (x, tt)) refl (λ r. refl) (reads false))
+        (site_taken (fresh ∷ journal_given file ∷ me_given a ∷ []) _ (new_fits, (y, (x, tt))) refl (λ r. refl) (reads true))
+        (site_taken (journal_given file ∷ fresh ∷ me_given a ∷ []) _ (y, (new_fits, (x, tt))) refl (λ r. refl) (reads true))
+        (site_taken (journal_given file ∷ me_given a ∷ fresh ∷ []) _ (y, (x, (new_fits, tt))) refl (λ r. refl) (reads true))
+
+  -- ---- the words that ask
+
+  usual_threads : (words : List Text) (k m n : ℕ) → AskForThreads words k m n → TakesAs words (threads k m n)
+  usual_threads words k m n ask =
+      seven (λ ws. AskForThreads ws k m n → TakesAs ws (threads k m n)) (λ w a b d e f g is.
+      let x = sites_fit k is.some_sites is.few_sites in
+      let y = tellers_fit m is.some_tellers is.few_tellers in
+      let z = seed_fits n is.seed_fits in
+      let xr = reads k _ (decimal_digits k (omega (arith, is.few_sites))) in
+      let yr = reads m _ (decimal_digits m (omega (arith, is.few_tellers))) in
+      let zr = reads n _ (decimal_digits n (omega (arith, is.seed_fits))) in
+      subst (λ u. TakesAs (u ∷ a ∷ b ∷ d ∷ e ∷ f ∷ g ∷ []) (threads k m n)) (sym (some_same _ _ is.first))
+      (in_any_order (λ ws. TakesAs ws (threads k m n)) (codes "threads") a b d e f g _ _ _ _ _ _ refl refl refl
+      (in_three _ _ _ _ _ _ _ is.sites_given.0 _ _ is.sites_given.1 is.sites_given.2)
+      (in_three _ _ _ _ _ _ _ is.tellers_given.0 _ _ is.tellers_given.1 is.tellers_given.2)
+      (in_three _ _ _ _ _ _ _ is.seed_given.0 _ _ is.seed_given.1 is.seed_given.2)
+      (sites_tellers_seed k m n x y z xr yr zr) (sites_seed_tellers k m n x y z xr yr zr)
+      (tellers_sites_seed k m n x y z xr yr zr) (tellers_seed_sites k m n x y z xr yr zr)
+      (seed_sites_tellers k m n x y z xr yr zr) (seed_tellers_sites k m n x y z xr yr zr)))
+      words ask.count ask
+
+  -- words without `--record` and `--new` are taken, and with these
+  takes_journal : (words : List Text) (k : ℕ) (file : Text) (resend : Option ℕ) → AskForJournal words k file resend
+      → Takes words (asked k file resend)
+  takes_journal words k file None ask =
+      five (λ ws. AskForJournal ws k file None → Takes ws (asked k file None)) (λ w a b d e is.
+      subst (λ u. Takes (u ∷ a ∷ b ∷ d ∷ e ∷ []) (asked k file None)) (sym (some_same _ _ is.first))
+      (go a b d e (me_fits k is.is_site) (journal_fits file is.is_file)
+      (read_as file (reads k _ (decimal_digits k (omega (arith, is.is_site)))) refl)
+      (in_two _ _ _ _ _ is.me_given.0 _ _ is.me_given.1 is.me_given.2)
+      (in_two _ _ _ _ _ is.journal_given.0 _ _ is.journal_given.1 is.journal_given.2))) words ask.resent ask
+    where
+      go : (a b d e : Text) (x : Fits site_shape (me_given k)) (y : Fits site_shape (journal_given file))
+          (read : ReadAs (numeral_value (without_minus (decimal k))) None k None file)
+          → Pair a b (codes "--me") (decimal k) ⊎ Pair d e (codes "--me") (decimal k)
+          → Pair a b (codes "--journal") file ⊎ Pair d e (codes "--journal") file
+          → Takes (codes "site" ∷ a ∷ b ∷ d ∷ e ∷ []) (asked k file None)
+      go a b d e x y read (inl s) (inl t) = absurd (no_both _ (codes "--me") (codes "--journal") refl s.0 t.0)
+      go a b d e x y read (inr s) (inr t) = absurd (no_both _ (codes "--me") (codes "--journal") refl s.0 t.0)
+      go a b d e x y read (inl s) (inr t) =
+          subst (λ ws. Takes ws (asked k file None)) (five_words s.0 s.1 t.0 t.1) (me_journal k file x y read)
+      go a b d e x y read (inr s) (inl t) =
+          subst (λ ws. Takes ws (asked k file None)) (five_words t.0 t.1 s.0 s.1) (journal_me k file x y read)
+  takes_journal words k file (Some n) ask =
+      seven (λ ws. AskForJournal ws k file (Some n) → Takes ws (asked k file (Some n))) (λ w a b d e f g is.
+      let x = me_fits k is.is_site in
+      let y = journal_fits file is.is_file in
+      let z = resend_fits n is.resent.2 in
+      let read = read_as file (reads k _ (decimal_digits k (omega (arith, is.is_site))))
+      (ap Some (reads n _ (decimal_digits n (omega (arith, is.resent.2))))) in
+      subst (λ u. Takes (u ∷ a ∷ b ∷ d ∷ e ∷ f ∷ g ∷ []) (asked k file (Some n))) (sym (some_same _ _ is.first))
+      (in_any_order (λ ws. Takes ws (asked k file (Some n))) (codes "site") a b d e f g _ _ _ _ _ _ refl refl refl
+      (in_three _ _ _ _ _ _ _ is.me_given.0 _ _ is.me_given.1 is.me_given.2)
+      (in_three _ _ _ _ _ _ _ is.journal_given.0 _ _ is.journal_given.1 is.journal_given.2)
+      (in_three _ _ _ _ _ _ _ is.resent.1.0 _ _ is.resent.1.1 is.resent.1.2)
+      (me_journal_resend k n file x y z read) (me_resend_journal k n file x y z read)
+      (journal_me_resend k n file x y z read) (journal_resend_me k n file x y z read)
+      (resend_me_journal k n file x y z read) (resend_journal_me k n file x y z read)))
+      words ask.resent.0 ask
+
+  -- so it is with `--new` among them, if a new journal is asked for
+  takes_new : (before : List Text) (k : ℕ) (file : Text) (new : Bool) (resend : Option ℕ) (others : List Text)
+      → IsNewGiven new before others → AskForJournal others k file resend → TakesSite before (asked k file resend new)
+  takes_new before k file false resend others given ask =
+      subst (λ ws. TakesSite ws (asked k file resend false)) (sym given) (takes_journal others k file resend ask).plain
+  takes_new before k file true resend others given ask =
+      subst (λ ws. TakesSite ws (asked k file resend true)) (sym given.2)
+      ((takes_journal others k file resend ask).new given.0 given.1)
+
+  usual_site : (words : List Text) (k : ℕ) (file : Text) (new : Bool) (resend : Option ℕ) (recorded : Record)
+      → AskForSite words k file new resend recorded → TakesAs words (site k file new resend recorded)
+  usual_site words k file new resend recorded ask =
+      let takes = takes_new ask.before k file new resend ask.others ask.new_given ask.ask in
+      elim ask.record_given [
+        | inl is ↦ subst (λ ws. TakesAs ws (site k file new resend recorded)) (sym is) (takes.1 recorded)
+        | inr none ↦
+            subst (λ r. TakesAs words (site k file new resend r)) (sym none.0)
+            (subst (λ ws. TakesAs ws (site k file new resend Changes)) (sym none.1) takes.0)
+      ]
+
+  script_taken : TakesAs (codes "script" ∷ []) script
+  unfolding clap_on_literals
+  script_taken = (refl, refl)
+
+  histories_taken : TakesAs (codes "histories" ∷ []) histories
+  unfolding clap_on_literals
+  histories_taken = (refl, refl)
+
+  audit_taken : TakesAs (codes "audit" ∷ []) audit
+  unfolding clap_on_literals
+  audit_taken = (refl, refl)
+
+  migrate_taken : TakesAs (codes "migrate" ∷ []) migrate
+  unfolding clap_on_literals
+  migrate_taken = (refl, refl)
+
+  -- words that ask for something are taken, and read as that
+  pub usual_words : (words : List Text) (asked : Words) → Ask words asked → TakesAs words (as_asked asked)
+  usual_words words Script ask = subst (λ ws. TakesAs ws script) (sym ask) script_taken
+  usual_words words Histories ask = subst (λ ws. TakesAs ws histories) (sym ask) histories_taken
+  usual_words words Audit ask = subst (λ ws. TakesAs ws audit) (sym ask) audit_taken
+  usual_words words Migrate ask = subst (λ ws. TakesAs ws migrate) (sym ask) migrate_taken
+  usual_words words (Threads k m n) ask = usual_threads words k m n ask
+  usual_words words (Site me journal is_new resend recorded) ask =
+      usual_site words me journal.now is_new resend recorded ask

@@ -1,15 +1,20 @@
 -- The words that ask for each thing, the command line that takes them, and what it reads them as.
-use Rattle.std.specs.Prelude.{◌≡◌, ◌<◌, ◌≤◌, ◌+◌, ◌*◌, ◌^◌, ◌⊎◌, ℕ, pos, List, [], ◌∷◌, ◌++◌, length, take, drop, codes, decimal}
+use Rattle.std.specs.Prelude.{◌≡◌, ◌<◌, ◌≤◌, ◌+◌, ◌*◌, ◌^◌, ◌⊎◌, ℕ, pos, List, [], ◌∷◌, ◌++◌, length, map, take, drop, codes, decimal}
 use Rattle.std.specs.Prelude.{Bool, true, false}
 use Rattle.std.specs.Option.{option_map_or}
-use Rattle.std.specs.Prelude.{Option, None, Some, IfSome, if◌then◌else◌, option_map, slice_get}
+use Rattle.std.specs.Prelude.{Option, None, Some, IfSome, Result, if◌then◌else◌, option_map, slice_get}
+use Rattle.std.specs.Borrow.{Bor}
 use Rattle.std.specs.Str.{bytes_eq}
 use Rattle.std.specs.Str.Parse.{IsNumeral, digits_value, without_leading_plus}
-use Rattle.clap.specs.Words.{App, Row, Rule, Shape, Text, first_of, new_app, new_rule, one_of, subcommand_of, with_rule, with_subcommand}
+use Rattle.clap.specs.Words.{App, FailsBy, Row, Rule, Shape, Text, fault_of, first_of, new_app, new_rule, one_of, subcommand_of}
+use Rattle.clap.specs.Words.{with_rule, with_subcommand}
 use Rattle.clap.specs.declared.builder.action.ArgAction.TheVariants.{SetTrue}
 use Rattle.clap.specs.declared.builder.value_parser.ValueParser.{ValueParser}
-use Rattle.clap.specs.declared.builder.value_parser.ValueParser.TheVariants.{Signed}
+use Rattle.clap.specs.declared.error.Error.{Error}
+use Rattle.clap.specs.declared.builder.value_parser.ValueParser.TheVariants.{Names, Signed}
 use Rattle.rb_money.specs.declared.limits.TheConstants.{MOST_HISTORY, MOST_SITES}
+use Rattle.rb_cli.specs.declared.recorded.Record.{Record}
+use Rattle.rb_cli.specs.declared.recorded.Record.TheVariants.{Changes, All}
 use Rattle.rb_cli.specs.declared.words.TheConstants.{MOST_TELLERS}
 use Rattle.rb_cli.specs.declared.words.Words.{Words}
 use Rattle.rb_cli.specs.declared.words.Words.TheVariants.{Script, Histories, Audit, Migrate, Threads, Site}
@@ -59,10 +64,24 @@ pub record AskForJournal (words : List (List ℕ)) (me : ℕ) (journal : List �
   pub is_file : IsFileName journal
   pub resent : IsResend words resend
 
--- the words ask for a site, whose journal is to be made or has to be there
-pub record AskForSite (words : List (List ℕ)) (me : ℕ) (journal : List ℕ) (is_new : Bool) (resend : Option ℕ) : Type 0 where
+-- the word for which events are recorded
+abbrev pub record_word : Record → List ℕ
+record_word Changes = codes "changes"
+record_word All = codes "all"
+
+-- the words are these others, with `--record` and the word for what is recorded behind all of them; or without both,
+-- where changes are recorded
+abbrev pub IsRecordGiven : Record → List (List ℕ) → List (List ℕ) → Type 0
+IsRecordGiven recorded words others =
+    (words ≡ others ++ codes "--record" ∷ record_word recorded ∷ []) ⊎ ((recorded ≡ Changes) × (words ≡ others))
+
+-- the words ask for a site, whose journal is to be made or has to be there, and which records these events
+pub record AskForSite (words : List (List ℕ)) (me : ℕ) (journal : List ℕ) (is_new : Bool) (resend : Option ℕ)
+    (recorded : Record) : Type 0 where
+  pub before : List (List ℕ)
+  pub record_given : IsRecordGiven recorded words before
   pub others : List (List ℕ)
-  pub new_given : IsNewGiven is_new words others
+  pub new_given : IsNewGiven is_new before others
   pub ask : AskForJournal others me journal resend
 
 -- what the words after the program's name ask for
@@ -72,7 +91,7 @@ Ask words Histories = words ≡ codes "histories" ∷ []
 Ask words Audit = words ≡ codes "audit" ∷ []
 Ask words Migrate = words ≡ codes "migrate" ∷ []
 Ask words (Threads sites tellers seed) = AskForThreads words sites tellers seed
-Ask words (Site me journal is_new resend) = AskForSite words me journal.now is_new resend
+Ask words (Site me journal is_new resend recorded) = AskForSite words me journal.now is_new resend recorded
 
 -- ---- the command line
 
@@ -99,13 +118,27 @@ threads_line =
     (with_rule (with_rule (new_app (codes "threads")) (option_rule (codes "sites") (within 2 MOST_SITES) true))
     (option_rule (codes "tellers") (within 1 MOST_TELLERS) true)) (option_rule (codes "seed") (within 0 4294967295) true)
 
+-- texts behind references, as the rule of an option holds those that it takes
+abbrev pub TextRefs : Type 0
+TextRefs = Bor (List (Bor Text))
+
+-- the two words for which events are recorded. An option's rule holds its words by reference, so each rule and command
+-- line with them takes the place where they lie in memory; nothing that is read or refused depends on it
+abbrev pub AreRecordWords : TextRefs → Type 0
+AreRecordWords names = map (λ name. name.now) names.now ≡ record_word Changes ∷ record_word All ∷ []
+
+-- the option for which events are recorded, with its words in this place
+abbrev pub record_rule : TextRefs → Rule
+record_rule names = option_rule (codes "record") (Some (Names names)) false
+
 -- a site, with its options
-abbrev pub site_line : App
-site_line =
+abbrev pub site_line : TextRefs → App
+site_line names =
     with_rule
     (with_rule
+    (with_rule
     (with_rule (with_rule (new_app (codes "site")) (option_rule (codes "me") (within 0 15) true)) (option_rule (codes "journal") None true))
-    (switch_rule (codes "new"))) (option_rule (codes "resend") (within 0 MOST_HISTORY) false)
+    (switch_rule (codes "new"))) (option_rule (codes "resend") (within 0 MOST_HISTORY) false)) (record_rule names)
 
 -- the command line with the subcommands that have no options
 abbrev pub plain_line : App
@@ -116,8 +149,19 @@ plain_line =
     (new_app (codes "audit")).top) (new_app (codes "migrate")).top
 
 -- the command line: a subcommand for each thing
-abbrev pub command_line : App
-command_line = with_subcommand (with_subcommand plain_line threads_line.top) site_line.top
+abbrev pub command_line : TextRefs → App
+command_line names = with_subcommand (with_subcommand plain_line threads_line.top) (site_line names).top
+
+-- the rule is that of the option for which events are recorded; the command is that of a site; and this is the command
+-- line. Each has the option's two words, wherever they lie
+abbrev pub IsRecordRule : Rule → Type 0
+IsRecordRule rule = (names : TextRefs) × AreRecordWords names × (rule ≡ record_rule names)
+
+abbrev pub IsSiteLine : App → Type 0
+IsSiteLine app = (names : TextRefs) × AreRecordWords names × (app ≡ site_line names)
+
+abbrev pub IsCommandLine : App → Type 0
+IsCommandLine app = (names : TextRefs) × AreRecordWords names × (app ≡ command_line names)
 
 -- ---- what the command line reads words as
 
@@ -128,7 +172,7 @@ pub data Asked : Type 0 where
   audit : Asked
   migrate : Asked
   threads : ℕ → ℕ → ℕ → Asked
-  site : ℕ → Text → Bool → Option ℕ → Asked
+  site : ℕ → Text → Bool → Option ℕ → Record → Asked
 
 abbrev pub as_asked : Words → Asked
 as_asked Script = script
@@ -136,7 +180,7 @@ as_asked Histories = histories
 as_asked Audit = audit
 as_asked Migrate = migrate
 as_asked (Threads sites tellers seed) = threads sites tellers seed
-as_asked (Site me journal is_new resend) = site me journal.now is_new resend
+as_asked (Site me journal is_new resend recorded) = site me journal.now is_new resend recorded
 
 -- the number that a text is, which may have a plus sign and zeros in front
 abbrev pub numeral_value : Text → ℕ
@@ -150,6 +194,14 @@ number_at name rows = option_map numeral_value (one_of name rows)
 abbrev pub switch_at : Text → List Row → Bool
 switch_at name rows = option_map_or (λ text. bytes_eq text (codes "true")) (one_of name rows) false
 
+-- what a word says is recorded
+abbrev pub record_of : Text → Record
+record_of text = if bytes_eq text (record_word All) then All else Changes
+
+-- what is recorded by the word of the option, if it is given; else changes are
+abbrev pub choice_at : List Row → Record
+choice_at rows = option_map_or record_of (first_of (codes "record") rows) Changes
+
 -- a run of threads has all three of its options
 abbrev pub with_run : Option ℕ → Option ℕ → Option ℕ → Option Asked
 with_run (Some sites) (Some tellers) (Some seed) = Some (threads sites tellers seed)
@@ -158,15 +210,15 @@ with_run _ _ _ = None
 abbrev pub threads_asked : List Row → Option Asked
 threads_asked rows = with_run (number_at (codes "sites") rows) (number_at (codes "tellers") rows) (number_at (codes "seed") rows)
 
--- a site has its number and its file, which may be a new one, and may have how many last entries' messages are written
--- again
-abbrev pub with_site_options : Option ℕ → Option Text → Bool → Option ℕ → Option Asked
-with_site_options (Some me) (Some journal) is_new resend = Some (site me journal is_new resend)
-with_site_options _ _ _ _ = None
+-- a site has its number and its file, which may be a new one, may have how many last entries' messages are written
+-- again, and records these events
+abbrev pub with_site_options : Option ℕ → Option Text → Bool → Option ℕ → Record → Option Asked
+with_site_options (Some me) (Some journal) is_new resend recorded = Some (site me journal is_new resend recorded)
+with_site_options _ _ _ _ _ = None
 
 abbrev pub site_asked : List Row → Option Asked
 site_asked rows = with_site_options (number_at (codes "me") rows) (first_of (codes "journal") rows) (switch_at (codes "new") rows)
-    (number_at (codes "resend") rows)
+    (number_at (codes "resend") rows) (choice_at rows)
 
 -- what a command with its options asks for
 abbrev pub words_of_command : Text → List Row → Option Asked
@@ -182,7 +234,13 @@ words_of_matches (Some met) = words_of_command met.0 met.1
 
 -- the words are read as this
 abbrev pub AreReadAs : List Text → Words → Type 0
-AreReadAs words asked = words_of_matches (subcommand_of command_line words) ≡ Some (as_asked asked)
+AreReadAs words asked = (line : App) × IsCommandLine line
+    × (words_of_matches (subcommand_of line words) ≡ Some (as_asked asked))
+
+-- a result is Ok only if the command line takes the words, and its error's kind is what is wrong with them, or out of
+-- memory
+abbrev pub FailsByWords : {T : Type 0} → List Text → Result T Error → Type 0
+FailsByWords words result = (line : App) × IsCommandLine line × FailsBy (fault_of line words) result
 
 -- if words in their usual spelling ask for something, it is this
 abbrev pub IsAsUsual : List Text → Words → Type 0
@@ -192,7 +250,7 @@ IsAsUsual words asked = (usual : Words) → Ask words usual → as_asked asked �
 abbrev pub IsInRange : Asked → Type 0
 IsInRange (threads sites tellers seed) =
     (2 ≤ sites) × (sites ≤ MOST_SITES) × (1 ≤ tellers) × (tellers ≤ MOST_TELLERS) × (seed < 2 ^ 32)
-IsInRange (site me journal is_new resend) = (me < MOST_SITES) × IfSome resend (λ n. n ≤ MOST_HISTORY)
+IsInRange (site me journal is_new resend recorded) = (me < MOST_SITES) × IfSome resend (λ n. n ≤ MOST_HISTORY)
 IsInRange _ = Unit {0}
 
 -- ---- what is known of the options of a command that was met

@@ -2,7 +2,7 @@
 ghost use Rattle.std.specs.Prelude.{◌≡◌, None, codes, false, pos, true};
 ghost use Rattle.clap.specs.Words.{rule_of};
 ghost use Rattle.clap.specs.declared.builder.value_parser.ValueParser.TheVariants.{Signed};
-ghost use Rattle.rb_cli.specs.Words.{option_rule, switch_rule, within};
+ghost use Rattle.rb_cli.specs.Words.{IsRecordRule, option_rule, switch_rule, within};
 ghost use Rattle.rb_money.specs.declared.limits.TheConstants.{MOST_HISTORY as most_resent, MOST_SITES as most_sites};
 ghost use Rattle.rb_cli.specs.declared.words.TheConstants.{MOST_TELLERS as most_tellers};
 
@@ -107,4 +107,16 @@ pub fn resend<'a>(alloc: Global) -> Arg<'a>
 {
     let resend = option(alloc, "resend", "N", texts::RESEND, false);
     with_numbers(resend, 0, MOST_HISTORY)
+}
+
+/// Which events the site records.
+pub fn recorded<'a>(alloc: Global) -> Arg<'a>
+    ensures rule { IsRecordRule (rule_of result) }
+    ensures local { result.global ≡ false }
+{
+    let words: &'a [&'a str] = &["changes", "all"];
+    let option = option(alloc, "record", "WHICH", texts::RECORD, false);
+    option
+        .value_parser(ValueParser::Names(words))
+        .hide_possible_values(true)
 }

@@ -2,7 +2,7 @@
 ghost use Rattle.std.specs.Prelude.{◌≡◌, [], false, true, IfOk, codes};
 ghost use Rattle.clap.specs.Words.{app_of, new_app, rule_of, with_rule, with_subcommand};
 ghost use Rattle.clap.specs.declared.builder.command.Command.TheViews.{out-Command};
-ghost use Rattle.rb_cli.specs.Words.{command_line as line, plain_line, site_line, threads_line, top_line};
+ghost use Rattle.rb_cli.specs.Words.{IsCommandLine, IsSiteLine, plain_line, threads_line, top_line};
 
 use crate::{arguments, texts};
 use clap::{Arg, Command};
@@ -47,7 +47,7 @@ fn threads<'a>(alloc: Global) -> Result<Command<'a>, AllocError>
 
 /// The command for one site, with its options.
 fn site<'a>(alloc: Global) -> Result<Command<'a>, AllocError>
-    ensures shape { IfOk result (λ command. app_of command ≡ site_line) }
+    ensures shape { IfOk result (λ command. IsSiteLine (app_of command)) }
     ensures local { IfOk result (λ command. (out-Command command).has_globals ≡ false) }
 {
     let options = vec![in alloc;
@@ -55,6 +55,7 @@ fn site<'a>(alloc: Global) -> Result<Command<'a>, AllocError>
         arguments::journal(alloc),
         arguments::new_file(alloc),
         arguments::resend(alloc),
+        arguments::recorded(alloc),
     ]?;
     part(
         alloc,
@@ -135,7 +136,7 @@ fn migrate<'a>(alloc: Global) -> Command<'a>
 
 /// The command line that the program takes.
 pub fn command_line<'a>(alloc: Global) -> Result<Command<'a>, AllocError>
-    ensures { IfOk result (λ command. app_of command ≡ line) }
+    ensures { IfOk result (λ command. IsCommandLine (app_of command)) }
 {
     let threads = threads(alloc)?;
     let site = site(alloc)?;

@@ -4,7 +4,9 @@
 
 mod arguments;
 mod command_line;
+mod recorded;
 mod texts;
 mod words;
 
+pub use recorded::Record;
 pub use words::{MOST_TELLERS, Words, read_words};

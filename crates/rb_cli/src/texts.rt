@@ -20,7 +20,8 @@ pub const AUDIT_USAGE: &str = "rbbank audit < HISTORIES";
 pub const MIGRATE_USAGE: &str = "rbbank migrate < HISTORIES";
 
 /// How `site` is used.
-pub const SITE_USAGE: &str = "rbbank site --me S --journal FILE [--new] [--resend N] < EVENTS";
+pub const SITE_USAGE: &str =
+    "rbbank site --me S --journal FILE [--new] [--resend N] [--record changes|all] < EVENTS";
 
 /// How `threads` is used.
 pub const THREADS_USAGE: &str = "rbbank threads --sites K --tellers T --seed S";
@@ -69,6 +70,9 @@ pub const NEW: &str = "Makes the file, or takes an empty one; without it the fil
 /// What `--resend` is.
 pub const RESEND: &str =
     "How many of the last entries have their messages written again, 0 to 100000000; all without it";
+
+/// What `--record` is.
+pub const RECORD: &str = "Which events are recorded: changes (the default) or all";
 
 /// A script with its replies, the refusals and the statuses.
 pub const SCRIPT_HELP: &str =
@@ -226,6 +230,9 @@ site has, and {"resend":N} writes the messages of its last N entries again.
 Without --new the journal has to be there, and goes on: first the messages of its last N entries are written again,
 those of all entries if --resend isn't given. With --new it isn't there, or is empty: no other operations are made
 under names that are taken. What a crash left behind its last line is kept in FILE.cut.
+
+An event that changes nothing, as a balance, a refusal or a message that the site has, is answered and not recorded.
+With --record all each event is, but one that changes nothing and whose line in the journal would be too long.
 
 The options have any order, as --me 0 or as --me=0; a file's name that begins with - is written ./-
 

@@ -1,11 +1,12 @@
 //! What a command line asks for.
 ghost use Rattle.std.specs.Prelude.{◌≡◌, codes, map, option_map, IfErr, IfOk, IfSome};
-ghost use Rattle.clap.specs.Words.{FailsBy, fault_of, found_of, kind_of, rows_of, subcommand_rows_of};
+ghost use Rattle.clap.specs.Words.{found_of, kind_of, rows_of, subcommand_rows_of};
 ghost use Rattle.clap.specs.declared.error.kind.ErrorKind.TheVariants.{OutOfMemory};
-ghost use Rattle.rb_cli.specs.Words.{AreFit, Ask, FitsWithin, HasSwitchWord, IsAsUsual, IsInRange, AreReadAs, as_asked};
-ghost use Rattle.rb_cli.specs.Words.{command_line as line, number_at, site_asked, switch_at, threads_asked};
-ghost use Rattle.rb_cli.specs.Words.{words_of_matches};
+ghost use Rattle.rb_cli.specs.Words.{AreFit, AreReadAs, Ask, FailsByWords, FitsWithin, HasSwitchWord, IsAsUsual};
+ghost use Rattle.rb_cli.specs.Words.{IsInRange, as_asked, number_at, choice_at, record_of, site_asked, switch_at};
+ghost use Rattle.rb_cli.specs.Words.{threads_asked, words_of_matches};
 
+use crate::Record;
 use crate::command_line::command_line;
 use clap::{ArgMatches, Error};
 use std::alloc::Global;
@@ -32,12 +33,14 @@ pub enum Words<'a> {
         seed: u32,
     },
     /// To run this site, 0 to `MOST_SITES` - 1, whose history is kept in this file, which is made if it is a new one.
-    /// The messages of its last `resend` entries, 0 to `MOST_HISTORY`, are written again first, or those of all.
+    /// The messages of its last `resend` entries, 0 to `MOST_HISTORY`, are written again first, or those of all. It
+    /// records the events that `record` says.
     Site {
         me: u8,
         journal: &'a str,
         is_new: bool,
         resend: Option<u32>,
+        record: Record,
     },
 }
 
@@ -55,6 +58,27 @@ fn switch(given: &ArgMatches, name: &str) -> bool
     ensures { result ≡ switch_at name.now (rows_of (found_of given.now)) }
 {
     given.get_flag(name)
+}
+
+/// Which events are recorded by the option's word.
+fn record_named(word: &str) -> Record
+    ensures { result ≡ record_of word.now }
+{
+    if word == "all" {
+        Record::All
+    } else {
+        Record::Changes
+    }
+}
+
+/// Which events are recorded, by the option for it or without it.
+fn recorded(given: &ArgMatches) -> Record
+    ensures { result ≡ choice_at (rows_of (found_of given.now)) }
+{
+    match given.get_str("record") {
+        Some(word) => record_named(word),
+        None => Record::Changes,
+    }
 }
 
 /// The run of threads that its options ask for.
@@ -81,11 +105,13 @@ fn site<'a>(given: &ArgMatches<'a>) -> Option<Words<'a>>
     let journal = given.get_str("journal")?;
     let is_new = switch(given, "new");
     let resend = number(given, "resend");
+    let record = recorded(given);
     Some(Words::Site {
         me: me as u8,
         journal,
         is_new,
         resend,
+        record,
     })
 }
 
@@ -114,7 +140,7 @@ pub fn read_words<'a>(alloc: Global, words: &'a [&'a str]) -> Result<Words<'a>, 
     ensures ranges { IfOk result (λ asked. IsInRange (as_asked asked)) }
     // Ok comes only for words that the command line takes, and an error's kind is what is wrong with the words, or out
     // of memory: help and the version only if they ask for it.
-    ensures kinds { FailsBy (fault_of line (map (λ word. word.now) words.entry.now)) result }
+    ensures kinds { FailsByWords (map (λ word. word.now) words.entry.now) result }
     // Words that ask for something, each option's name and value in a word of its own, are read as that, and refused
     // for want of memory alone.
     ensures usual { IfOk result (IsAsUsual (map (λ word. word.now) words.entry.now)) }

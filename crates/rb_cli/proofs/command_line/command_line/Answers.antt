@@ -4,7 +4,7 @@ use Rattle.std.proofs.lemmas.Result.{IfOk-weaker}
 use Rattle.clap.specs.Words.{AddsInTurn, AddsSubcommand, App, app_of, with_subcommand}
 use Rattle.clap.specs.declared.builder.command.Command.{Command}
 use Rattle.clap.specs.declared.builder.command.Command.TheViews.{out-Command}
-use Rattle.rb_cli.specs.Words.{command_line}
+use Rattle.rb_cli.specs.Words.{IsCommandLine}
 use Rattle.rb_cli.proofs.command_line.command_line.Goals as goal
 
 -- one more command
@@ -18,12 +18,12 @@ returns c =
     let Adds = AddsInTurn AddsSubcommand c.top.result in
     let threads = c.in_ok-threads.ensures in
     let site = c.in_ok-site.ensures in
-    IfOk-weaker c.subcommands.result (Adds c.in_ok-parts.parts.items) (λ it. app_of it ≡ command_line) (λ it in_turn.
+    IfOk-weaker c.subcommands.result (Adds c.in_ok-parts.parts.items) (λ it. IsCommandLine (app_of it)) (λ it in_turn.
     let all = subst (λ parts. Adds parts it) c.in_ok-parts.ensures.items in_turn in
     let one = added _ _ all.0 _ _ c.top.ensures c.script.ensures.shape c.script.ensures.local all.1 in
     let two = added _ _ all.2.0 _ _ one c.histories.ensures.shape c.histories.ensures.local all.2.1 in
     let three = added _ _ all.2.2.0 _ _ two c.audit.ensures.shape c.audit.ensures.local all.2.2.1 in
     let four = added _ _ all.2.2.2.0 _ _ three c.migrate.ensures.shape c.migrate.ensures.local all.2.2.2.1 in
     let five = added _ _ all.2.2.2.2.0 _ _ four threads.shape threads.local all.2.2.2.2.1 in
-    let six = added _ _ all.2.2.2.2.2.0 _ _ five site.shape site.local all.2.2.2.2.2.1 in
-    ap app_of (sym all.2.2.2.2.2.2) ∙ six) c.subcommands.ensures
+    let six = added _ _ all.2.2.2.2.2.0 _ _ five site.shape.2 site.local all.2.2.2.2.2.1 in
+    (site.shape.0, site.shape.1, ap app_of (sym all.2.2.2.2.2.2) ∙ six)) c.subcommands.ensures

@@ -3,24 +3,27 @@ use Rattle.std.proofs.Common.{arith}
 use Rattle.std.specs.Prelude.{IfOk}
 use Rattle.std.proofs.lemmas.Result.{IfOk-weaker}
 use Rattle.rb_cli.specs.Words.{site_line}
-use Rattle.rb_cli.proofs.Added.{Is, with_four}
+use Rattle.rb_cli.proofs.Added.{Is, with_five}
 use Rattle.rb_cli.proofs.command_line.site.Goals as goal
 
 pub vec-requires : goal.vec-requires
 vec-requires c = omega arith
 
-added : (c : goal.After-args-2) → IfOk c.args-2.result (λ command. Is command site_line)
+added : (c : goal.After-args-2) → IfOk c.args-2.result (λ command. Is command (site_line c.recorded.ensures.rule.0))
 added c =
-    with_four c.part.result c.me.result c.journal.result c.new_file.result c.resend.result _ c.args-2.result _ _ _ _ _
+    with_five c.part.result c.me.result c.journal.result c.new_file.result c.resend.result c.recorded.result _ c.args-2.result _ _ _ _ _ _
     c.in_ok-options.ensures.items
     record { shape = c.part.ensures.shape; local = c.part.ensures.local }
     record { rule_is = c.me.ensures.rule; local = c.me.ensures.local }
     record { rule_is = c.journal.ensures.rule; local = c.journal.ensures.local }
     record { rule_is = c.new_file.ensures.rule; local = c.new_file.ensures.local }
-    record { rule_is = c.resend.ensures.rule; local = c.resend.ensures.local } c.args-2.ensures
+    record { rule_is = c.resend.ensures.rule; local = c.resend.ensures.local }
+    record { rule_is = c.recorded.ensures.rule.2; local = c.recorded.ensures.local } c.args-2.ensures
 
 pub returns-clause-shape : goal.returns-clause-shape
-returns-clause-shape c = IfOk-weaker c.args-2.result _ _ (λ _ is. is.shape) (added c)
+returns-clause-shape c =
+    let words = c.recorded.ensures.rule in
+    IfOk-weaker c.args-2.result _ _ (λ _ is. (words.0, words.1, is.shape)) (added c)
 
 pub returns-clause-local : goal.returns-clause-local
 returns-clause-local c = IfOk-weaker c.args-2.result _ _ (λ _ is. is.local) (added c)

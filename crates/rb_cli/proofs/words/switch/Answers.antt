@@ -1,5 +1,5 @@
 -- A switch is given if its word is true.
-use Rattle.std.proofs.Common.{◌≡◌, ◌∙◌, Bool, Option, Some, None, true, false, codes, refl, sym, ap, subst, inl, inr, IfSome}
+use Rattle.std.proofs.Common.{◌≡◌, ◌∙◌, Bool, Option, Some, None, true, false, codes, refl, sym, ap, inl, inr, IfSome}
 use Rattle.std.specs.Option.{option_map_or}
 use Rattle.std.specs.Str.{bytes_eq}
 use Rattle.clap.specs.Words.{Text, found_of, one_of, rows_of}

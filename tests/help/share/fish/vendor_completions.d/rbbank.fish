@@ -21,5 +21,6 @@ complete -c rbbank -n '__fish_seen_subcommand_from site' -l me -x -d 'Which site
 complete -c rbbank -n '__fish_seen_subcommand_from site' -l journal -r -F -d 'The file that the site\'s history is kept in'
 complete -c rbbank -n '__fish_seen_subcommand_from site' -l new -d 'Makes the file, or takes an empty one; without it the file must be there'
 complete -c rbbank -n '__fish_seen_subcommand_from site' -l resend -x -d 'How many of the last entries have their messages written again, 0 to 100000000; all without it'
+complete -c rbbank -n '__fish_seen_subcommand_from site' -l record -x -d 'Which events are recorded: changes (the default) or all'
 complete -c rbbank -n '__fish_seen_subcommand_from site' -s h -l help -d 'Print help'
 complete -c rbbank -n '__fish_seen_subcommand_from help' -a 'script histories audit migrate threads site help'
