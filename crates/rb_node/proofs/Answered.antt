@@ -1,33 +1,42 @@
--- A line is answered as an event or as a question.
-use Rattle.std.proofs.Common.{◌≡◌, ℕ, List, [], ◌++◌, inl, inr, refl, sym, subst, append-nil}
-use Rattle.std.specs.Prelude.{Some, Result, Ok, Err, IfErr, OnErr, OnOk}
+-- A line is answered as an event, by what is known of its id, or as a question.
+use Rattle.std.proofs.Common.{◌≡◌, ℕ, Bool, true, false, List, [], ◌++◌, length, take, drop, inl, inr, refl, sym, ap, subst, ◌∙◌, append-nil}
+use Rattle.std.proofs.Common.{take-append-drop}
+use Rattle.std.specs.Prelude.{bytes_eq, Some, None, Result, Ok, Err, IfErr, MatchResult, OnErr, OnOk}
+use Rattle.std.proofs.lemmas.List.{drop_at}
+use Rattle.std.proofs.lemmas.Slice.Eq.{bytes_eq-Decides}
 use Rattle.rb_site.specs.declared.event.Event.{Event}
-use Rattle.rb_site.specs.Seen.{SeenSite}
 use Rattle.rb_history.specs.declared.question.Question.{Question}
 use Rattle.rb_node.specs.declared.fault.NodeFault.{NodeFault}
 use Rattle.rb_node.specs.declared.fault.NodeFault.TheVariants.{BadLine, OutOfMemory}
-use Rattle.rb_node.specs.Answers.{event_on}
+use Rattle.rb_history.specs.Ids.{AskedEvent}
+use Rattle.rb_history.proofs.Public.Appended.{front_of_sum}
+use Rattle.rb_node.specs.Answers.{asked_event_on}
+use Rattle.rb_node.specs.Asked.{SeenAsked, known_of, without_ids}
 use Rattle.rb_node.specs.Faults.{IsLineFault}
 use Rattle.rb_node.specs.LineAnswers.{IsLineAnswer, question_on, question_text}
-use Rattle.rb_node.specs.Steps.{AnswersEvent}
+use Rattle.rb_node.specs.Steps.{Again, AnswersAsked, AnswersEvent, KnownAdded, KnownAdds, New}
 
 -- there is an answer to the line, which was added
-abbrev pub Adds : SeenSite → SeenSite → List ℕ → List ℕ → List ℕ → List ℕ → List ℕ → Type 0
-Adds old new line answers answers_after entries entries_after = (text : List ℕ) × (lines : List ℕ)
-    × IsLineAnswer old new line text lines × (answers_after ≡ answers ++ text) × (entries_after ≡ entries ++ lines)
+abbrev pub Adds : Bool → SeenAsked → SeenAsked → List ℕ → List ℕ → List ℕ → List ℕ → List ℕ → Type 0
+Adds all old new line answers answers_after entries entries_after = (text : List ℕ) × (lines : List ℕ)
+    × IsLineAnswer all old new line text lines × (answers_after ≡ answers ++ text) × (entries_after ≡ entries ++ lines)
 
--- the answer to an event
-pub event_answered : {A : Type 0} (r : Result A NodeFault) (old new : SeenSite) (line : List ℕ) (e : Event) (a b k l : List ℕ)
-    → event_on old.settings line ≡ Some e → OnOk r (AnswersEvent old new e a b k l) → OnOk r (Adds old new line a b k l)
-event_answered (Ok x) old new line e a b k l is h = (
+-- the answer to an event of an id that isn't known
+new_answered : (all : Bool) (old new : SeenAsked) (line : List ℕ) (x : AskedEvent) (a b k l : List ℕ)
+    → asked_event_on old.settings line ≡ Some x → known_of old x.id ≡ None → AnswersEvent all old new x.id x.event a b k l
+    → Adds all old new line a b k l
+new_answered all old new line x a b k l is unknown h = (
   _,
   _,
   inl (record {
-    event = e;
+    asked = x;
     is_event = is;
+    unknown = unknown;
+    mid = h.mid;
+    mid_is = h.mid_is;
     applied = h.applied;
     in_turn = h.in_turn;
-    all = h.all;
+    all_applied = h.all_applied;
     after = h.after;
     text_is = refl;
     recorded = h.recorded;
@@ -37,25 +46,96 @@ event_answered (Ok x) old new line e a b k l is h = (
   h.text_is,
   h.entries_are,
 )
-event_answered (Err x) old new line e a b k l is h = tt
+
+-- a text was added to another, whether it is this one or that
+some_added : {P : Type 0} (a b x y : List ℕ) → (P → b ≡ a ++ x) → (¬ P → b ≡ a ++ y) → b ≡ a ++ drop (length a) b
+some_added a b x y this that = by (bytes_eq (take (length a) b) a) refl
+  where
+    by : (t : Bool) → bytes_eq (take (length a) b) a ≡ t → b ≡ a ++ drop (length a) b
+    by true q = sym (take-append-drop (length a) b)
+        ∙ ap (λ l. l ++ drop (length a) b) ((bytes_eq-Decides (take (length a) b) a).0 q)
+    by false q =
+        let differs : (take (length a) b ≡ a) → ⊥ =
+        λ e. let f : bytes_eq (take (length a) b) a ≡ true = (bytes_eq-Decides (take (length a) b) a).1 e in cc in
+        absurd (differs (front_of_sum a b y (that (λ p. differs (front_of_sum a b x (this p))))))
+
+-- what was added is the rest
+rest_is : (a b x : List ℕ) → b ≡ a ++ x → drop (length a) b ≡ x
+rest_is a b x e = ap (drop (length a)) e ∙ drop_at a x (length a) refl
+
+-- the answer to a request whose id is known
+known_answered : (all : Bool) (old new : SeenAsked) (line : List ℕ) (x : AskedEvent) (a b k l : List ℕ)
+    → asked_event_on old.settings line ≡ Some x → KnownAdded old x.id x.event a b → new ≡ old → l ≡ k
+    → Adds all old new line a b k l
+known_answered all old new line x a b k l is h same stays = (
+  drop (length a) b,
+  [],
+  inr (inl (record {
+    asked = x;
+    is_event = is;
+    known = h.known;
+    is_known = h.is_known;
+    again = λ e. rest_is a b _ (h.again e);
+    other = λ e. rest_is a b _ (h.other e);
+    after = same;
+    entries_are = refl;
+  })),
+  some_added a b _ _ h.again h.other,
+  stays ∙ sym (append-nil k),
+)
+
+-- the answer to an event with its id
+asked_answered : (all : Bool) (old new : SeenAsked) (line : List ℕ) (x : AskedEvent) (a b k l : List ℕ)
+    → asked_event_on old.settings line ≡ Some x → AnswersAsked all old new x a b k l → Adds all old new line a b k l
+asked_answered all old new line x a b k l is (New unknown h) = new_answered all old new line x a b k l is unknown h
+asked_answered all old new line x a b k l is (Again h same stays) = known_answered all old new line x a b k l is h same stays
+
+-- what was added where the id is known
+pub added_known : (b : Bool) (old : SeenAsked) (id : List ℕ) (e : Event) (text after : List ℕ) → true ≡ b
+    → KnownAdds b old id e text after → KnownAdded old id e text after
+added_known true old id e text after is h = h
+added_known false old id e text after is h = absurd (cc)
+
+-- where it isn't, nothing was
+pub added_none : (b : Bool) (old : SeenAsked) (id : List ℕ) (e : Event) (text after : List ℕ) → false ≡ b
+    → KnownAdds b old id e text after → (known_of old id ≡ None) × (after ≡ text)
+added_none true old id e text after is h = absurd (cc)
+added_none false old id e text after is h = h
+
+-- then the event is answered as a new one
+pub answered_new : {A E : Type 0} (r : Result A E) (all : Bool) (old new : SeenAsked) (x : AskedEvent) (a b c k l : List ℕ)
+    → (known_of old x.id ≡ None) × (b ≡ a)
+    → MatchResult r (λ _. AnswersEvent all old new x.id x.event b c k l) (λ _. (take (length b) c ≡ b) × (take (length k) l ≡ k))
+    → MatchResult r (λ _. AnswersAsked all old new x a c k l) (λ _. (take (length a) c ≡ a) × (take (length k) l ≡ k))
+answered_new (Ok y) all old new x a b c k l none h =
+    New none.0 (subst (λ t. AnswersEvent all old new x.id x.event t c k l) none.1 h)
+answered_new (Err y) all old new x a b c k l none h = (subst (λ t. take (length t) c ≡ t) none.1 h.0, h.1)
+
+-- the same, if there was an answer
+pub event_answered : {A : Type 0} (r : Result A NodeFault) (all : Bool) (old new : SeenAsked) (line : List ℕ) (x : AskedEvent)
+    (a b k l : List ℕ) → asked_event_on old.settings line ≡ Some x → OnOk r (AnswersAsked all old new x a b k l)
+    → OnOk r (Adds all old new line a b k l)
+event_answered (Ok y) all old new line x a b k l is h = asked_answered all old new line x a b k l is h
+event_answered (Err y) all old new line x a b k l is h = tt
 
 -- the answer to a question
-pub question_answered : {A : Type 0} (r : Result A NodeFault) (old : SeenSite) (line a b k : List ℕ)
-    → OnOk r ((q : Question) × (question_on line ≡ Some q) × (b ≡ a ++ question_text old q)) → OnOk r (Adds old old line a b k k)
-question_answered (Ok x) old line a b k h = (
-  question_text old h.0,
+pub question_answered : {A : Type 0} (r : Result A NodeFault) (all : Bool) (old : SeenAsked) (line a b k : List ℕ)
+    → OnOk r ((q : Question) × (question_on line ≡ Some q) × (b ≡ a ++ question_text (without_ids old) q))
+    → OnOk r (Adds all old old line a b k k)
+question_answered (Ok x) all old line a b k h = (
+  question_text (without_ids old) h.0,
   [],
-  inr (record {
+  inr (inr (record {
     question = h.0;
     is_question = h.1;
     text_is = refl;
     after = refl;
     entries_are = refl;
-  }),
+  })),
   h.2,
   sym (append-nil k),
 )
-question_answered (Err x) old line a b k h = tt
+question_answered (Err x) all old line a b k h = tt
 
 -- a question adds no entries
 pub entries_stay : {A : Type 0} (P : Type 0) (r : Result A NodeFault) (k : List ℕ) → OnErr r P → OnErr r (P × (k ≡ k))

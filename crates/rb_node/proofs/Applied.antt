@@ -1,11 +1,12 @@
 -- What is ready is applied, one operation after another, and an answer is written around that.
-use Rattle.std.proofs.Common.{◌≡◌, ℕ, ◌+◌, ◌-◌, ◌<◌, false, List, [], ◌∷◌, ◌++◌, codes, length, take, arith}
-use Rattle.std.proofs.Common.{length-append, refl, sym, ap, subst, ◌∙◌, append_assoc, append-nil}
+use Rattle.std.proofs.Common.{◌≡◌, ℕ, ◌+◌, ◌-◌, ◌<◌, Bool, false, List, [], ◌∷◌, ◌++◌, codes, length, take, arith}
+use Rattle.std.proofs.Common.{length-append, refl, sym, ap, subst, ◌∙◌, append_assoc, append-nil, inl, inr}
 use Rattle.std.proofs.lemmas.Bool.Decides.{nat_tests}
 use Rattle.std.specs.Prelude.{map, nat_le, Result, Ok, Err, MatchResult}
 use Rattle.std.proofs.lemmas.Grind.{flat_map-append}
+use Rattle.std.proofs.lemmas.List.{map-append}
 use Rattle.rb_money.specs.Settings.{Settings}
-use Rattle.json.specs.Print.{escape_byte}
+use Rattle.json.specs.Print.{escape_byte, quoted}
 use Rattle.serde_json.specs.View.{items_of}
 use Rattle.serde_json.specs.Written.{compact_text, items_text}
 use Rattle.rb_shadow.specs.declared.op_name.OpName.{OpName}
@@ -15,37 +16,50 @@ use Rattle.rb_site.specs.declared.event.Event.TheVariants.{Apply}
 use Rattle.rb_site.specs.declared.message.Message.{Message}
 use Rattle.rb_site.specs.declared.reply.Reply.{Reply}
 use Rattle.rb_site.specs.Events.{ModelSite, after_event, after_events, is_full, replies_to_events, reply_to, sent_at}
-use Rattle.rb_site.specs.Seen.{SeenSite, next_sites, state_of}
+use Rattle.rb_site.specs.Seen.{SeenSite, entry, next_sites, state_of}
 use Rattle.rb_site.proofs.Public.Recorded.{noted_history}
-use Rattle.rb_site.proofs.Public.Seen.{settings-next, state-next}
+use Rattle.rb_site.proofs.Public.Seen.{state-next}
 use Rattle.rb_history.specs.Replies.{reply_json}
 use Rattle.rb_history.specs.Adds.{Adds}
 use Rattle.rb_history.proofs.Public.Appended.{both, front_of_front, front_of_sum, front_stays}
 use Rattle.rb_history.proofs.Public.Listed.{rest_text, whole_text}
-use Rattle.rb_history.specs.Entries.{entry_json}
-use Rattle.rb_node.specs.Answers.{AppliesAll, AreReadyInTurn, IsAllApplied, IsNextName, answer_json, entry_lines, line_of, messages_json}
-use Rattle.rb_node.specs.Steps.{AnswersEvent, Applies, AppliesOne, Steps}
-use Rattle.rb_node.proofs.Recorded.{me-next}
+use Rattle.rb_history.proofs.Public.IdText.{id_escape}
+use Rattle.rb_history.specs.Entries.{asked_entry_json}
+use Rattle.rb_history.specs.Ids.{AskedEntry, IsIdOrNone, between_if_any}
+use Rattle.rb_node.specs.Answers.{AppliesAll, AreReadyInTurn, IsAllApplied, IsNextName, asked_answer_json, entry_lines, line_of}
+use Rattle.rb_node.specs.Answers.{messages_json, reply_kept}
+use Rattle.rb_node.specs.Asked.{SeenAsked, asked_state, without_ids, with_id, with_more}
+use Rattle.rb_node.specs.Steps.{AnswersEvent, Applies, AppliesOne, Steps, StepsKept, without_id}
+use Rattle.rb_node.proofs.Recorded.{more-alone, more-none}
 
--- what is ready is applied: the replies behind a text, the first behind this comma, and the lines of the entries
-pub record AppliesOn (comma : List ℕ) (old new : SeenSite) (text text_after entries entries_after : List ℕ) : Type 0 where
+-- what is ready is applied: the replies behind a text, the first behind this comma, and the lines of the entries, none of
+-- which may have an id
+pub record AppliesOn (comma : List ℕ) (old new : SeenAsked) (text text_after entries entries_after : List ℕ) : Type 0 where
   pub names : List OpName
   pub replies : List Reply
   pub recorded : List Entry
-  pub applied : AppliesAll old new names replies recorded
+  pub applied : AppliesAll (without_ids old) (without_ids new) names replies recorded
+  pub recorded_are : (id : List ℕ) → new ≡ with_more old (map (with_id id) recorded)
   pub text_is : text_after ≡ text ++ rest_text comma (map reply_json replies)
-  pub entries_are : entries_after ≡ entries ++ entry_lines old.settings old.me recorded
+  pub entries_are : (id : List ℕ) → entries_after ≡ entries ++ entry_lines old.settings old.me (map (with_id id) recorded)
 
 -- nothing more is applied
-pub applies_none : (comma : List ℕ) (x : SeenSite) (text entries : List ℕ) → IsAllApplied x.settings (state_of x)
+pub applies_none : (comma : List ℕ) (x : SeenAsked) (text entries : List ℕ) → IsAllApplied x.settings (asked_state x)
     → AppliesOn comma x x text text entries entries
 applies_none comma x text entries all = record {
   names = [];
   replies = [];
   recorded = [];
-  applied = record { in_turn = tt; all = all; after = refl; replies_are = refl; recorded_are = sym (append-nil x.entries) };
+  applied = record {
+    in_turn = tt;
+    all = all;
+    after = refl;
+    replies_are = refl;
+    recorded_are = sym (append-nil (without_ids x).entries);
+  };
+  recorded_are = λ id. more-none x;
   text_is = sym (append-nil text);
-  entries_are = sym (append-nil entries);
+  entries_are = λ id. sym (append-nil entries);
 }
 
 -- what two sites have in common, at one of them
@@ -53,46 +67,57 @@ along : (P : Settings → ModelSite → Type 0) (s s' : Settings) (t t' : ModelS
 along P s s' t t' e f h = subst (λ u. P s u) f (subst (λ r. P r t') e h)
 
 -- the entries of two steps, as lines
-lines_of_both : (s r : Settings) (me you : ℕ) (xs ys : List Entry) (a b c : List ℕ) → r ≡ s → you ≡ me
+lines_of_both : (s r : Settings) (me you : ℕ) (xs ys : List AskedEntry) (a b c : List ℕ) → r ≡ s → you ≡ me
     → b ≡ a ++ entry_lines s me xs → c ≡ b ++ entry_lines r you ys → c ≡ a ++ entry_lines s me (xs ++ ys)
 lines_of_both s r me you xs ys a b c e f g h =
     h ∙ ap (λ k. b ++ entry_lines k you ys) e ∙ ap (λ n. b ++ entry_lines s n ys) f ∙ ap (λ l. l ++ entry_lines s me ys) g
     ∙ append_assoc a (entry_lines s me xs) (entry_lines s me ys)
-    ∙ ap (λ l. a ++ l) (sym (flat_map-append (λ x. line_of (entry_json s me x)) xs ys))
+    ∙ ap (λ l. a ++ l) (sym (flat_map-append (λ x. line_of (asked_entry_json s me x)) xs ys))
+
+-- the entries of two steps
+more_of_both : (old mid new : SeenAsked) (xs ys : List AskedEntry) → mid ≡ with_more old xs → new ≡ with_more mid ys
+    → new ≡ with_more old (xs ++ ys)
+more_of_both old mid new xs ys e f = f ∙ ap (λ y. with_more y ys) e
+    ∙ ap (λ (l : List AskedEntry). record old { asked = l }) (append_assoc old.asked xs ys)
 
 -- an operation more
-pub applies_more : (comma : List ℕ) (x : OpName) (old mid new : SeenSite) (a b c k l m : List ℕ)
-    → is_full old.settings (state_of old) ≡ false → IsNextName (state_of old) x → AppliesOne old mid x comma a b k l
+pub applies_more : (comma : List ℕ) (x : OpName) (old mid new : SeenAsked) (a b c k l m : List ℕ)
+    → is_full old.settings (asked_state old) ≡ false → IsNextName (asked_state old) x → AppliesOne old mid x comma a b k l
     → AppliesOn (codes ",") mid new b c l m → AppliesOn comma old new a c k m
 applies_more comma x old mid new a b c k l m free ready one rest =
     let s = old.settings in
     let step = one.step in
-    let t = after_event s (state_of old) (Apply x) in
-    let kept : mid.settings ≡ s = ap (λ (y : SeenSite). y.settings) step.site ∙ settings-next old (Apply x) in
-    let state : state_of mid ≡ t = ap state_of step.site ∙ state-next old (Apply x) in
-    let me : mid.me ≡ old.me = ap (λ (y : SeenSite). y.me) step.site ∙ me-next old (Apply x) in
+    let t = after_event s (asked_state old) (Apply x) in
+    let kept : mid.settings ≡ s = ap (λ (y : SeenAsked). y.settings) step.recorded_are in
+    let state : asked_state mid ≡ t = ap state_of step.site ∙ state-next (without_ids old) (Apply x) in
+    let me : mid.me ≡ old.me = ap (λ (y : SeenAsked). y.me) step.recorded_are in
     let events = map Apply rest.names in
     let reply = compact_text (reply_json one.reply) in
     let later = rest_text (codes ",") (map reply_json rest.replies) in
+    let first = entry (Apply x) one.reply in
     record {
       names = x ∷ rest.names;
       replies = one.reply ∷ rest.replies;
-      recorded = step.recorded ++ rest.recorded;
+      recorded = first ∷ rest.recorded;
       applied = record {
         in_turn =
-            (free, ready, along (λ r u. AreReadyInTurn r u rest.names) s mid.settings t (state_of mid) kept state rest.applied.in_turn);
-        all = along (λ r u. IsAllApplied r (after_events r u events)) s mid.settings t (state_of mid) kept state rest.applied.all;
+            (free, ready, along (λ r u. AreReadyInTurn r u rest.names) s mid.settings t (asked_state mid) kept state rest.applied.in_turn);
+        all = along (λ r u. IsAllApplied r (after_events r u events)) s mid.settings t (asked_state mid) kept state rest.applied.all;
         after = rest.applied.after ∙ ap (λ y. next_sites y events) step.site;
         replies_are = ap (λ r. r ∷ rest.replies) step.reply_is
-            ∙ ap (λ rs. reply_to s (state_of old) (Apply x) ∷ rs)
+            ∙ ap (λ rs. reply_to s (asked_state old) (Apply x) ∷ rs)
             (along (λ r u. rest.replies ≡ replies_to_events r u events)
-            s mid.settings t (state_of mid) kept state rest.applied.replies_are);
-        recorded_are = rest.applied.recorded_are ∙ ap (λ xs. xs ++ rest.recorded) step.recorded_are
-            ∙ append_assoc old.entries step.recorded rest.recorded;
+            s mid.settings t (asked_state mid) kept state rest.applied.replies_are);
+        recorded_are = rest.applied.recorded_are
+            ∙ ap (λ xs. xs ++ rest.recorded) (ap (λ (y : SeenAsked). (without_ids y).entries) step.recorded_are ∙ more-alone old [] (first ∷ []))
+            ∙ append_assoc (without_ids old).entries (first ∷ []) rest.recorded;
       };
+      recorded_are = λ id. more_of_both old mid new (without_id first ∷ []) (map (with_id id) rest.recorded) step.recorded_are
+          (rest.recorded_are id);
       text_is = rest.text_is ∙ ap (λ y. y ++ later) one.text_is ∙ append_assoc a (comma ++ reply) later
           ∙ ap (λ y. a ++ y) (append_assoc comma reply later);
-      entries_are = lines_of_both s mid.settings old.me mid.me step.recorded rest.recorded k l m kept me step.entries_are rest.entries_are;
+      entries_are = λ id. lines_of_both s mid.settings old.me mid.me (without_id first ∷ []) (map (with_id id) rest.recorded) k l m kept me
+          step.entries_are (rest.entries_are id);
     }
 
 -- each application takes one of the entries for which the history has capacity
@@ -100,30 +125,29 @@ below : (limit n : ℕ) → nat_le limit n ≡ false → n < limit
 below limit n h = grind (arith, nat_tests)
 
 -- after an event at a site whose history isn't full, the history has capacity for fewer entries
-pub spare_falls : (old mid : SeenSite) (e : Event) (reply : Reply) (k l : List ℕ) → is_full old.settings (state_of old) ≡ false
+pub spare_falls : (old mid : SeenAsked) (e : Event) (reply : Reply) (k l : List ℕ) → is_full old.settings (asked_state old) ≡ false
     → Steps old mid e reply k l
-    → mid.settings.limits.history - length (state_of mid).history < old.settings.limits.history - length (state_of old).history
+    → mid.settings.limits.history - length (asked_state mid).history < old.settings.limits.history - length (asked_state old).history
 spare_falls old mid e reply k l free step =
     let s = old.settings in
-    let t = state_of old in
-    let limit : mid.settings.limits.history ≡ s.limits.history =
-    ap (λ (y : SeenSite). y.settings.limits.history) step.site ∙ ap (λ (r : Settings). r.limits.history) (settings-next old e) in
-    let longer : (state_of mid).history ≡ t.history ++ e ∷ [] =
-    ap (λ (y : SeenSite). (state_of y).history) step.site ∙ ap (λ (u : ModelSite). u.history) (state-next old e)
+    let t = asked_state old in
+    let limit : mid.settings.limits.history ≡ s.limits.history = ap (λ (y : SeenAsked). y.settings.limits.history) step.recorded_are in
+    let longer : (asked_state mid).history ≡ t.history ++ e ∷ [] =
+    ap (λ (y : SeenSite). (state_of y).history) step.site ∙ ap (λ (u : ModelSite). u.history) (state-next (without_ids old) e)
     ∙ noted_history s t e free in
-    let more : length (state_of mid).history ≡ length t.history + 1 = ap length longer ∙ length-append t.history (e ∷ []) in
+    let more : length (asked_state mid).history ≡ length t.history + 1 = ap length longer ∙ length-append t.history (e ∷ []) in
     let less : length t.history < s.limits.history = below s.limits.history (length t.history) free in
     omega arith
 
 -- the operation was applied, and its reply written
-pub applied_one : {A E : Type 0} (r : Result A E) (old new : SeenSite) (x : OpName) (reply : Reply) (comma a b k l : List ℕ)
+pub applied_one : {A E : Type 0} (r : Result A E) (old new : SeenAsked) (x : OpName) (reply : Reply) (comma a b k l : List ℕ)
     → Steps old new (Apply x) reply k l → Adds r a b (comma ++ compact_text (reply_json reply))
     → MatchResult r (λ _. AppliesOne old new x comma a b k l) (λ _. (take (length a) b ≡ a) × (take (length k) l ≡ k))
 applied_one (Ok y) old new x reply comma a b k l step added = record { reply = reply; step = step; text_is = added }
 applied_one (Err y) old new x reply comma a b k l step added = (added, front_of_sum k l _ step.entries_are)
 
 -- all that is ready was applied, and the list of the replies closed
-pub closed : {A E : Type 0} (r : Result A E) (old new : SeenSite) (a b c k l : List ℕ) → AppliesOn [] old new a b k l
+pub closed : {A E : Type 0} (r : Result A E) (old new : SeenAsked) (a b c k l : List ℕ) → AppliesOn [] old new a b k l
     → take (length a) b ≡ a → take (length k) l ≡ k → Adds r b c (codes "]")
     → MatchResult r (λ _. Applies old new a c k l) (λ _. (take (length a) c ≡ a) × (take (length k) l ≡ k))
 closed (Ok y) old new a b c k l h front kept end = record {
@@ -131,6 +155,7 @@ closed (Ok y) old new a b c k l h front kept end = record {
   replies = h.replies;
   recorded = h.recorded;
   applied = h.applied;
+  recorded_are = h.recorded_are;
   text_is = end ∙ ap (λ y. y ++ codes "]") h.text_is ∙ append_assoc a (rest_text [] (map reply_json h.replies)) (codes "]")
       ∙ ap (λ y. a ++ y) (whole_text (map reply_json h.replies));
   entries_are = h.entries_are;
@@ -139,66 +164,95 @@ closed (Err y) old new a b c k l h front kept end = (front_of_front a b c front 
 
 -- ---- an answer
 
--- what an answer begins with
-abbrev pub front_text : Settings → Reply → List Message → List ℕ
-front_text s reply sent = codes "{\"reply\":" ++ (compact_text (reply_json reply)
-    ++ (codes ",\"sends\":" ++ (compact_text (messages_json s sent) ++ codes ",\"then\":[")))
+-- what an answer begins with, behind its id
+abbrev pub rest_of_front : Settings → Reply → List Message → List ℕ
+rest_of_front s reply sent = compact_text (reply_json reply)
+    ++ (codes ",\"sends\":" ++ (compact_text (messages_json s sent) ++ codes ",\"then\":["))
 
--- the parts of an answer, one behind another
+-- its id, if it has one, and the key of the reply
+abbrev pub head_text : List ℕ → List ℕ
+head_text id = codes "{" ++ (between_if_any (codes "\"id\":\"") id (codes "\",") ++ codes "\"reply\":")
+
+-- what an answer begins with
+abbrev pub front_text : Settings → List ℕ → Reply → List Message → List ℕ
+front_text s id reply sent = head_text id ++ rest_of_front s reply sent
+
+-- the parts of an answer without an id, one behind another
 parts : (reply sends later : List ℕ)
     → (codes "{\"reply\":" ++ (reply ++ (codes ",\"sends\":" ++ (sends ++ codes ",\"then\":[")))) ++ (later ++ codes "}\n")
     ≡ (codes "{\"reply\":" ++ (reply ++ (codes ",\"sends\":" ++ (sends ++ (codes ",\"then\":" ++ ((codes "[" ++ later)
     ++ codes "}")))))) ++ 10 ∷ []
 parts reply sends later = simp append_assoc
 
+-- and of one with an id
+parts_with : (id quoted reply sends later : List ℕ) → quoted ≡ codes "\"" ++ (id ++ codes "\"")
+    → ((codes "{" ++ ((codes "\"id\":\"" ++ (id ++ codes "\",")) ++ codes "\"reply\":"))
+    ++ (reply ++ (codes ",\"sends\":" ++ (sends ++ codes ",\"then\":[")))) ++ (later ++ codes "}\n")
+    ≡ (codes "{\"id\":" ++ (quoted ++ (codes ",\"reply\":" ++ (reply ++ (codes ",\"sends\":" ++ (sends ++ (codes ",\"then\":"
+    ++ ((codes "[" ++ later) ++ codes "}")))))))) ++ 10 ∷ []
+parts_with id quoted reply sends later is =
+    subst (λ q. ((codes "{" ++ ((codes "\"id\":\"" ++ (id ++ codes "\",")) ++ codes "\"reply\":"))
+    ++ (reply ++ (codes ",\"sends\":" ++ (sends ++ codes ",\"then\":[")))) ++ (later ++ codes "}\n")
+    ≡ (codes "{\"id\":" ++ (q ++ (codes ",\"reply\":" ++ (reply ++ (codes ",\"sends\":" ++ (sends ++ (codes ",\"then\":"
+    ++ ((codes "[" ++ later) ++ codes "}")))))))) ++ 10 ∷ []) (sym is) (simp append_assoc)
+
 -- the parts are the answer's line
-whole_answer : (s : Settings) (reply : Reply) (sent : List Message) (later : List Reply) →
-    front_text s reply sent ++ (items_text false (items_of (map reply_json later)) ++ codes "}\n")
-    ≡ line_of (answer_json s reply sent later)
+whole_answer : (s : Settings) (id : List ℕ) (reply : Reply) (sent : List Message) (later : List Reply) → IsIdOrNone id →
+    front_text s id reply sent ++ (items_text false (items_of (map reply_json later)) ++ codes "}\n")
+    ≡ line_of (asked_answer_json s id reply sent later)
 unfolding escape_byte
-whole_answer s reply sent later = parts (compact_text (reply_json reply)) (compact_text (messages_json s sent))
+whole_answer s [] reply sent later is = parts (compact_text (reply_json reply)) (compact_text (messages_json s sent))
     (items_text false (items_of (map reply_json later)))
+whole_answer s (b ∷ bs) reply sent later (inl none) = absurd (cc)
+whole_answer s (b ∷ bs) reply sent later (inr is) =
+    parts_with (b ∷ bs) (quoted (b ∷ bs)) (compact_text (reply_json reply)) (compact_text (messages_json s sent))
+    (items_text false (items_of (map reply_json later))) (ap (λ l. 34 ∷ (l ++ 34 ∷ [])) (id_escape (b ∷ bs) is))
 
 -- what was there is there before two texts that were added
 front_stays_two : (k l m xs ys : List ℕ) → l ≡ k ++ xs → m ≡ l ++ ys → take (length k) m ≡ k
 front_stays_two k l m xs ys e f = front_of_sum k m (xs ++ ys) (both k l m xs ys e f)
 
 -- an event was answered, and what was ready then applied
-pub answered : {A E : Type 0} (r : Result A E) (s : Settings) (old mid new : SeenSite) (e : Event) (reply : Reply) (sent : List Message)
-    (a b c d k l m : List ℕ) → s ≡ old.settings → Steps old mid e reply k l → sent ≡ sent_at old.settings (state_of old) e
-    → b ≡ a ++ front_text s reply sent → Applies mid new b c l m → Adds r c d (codes "}\n")
-    → MatchResult r (λ _. AnswersEvent old new e a d k m) (λ _. (take (length a) d ≡ a) × (take (length k) m ≡ k))
-answered (Ok y) s old mid new e reply sent a b c d k l m same step posted begun applies end =
+pub answered : {A E : Type 0} (r : Result A E) (all : Bool) (s : Settings) (old mid new : SeenAsked) (id : List ℕ) (e : Event) (reply : Reply)
+    (sent : List Message) (a b c d k l m : List ℕ) → IsIdOrNone id → s ≡ old.settings → StepsKept all old mid id e reply k l
+    → sent ≡ sent_at old.settings (asked_state old) e
+    → b ≡ a ++ front_text s id reply sent → Applies mid new b c l m → Adds r c d (codes "}\n")
+    → MatchResult r (λ _. AnswersEvent all old new id e a d k m) (λ _. (take (length a) d ≡ a) × (take (length k) m ≡ k))
+answered (Ok y) all s old mid new id e reply sent a b c d k l m is same step posted begun applies end =
     let settings = old.settings in
-    let t = after_event settings (state_of old) e in
-    let kept : mid.settings ≡ settings = ap (λ (y : SeenSite). y.settings) step.site ∙ settings-next old e in
-    let state : state_of mid ≡ t = ap state_of step.site ∙ state-next old e in
-    let me : mid.me ≡ old.me = ap (λ (y : SeenSite). y.me) step.site ∙ me-next old e in
+    let x = without_ids old in
+    let kept : mid.settings ≡ settings = ap (λ (y : SeenAsked). y.settings) step.recorded_are in
+    let me : mid.me ≡ old.me = ap (λ (y : SeenAsked). y.me) step.recorded_are in
+    let t = asked_state mid in
     let events = map Apply applies.names in
     let later = items_text false (items_of (map reply_json applies.replies)) in
+    let front = front_text s id reply sent in
+    let tags = map-append (with_id id) step.recorded applies.recorded in
     record {
+      mid = without_ids mid;
+      mid_is = step.site;
       applied = applies.names;
-      in_turn = along (λ r u. AreReadyInTurn r u applies.names) settings mid.settings t (state_of mid) kept state applies.applied.in_turn;
-      all = along (λ r u. IsAllApplied r (after_events r u events)) settings mid.settings t (state_of mid) kept state applies.applied.all;
-      after = applies.applied.after ∙ ap (λ y. next_sites y events) step.site;
+      in_turn = subst (λ r. AreReadyInTurn r t applies.names) kept applies.applied.in_turn;
+      all_applied = subst (λ r. IsAllApplied r (after_events r t events)) kept applies.applied.all;
+      after = applies.applied.after;
       text_is = end ∙ ap (λ y. y ++ codes "}\n") (applies.text_is ∙ ap (λ y. y ++ later) begun)
-          ∙ ap (λ y. y ++ codes "}\n") (append_assoc a (front_text s reply sent) later)
-          ∙ append_assoc a (front_text s reply sent ++ later) (codes "}\n")
-          ∙ ap (λ y. a ++ y) (append_assoc (front_text s reply sent) later (codes "}\n") ∙ whole_answer s reply sent applies.replies)
-          ∙ ap (λ u. a ++ line_of (answer_json u reply sent applies.replies)) same
-          ∙ ap (λ u. a ++ line_of (answer_json settings u sent applies.replies)) step.reply_is
-          ∙ ap (λ u. a ++ line_of (answer_json settings (reply_to settings (state_of old) e) u applies.replies)) posted
-          ∙ ap (λ u. a ++ line_of (answer_json settings (reply_to settings (state_of old) e) (sent_at settings (state_of old) e) u))
-          (along (λ r u. applies.replies ≡ replies_to_events r u events) settings mid.settings t (state_of mid) kept state
-          applies.applied.replies_are);
+          ∙ ap (λ y. y ++ codes "}\n") (append_assoc a front later)
+          ∙ append_assoc a (front ++ later) (codes "}\n")
+          ∙ ap (λ y. a ++ y) (append_assoc front later (codes "}\n") ∙ whole_answer s id reply sent applies.replies is)
+          ∙ ap (λ u. a ++ line_of (asked_answer_json u id reply sent applies.replies)) same
+          ∙ ap (λ u. a ++ line_of (asked_answer_json settings id u sent applies.replies)) step.reply_is
+          ∙ ap (λ u. a ++ line_of (asked_answer_json settings id (reply_kept all x e) u applies.replies)) posted
+          ∙ ap (λ u. a ++ line_of (asked_answer_json settings id (reply_kept all x e) (sent_at settings (asked_state old) e) u))
+          (subst (λ r. applies.replies ≡ replies_to_events r t events) kept applies.applied.replies_are);
       recorded = step.recorded ++ applies.recorded;
-      recorded_are = applies.applied.recorded_are ∙ ap (λ xs. xs ++ applies.recorded) step.recorded_are
-          ∙ append_assoc old.entries step.recorded applies.recorded;
-      entries_are = lines_of_both settings mid.settings old.me mid.me step.recorded applies.recorded k l m kept me step.entries_are
-          applies.entries_are;
+      recorded_are = more_of_both old mid new (map (with_id id) step.recorded) (map (with_id id) applies.recorded) step.recorded_are
+          (applies.recorded_are id) ∙ ap (with_more old) (sym tags);
+      entries_are = lines_of_both settings mid.settings old.me mid.me (map (with_id id) step.recorded) (map (with_id id) applies.recorded)
+          k l m kept me step.entries_are (applies.entries_are id)
+          ∙ ap (λ ys. k ++ entry_lines settings old.me ys) (sym tags);
     }
-answered (Err y) s old mid new e reply sent a b c d k l m same step posted begun applies end = (
-  front_stays a c d (front_text s reply sent ++ items_text false (items_of (map reply_json applies.replies)))
-      (both a b c (front_text s reply sent) _ begun applies.text_is) end,
-  front_stays_two k l m _ _ step.entries_are applies.entries_are,
+answered (Err y) all s old mid new id e reply sent a b c d k l m is same step posted begun applies end = (
+  front_stays a c d (front_text s id reply sent ++ items_text false (items_of (map reply_json applies.replies)))
+      (both a b c (front_text s id reply sent) _ begun applies.text_is) end,
+  front_stays_two k l m _ _ step.entries_are (applies.entries_are id),
 )

@@ -1,6 +1,7 @@
 -- The index of a history, as it grows.
 use Rattle.std.proofs.Common.{◌≡◌, ℕ, suc, ◌+◌, Bool, true, false, cond, List, [], ◌∷◌, ◌++◌, length, refl, sym, ap, ◌∙◌, arith}
 use Rattle.std.proofs.Common.{◌-◌, append_assoc, append-nil, drop, length-drop, take, take_all}
+use Rattle.std.specs.Prelude.{OnErr, OnOk, Result, Ok, Err}
 use Rattle.std.proofs.lemmas.List.{drop_at, length-map, map-append}
 use Rattle.rb_money.specs.Settings.{Settings}
 use Rattle.rb_site.specs.declared.entry.Entry.{Entry}
@@ -9,10 +10,12 @@ use Rattle.rb_site.specs.declared.message.Message.{Message}
 use Rattle.rb_site.specs.Events.{ModelSite, after_event, after_events, first_site, is_full, outcome_of, reply_to, sent_at, sent_by}
 use Rattle.rb_site.specs.Histories.{events_of}
 use Rattle.rb_site.specs.Seen.{SeenSite, entry, next_site, state_of}
+use Rattle.rb_site.specs.Unchanging.{changes_site}
 use Rattle.rb_site.proofs.Public.Seen.{state-next}
+use Rattle.rb_site.proofs.Public.Unchanging.{sent_at_nothing}
 use Rattle.rb_node.specs.Index.{index_from, index_of, noted_of}
 use Rattle.rb_node.specs.declared.sent_entry.SentEntry.{SentEntry}
-use Rattle.rb_node.proofs.Recorded.{next-free, next-full}
+use Rattle.rb_node.proofs.NextSite.{next-free, next-full}
 
 -- an event more
 more_noted : (s : Settings) (t : ModelSite) (before : ℕ) (es : List Event) (e : Event) →
@@ -80,3 +83,16 @@ index_noted x new e index after before first end posted is same number low high 
     (high ∙ ap (λ (y : SeenSite). length (state_of y).ops) same)
     ∙ ap (λ ms. index_of x ++ noted_of (length x.entries) (length (state_of x).ops) (length (state_of (next_site x e)).ops) ms) sent
     ∙ sym (index_next x e) ∙ ap index_of (sym same)
+
+-- an event that changes nothing sends nothing, so it has no note
+pub index_unchanging : (x : SeenSite) (e : Event) → changes_site x.settings (state_of x) e ≡ false → index_of (next_site x e) ≡ index_of x
+index_unchanging x e h =
+    index_next x e
+    ∙ ap (λ ms. index_of x ++ noted_of (length x.entries) (length (state_of x).ops) (length (state_of (next_site x e)).ops) ms)
+    (sent_at_nothing x.settings (state_of x) e h) ∙ append-nil (index_of x)
+
+-- the index stays where the site is as before, or after an event that has no note
+pub index_either : {A E : Type 0} (r : Result A E) (x new : SeenSite) (e : Event) (index : List SentEntry) → index ≡ index_of x
+    → changes_site x.settings (state_of x) e ≡ false → OnOk r (new ≡ next_site x e) → OnErr r (new ≡ x) → index ≡ index_of new
+index_either (Ok y) x new e index is none ok err = is ∙ sym (index_unchanging x e none) ∙ ap index_of (sym ok)
+index_either (Err y) x new e index is none ok err = is ∙ ap index_of (sym err)

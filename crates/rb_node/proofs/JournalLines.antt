@@ -6,7 +6,7 @@ use Rattle.std.proofs.lemmas.Bool.{and_parts, eq-eqb}
 use Rattle.std.proofs.lemmas.List.Elements.{All-cons}
 use Rattle.serde_json.specs.Written.{compact_text}
 use Rattle.rb_history.specs.ConfigLines.{config_json}
-use Rattle.rb_history.specs.Entries.{entry_json}
+use Rattle.rb_history.specs.Entries.{asked_entry_json}
 use Rattle.rb_history.specs.OneLine.{ConfigsAreLines, EntriesAreLines}
 use Rattle.rb_node.specs.Laws.{ConfigsAreJournalLines, EntriesAreJournalLines}
 
@@ -25,4 +25,4 @@ configs_lines h s is = record { begins = refl; one = none_is (compact_text (conf
 
 -- where what is written for each entry is one line, it is a journal's line
 pub entries_lines : EntriesAreLines → EntriesAreJournalLines
-entries_lines h s is me x = record { begins = refl; one = none_is (compact_text (entry_json s me x)) (h s is me x).no_feed }
+entries_lines h s is me x id = record { begins = refl; one = none_is (compact_text (asked_entry_json s me x)) (h s is me x id).no_feed }

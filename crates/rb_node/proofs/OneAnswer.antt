@@ -1,24 +1,29 @@
 -- A site has one answer to a line.
-use Rattle.std.proofs.Common.{◌≡◌, ℕ, Bool, true, false, cond, List, [], ◌∷◌, inl, inr, refl, sym, ap, subst, ◌∙◌}
-use Rattle.std.specs.Prelude.{map, Some, None}
+use Rattle.std.proofs.Common.{◌≡◌, ◌≢◌, ℕ, Bool, true, false, cond, List, [], ◌∷◌, inl, inr, refl, sym, ap, subst, ◌∙◌}
+use Rattle.std.specs.Prelude.{bytes_eq, map, Some, None}
 use Rattle.std.specs.Str.{is_utf8}
-use Rattle.std.proofs.lemmas.List.{append_cancel_left}
+use Rattle.std.proofs.lemmas.Slice.Eq.{bytes_eq-Decides}
 use Rattle.rb_money.specs.Settings.{Settings}
 use Rattle.rb_shadow.specs.Operations.{clock_of}
 use Rattle.rb_shadow.specs.declared.op_name.OpName.{OpName}
 use Rattle.rb_inbox.proofs.Public.{first_is_one}
-use Rattle.rb_site.specs.declared.event.Event.{Event}
+use Rattle.rb_site.specs.declared.entry.Entry.{Entry}
 use Rattle.rb_site.specs.declared.event.Event.TheVariants.{Apply}
-use Rattle.rb_site.specs.Events.{ModelSite, after_event, after_events, is_full, replies_to_events, reply_to, sent_at}
+use Rattle.rb_site.specs.Events.{ModelSite, after_event, after_events, is_full, replies_to_events, sent_at}
 use Rattle.rb_site.specs.Seen.{SeenSite, next_sites, state_of}
 use Rattle.rb_history.specs.declared.question.Question.{Question}
-use Rattle.rb_history.specs.Entries.{event_of_line}
+use Rattle.rb_history.specs.Entries.{asked_event_of_line}
+use Rattle.rb_history.specs.Ids.{AskedEvent}
 use Rattle.rb_history.specs.Questions.{question_of_line}
 use Rattle.rb_history.proofs.Public.Questions.{question_no_event}
-use Rattle.rb_node.specs.Answers.{AreReadyInTurn, IsAllApplied, IsNextName, IsSiteAnswer, answer_json, entry_lines, event_on, line_of}
+use Rattle.rb_node.specs.Answers.{AreReadyInTurn, IsAllApplied, IsKnownAnswer, IsNextName, IsSiteAnswer, again_json, asked_answer_json}
+use Rattle.rb_node.specs.Answers.{asked_event_on, entry_lines, kept_events, line_of, other_request_json, reply_kept}
+use Rattle.rb_node.specs.Asked.{Known, SeenAsked, known_of, without_ids, with_id, with_more}
 use Rattle.rb_node.specs.Laws.{AnswersAreOne}
-use Rattle.rb_node.specs.LineAnswers.{question_on, question_text}
+use Rattle.rb_node.specs.LineAnswers.{IsQuestionAnswer, question_on, question_text}
+use Rattle.rb_node.proofs.Recorded.{more-alone, which}
 use Rattle.rb_node.proofs.Replayed.{event_is}
+use Rattle.rb_node.proofs.Spelled.{some_is}
 
 -- where all is applied, nothing is next
 no_more : (s : Settings) (t : ModelSite) (x : OpName) → is_full s t ≡ false → IsNextName t x → IsAllApplied s t → ⊥
@@ -38,41 +43,101 @@ same_names s t (x ∷ xs) (y ∷ ys) a b c d =
     let rest : xs ≡ ys = same_names s (after_event s t (Apply x)) xs ys a.2 (subst P (sym same) b.2) c (subst Q (sym same) d) in
     ap (λ n. n ∷ xs) same ∙ ap (λ ns. y ∷ ns) rest
 
--- two answers to an event are one
-one_event : (old new other : SeenSite) (line text words entries rows : List ℕ) → IsSiteAnswer old new line text entries
-    → IsSiteAnswer old other line words rows → (text ≡ words) × (entries ≡ rows) × (new ≡ other)
-one_event old new other line text words entries rows a b = (
-  a.text_is ∙ ap (λ e. text_of e a.applied) event ∙ ap (text_of b.event) names ∙ sym b.text_is,
-  a.entries_are ∙ ap (entry_lines s old.me) recorded ∙ sym b.entries_are,
-  site,
+-- two answers to an event of an id that isn't known are one
+one_event : (all : Bool) (old new other : SeenAsked) (line text words entries rows : List ℕ)
+    → IsSiteAnswer all old new line text entries → IsSiteAnswer all old other line words rows
+    → (text ≡ words) × (entries ≡ rows) × (new ≡ other)
+one_event all old new other line text words entries rows a b = (
+  a.text_is ∙ ap (λ q. text_of q a.mid a.applied) asked ∙ ap (λ y. text_of b.asked y a.applied) mid ∙ ap (text_of b.asked b.mid) names
+      ∙ sym b.text_is,
+  a.entries_are ∙ ap (λ x. lines_of x a.recorded) asked ∙ ap (lines_of b.asked) recorded ∙ sym b.entries_are,
+  a.recorded_are ∙ ap (λ x. after_of x a.recorded) asked ∙ ap (after_of b.asked) recorded ∙ sym b.recorded_are,
 )
   where
     s : Settings
     s = old.settings
 
-    t : ModelSite
-    t = state_of old
+    x : SeenSite
+    x = without_ids old
 
-    event : a.event ≡ b.event
-    event = let same : Some a.event ≡ Some b.event = sym a.is_event ∙ b.is_event in cc
+    asked : a.asked ≡ b.asked
+    asked = some_is a.asked b.asked (sym a.is_event ∙ b.is_event)
+
+    mid_of : AskedEvent → SeenSite
+    mid_of q = next_sites x (kept_events all x q.event)
+
+    mid : a.mid ≡ b.mid
+    mid = a.mid_is ∙ ap mid_of asked ∙ sym b.mid_is
 
     names : a.applied ≡ b.applied
     names =
-        let P : Event → Type 0 = λ e. AreReadyInTurn s (after_event s t e) b.applied in
-        let Q : Event → Type 0 = λ e. IsAllApplied s (after_events s t (e ∷ map Apply b.applied)) in
-        same_names s (after_event s t a.event) a.applied b.applied a.in_turn (subst P (sym event) b.in_turn) a.all
-        (subst Q (sym event) b.all)
+        let P : SeenSite → Type 0 = λ y. AreReadyInTurn s (state_of y) b.applied in
+        let Q : SeenSite → Type 0 = λ y. IsAllApplied s (after_events s (state_of y) (map Apply b.applied)) in
+        same_names s (state_of a.mid) a.applied b.applied a.in_turn (subst P (sym mid) b.in_turn) a.all_applied
+        (subst Q (sym mid) b.all_applied)
 
-    text_of : Event → List OpName → List ℕ
-    text_of e xs = line_of (answer_json s (reply_to s t e) (sent_at s t e) (replies_to_events s (after_event s t e) (map Apply xs)))
+    text_of : AskedEvent → SeenSite → List OpName → List ℕ
+    text_of q y xs = line_of (asked_answer_json s q.id (reply_kept all x q.event) (sent_at s (state_of x) q.event)
+        (replies_to_events s (state_of y) (map Apply xs)))
 
-    site : new ≡ other
-    site = a.after ∙ ap (λ e. next_sites old (e ∷ map Apply a.applied)) event
-        ∙ ap (λ xs. next_sites old (b.event ∷ map Apply xs)) names ∙ sym b.after
+    lines_of : AskedEvent → List Entry → List ℕ
+    lines_of q xs = entry_lines s old.me (map (with_id q.id) xs)
+
+    after_of : AskedEvent → List Entry → SeenAsked
+    after_of q xs = with_more old (map (with_id q.id) xs)
+
+    site : without_ids new ≡ without_ids other
+    site = a.after ∙ ap (λ y. next_sites y (map Apply a.applied)) mid ∙ ap (λ xs. next_sites b.mid (map Apply xs)) names ∙ sym b.after
 
     recorded : a.recorded ≡ b.recorded
-    recorded = append_cancel_left old.entries a.recorded b.recorded
-        (sym a.recorded_are ∙ ap (λ (y : SeenSite). y.entries) site ∙ b.recorded_are)
+    recorded = which old new a.asked.id a.recorded b.recorded a.recorded_are
+        (ap (λ (y : SeenSite). y.entries) site ∙ ap (λ (y : SeenAsked). (without_ids y).entries) b.recorded_are
+        ∙ more-alone old b.asked.id b.recorded)
+
+-- texts that can't differ are equal
+same_text : (xs ys : List ℕ) → ¬ (xs ≢ ys) → xs ≡ ys
+same_text xs ys h = by (bytes_eq xs ys) refl
+  where
+    by : (t : Bool) → bytes_eq xs ys ≡ t → xs ≡ ys
+    by true q = (bytes_eq-Decides xs ys).0 q
+    by false q = absurd (h (λ e. let f : bytes_eq xs ys ≡ true = (bytes_eq-Decides xs ys).1 e in cc))
+
+-- two answers to a request of a known id are one
+one_known : (old new other : SeenAsked) (line text words entries rows : List ℕ)
+    → IsKnownAnswer old new line text entries → IsKnownAnswer old other line words rows
+    → (text ≡ words) × (entries ≡ rows) × (new ≡ other)
+one_known old new other line text words entries rows a b = (
+  same_text text words (λ differ. differ (a.other (λ e. differ (a.again e ∙ again ∙ sym (b.again (event e))))
+      ∙ ap (λ (q : AskedEvent). line_of (other_request_json q.id)) asked
+      ∙ sym (b.other (λ f. differ (a.again (back f) ∙ again ∙ sym (b.again f)))))),
+  a.entries_are ∙ sym b.entries_are,
+  a.after ∙ sym b.after,
+)
+  where
+    asked : a.asked ≡ b.asked
+    asked = some_is a.asked b.asked (sym a.is_event ∙ b.is_event)
+
+    known : a.known ≡ b.known
+    known = some_is a.known b.known
+        (sym a.is_known ∙ ap (λ (q : AskedEvent). known_of old q.id) asked ∙ b.is_known)
+
+    again : line_of (again_json old.settings a.asked.id a.known) ≡ line_of (again_json old.settings b.asked.id b.known)
+    again = ap (λ (q : AskedEvent). line_of (again_json old.settings q.id a.known)) asked
+        ∙ ap (λ (k : Known). line_of (again_json old.settings b.asked.id k)) known
+
+    event : a.known.event ≡ a.asked.event → b.known.event ≡ b.asked.event
+    event e = sym (ap (λ (k : Known). k.event) known) ∙ e ∙ ap (λ (q : AskedEvent). q.event) asked
+
+    back : b.known.event ≡ b.asked.event → a.known.event ≡ a.asked.event
+    back f = ap (λ (k : Known). k.event) known ∙ f ∙ sym (ap (λ (q : AskedEvent). q.event) asked)
+
+-- an id isn't both known and not
+known_or_new : (old : SeenAsked) (line : List ℕ) (x y : AskedEvent) (k : Known) → asked_event_on old.settings line ≡ Some x
+    → asked_event_on old.settings line ≡ Some y → known_of old x.id ≡ None → known_of old y.id ≡ Some k → ⊥
+known_or_new old line x y k is same none some =
+    let e : known_of old x.id ≡ Some k =
+    ap (λ (q : AskedEvent). known_of old q.id) (some_is x y (sym is ∙ same)) ∙ some in
+    cc
 
 -- ---- questions
 
@@ -86,22 +151,39 @@ question_is l q is = at (is_utf8 l) is
     at false h = absurd (cc)
 
 -- a line isn't both a question and an event
-not_both : (s : Settings) (l : List ℕ) (e : Event) (q : Question) → event_on s l ≡ Some e → question_on l ≡ Some q → ⊥
-not_both s l e q event question =
-    let none : event_of_line s l ≡ None = question_no_event s l q (question_is l q question) in
-    let some : event_of_line s l ≡ Some e = event_is s l e event in
+pub not_both : (s : Settings) (l : List ℕ) (x : AskedEvent) (q : Question) → asked_event_on s l ≡ Some x → question_on l ≡ Some q → ⊥
+not_both s l x q event question =
+    let none : asked_event_of_line s l ≡ None = question_no_event s l q (question_is l q question) in
+    let some : asked_event_of_line s l ≡ Some x = event_is s l x event in
     absurd (cc)
+
+-- two answers to a question are one
+one_question : (old new other : SeenAsked) (line text words entries rows : List ℕ)
+    → IsQuestionAnswer old new line text entries → IsQuestionAnswer old other line words rows
+    → (text ≡ words) × (entries ≡ rows) × (new ≡ other)
+one_question old new other line text words entries rows a b = (
+  a.text_is ∙ ap (question_text (without_ids old)) (some_is a.question b.question (sym a.is_question ∙ b.is_question)) ∙ sym b.text_is,
+  a.entries_are ∙ sym b.entries_are,
+  a.after ∙ sym b.after,
+)
 
 -- two answers to a line are one
 pub one_answer : AnswersAreOne
-one_answer old new other line text words entries rows (inl a) (inl b) = one_event old new other line text words entries rows a b
-one_answer old new other line text words entries rows (inl a) (inr b) =
-    absurd (not_both old.settings line a.event b.question a.is_event b.is_question)
-one_answer old new other line text words entries rows (inr a) (inl b) =
-    absurd (not_both old.settings line b.event a.question b.is_event a.is_question)
-one_answer old new other line text words entries rows (inr a) (inr b) =
-    let same : a.question ≡ b.question = (let e : Some a.question ≡ Some b.question = sym a.is_question ∙ b.is_question in cc) in (
-      a.text_is ∙ ap (question_text old) same ∙ sym b.text_is,
-      a.entries_are ∙ sym b.entries_are,
-      a.after ∙ sym b.after,
-    )
+one_answer all old new other line text words entries rows (inl a) (inl b) =
+    one_event all old new other line text words entries rows a b
+one_answer all old new other line text words entries rows (inl a) (inr (inl b)) =
+    absurd (known_or_new old line a.asked b.asked b.known a.is_event b.is_event a.unknown b.is_known)
+one_answer all old new other line text words entries rows (inl a) (inr (inr b)) =
+    absurd (not_both old.settings line a.asked b.question a.is_event b.is_question)
+one_answer all old new other line text words entries rows (inr (inl a)) (inl b) =
+    absurd (known_or_new old line b.asked a.asked a.known b.is_event a.is_event b.unknown a.is_known)
+one_answer all old new other line text words entries rows (inr (inl a)) (inr (inl b)) =
+    one_known old new other line text words entries rows a b
+one_answer all old new other line text words entries rows (inr (inl a)) (inr (inr b)) =
+    absurd (not_both old.settings line a.asked b.question a.is_event b.is_question)
+one_answer all old new other line text words entries rows (inr (inr a)) (inl b) =
+    absurd (not_both old.settings line b.asked a.question b.is_event a.is_question)
+one_answer all old new other line text words entries rows (inr (inr a)) (inr (inl b)) =
+    absurd (not_both old.settings line b.asked a.question b.is_event a.is_question)
+one_answer all old new other line text words entries rows (inr (inr a)) (inr (inr b)) =
+    one_question old new other line text words entries rows a b

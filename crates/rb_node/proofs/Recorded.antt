@@ -1,53 +1,471 @@
 -- What one event leaves, and the line of its entry.
-use Rattle.std.proofs.Common.{◌≡◌, ℕ, Bool, true, false, cond, List, [], ◌∷◌, ◌++◌, refl, sym, ap, ◌∙◌, append-nil}
+use Rattle.std.proofs.Common.{◌≡◌, ◌<◌, ◌≤◌, ◌+◌, ◌-◌, ℕ, Bool, true, false, not, cond, ◌&&◌, ◌||◌, List, [], ◌∷◌, ◌++◌, length}
+use Rattle.std.proofs.Common.{take, refl, sym, ap, subst, ◌∙◌, append-nil, append_assoc, length-append, arith}
+use Rattle.std.specs.Prelude.{codes, map, nat_le, Result, Ok, Err, MatchResult, OnErr, OnOk}
+use Rattle.std.proofs.lemmas.Bool.{and_parts, not-true}
+use Rattle.std.proofs.lemmas.Bool.Decides.{nat_tests}
+use Rattle.std.proofs.lemmas.List.{append_cancel_left, map-append}
+use Rattle.serde_json.specs.Written.{compact_text}
+use Rattle.rb_money.specs.Settings.{Settings}
+use Rattle.rb_money.specs.declared.refusal.Refusal.{Refusal}
+use Rattle.rb_money.specs.declared.refusal.Refusal.TheVariants.{BadBatch, HistoryFull}
+use Rattle.rb_money.specs.Refusals.{and_then}
+use Rattle.rb_lines.specs.Lines.{is_long}
+use Rattle.rb_lines.specs.declared.limits.TheConstants.{LINE_LIMIT}
+use Rattle.rb_scratch.specs.Batches.{batch_of}
+use Rattle.rb_scratch.specs.Requests.{made_of}
+use Rattle.rb_scratch.specs.declared.request.TheConstants.{MOST_REQUESTS}
+use Rattle.rb_shadow.specs.declared.shadow.Shadow.{Shadow}
 use Rattle.rb_site.specs.declared.entry.Entry.{Entry}
 use Rattle.rb_site.specs.declared.event.Event.{Event}
+use Rattle.rb_site.specs.declared.event.Event.TheVariants.{Submit, Batch, Receive, Apply, Pass, Balance, AsOf, Statement}
+use Rattle.rb_site.specs.declared.message.Message.{Message}
 use Rattle.rb_site.specs.declared.reply.Reply.{Reply}
-use Rattle.rb_site.specs.Events.{is_full, reply_to}
-use Rattle.rb_site.specs.Seen.{SeenSite, entry, next_site, state_of, stepped}
-use Rattle.rb_history.specs.Entries.{entry_json}
-use Rattle.rb_node.specs.Answers.{line_of}
-use Rattle.rb_node.specs.Steps.{Steps}
+use Rattle.rb_site.specs.declared.reply.Reply.TheVariants.{Refused}
+use Rattle.rb_site.specs.Events.{Makes, MakesAll, ModelSite, Outcome, Refuses, changes, is_full, outcome_of, reply_of, reply_to, sent_at, sent_by}
+use Rattle.rb_site.specs.Events.{unless_full}
+use Rattle.rb_site.specs.Seen.{SeenSite, entry, next_site, next_sites, state_of, stepped}
+use Rattle.rb_site.specs.Unchanging.{changes_site, next_if_changes, reply_if_changes}
+use Rattle.rb_history.specs.Entries.{asked_entry_json, entry_json}
+use Rattle.rb_history.specs.Adds.{Adds}
+use Rattle.rb_history.proofs.Public.Appended.{both, front_of_sum, front_stays}
+use Rattle.rb_history.specs.Ids.{AskedEntry, is_refusal, may_be_asked}
+use Rattle.rb_node.specs.Answers.{entry_lines, is_kept, kept_events, line_of, reply_kept}
+use Rattle.rb_node.specs.Asked.{SeenAsked, asked_state, entries_alone, without_ids, with_id, with_more}
+use Rattle.rb_node.specs.Steps.{IsUnchanging, Notes, RecordsShort, Steps, StepsKept, if_short, without_id}
+use Rattle.rb_node.proofs.Failed.{stayed}
+pub use Rattle.rb_node.proofs.NextSite.{me-next, next-free, next-full}
 
--- no event changes the site's number
-pub me-next : (x : SeenSite) (e : Event) → (next_site x e).me ≡ x.me
-me-next x e = by (is_full x.settings (state_of x))
+-- ---- one event of a site without ids
+
+-- where the history isn't full, it makes no difference for the reply which events are recorded
+pub reply-free : (s : Settings) (t : ModelSite) (e : Event) → is_full s t ≡ false → reply_if_changes s t e ≡ reply_to s t e
+reply-free s t e free =
+    ap (λ b. reply_of s t.ops (unless_full b (outcome_of s t e))) free
+    ∙ sym (ap (λ b. cond b (Refused HistoryFull) (reply_of s t.ops (outcome_of s t e))) free)
+
+-- and it is the reply that is given
+kept-free : (all : Bool) (x : SeenSite) (e : Event) → is_full x.settings (state_of x) ≡ false
+    → reply_kept all x e ≡ reply_to x.settings (state_of x) e
+kept-free true x e free = refl
+kept-free false x e free = reply-free x.settings (state_of x) e free
+
+-- ---- entries with ids
+
+-- entries with an id, the id left out
+pub alone-with : (id : List ℕ) (xs : List Entry) → entries_alone (map (with_id id) xs) ≡ xs
+alone-with id [] = refl
+alone-with id (x ∷ xs) = ap (λ l. x ∷ l) (alone-with id xs)
+
+-- a site with more entries, the ids left out
+pub more-alone : (x : SeenAsked) (id : List ℕ) (xs : List Entry)
+    → (without_ids (with_more x (map (with_id id) xs))).entries ≡ (without_ids x).entries ++ xs
+more-alone x id xs = map-append (λ (y : AskedEntry). y.entry) x.asked (map (with_id id) xs)
+    ∙ ap (λ l. entries_alone x.asked ++ l) (alone-with id xs)
+
+-- no entries more
+pub more-none : (x : SeenAsked) → x ≡ with_more x []
+more-none x = ap (λ (l : List AskedEntry). record x { asked = l }) (sym (append-nil x.asked))
+
+-- which entries were recorded, by the site without ids
+pub which : (old new : SeenAsked) (id : List ℕ) (xs ys : List Entry) → new ≡ with_more old (map (with_id id) xs)
+    → (without_ids new).entries ≡ (without_ids old).entries ++ ys → xs ≡ ys
+which old new id xs ys is more = append_cancel_left (without_ids old).entries xs ys
+    (sym (more-alone old id xs) ∙ ap (λ (y : SeenAsked). (without_ids y).entries) (sym is) ∙ more)
+
+-- the one of an event
+pub which-one : (old new : SeenAsked) (id : List ℕ) (e : Event) (xs : List Entry) → is_full old.settings (asked_state old) ≡ false
+    → new ≡ with_more old (map (with_id id) xs) → without_ids new ≡ next_site (without_ids old) e
+    → xs ≡ entry e (reply_to old.settings (asked_state old) e) ∷ []
+which-one old new id e xs free is after = which old new id xs _ is
+    (ap (λ (y : SeenSite). y.entries) (after ∙ next-free (without_ids old) e free))
+
+-- none
+which-none : (old new : SeenAsked) (id : List ℕ) (xs : List Entry) → new ≡ with_more old (map (with_id id) xs)
+    → without_ids new ≡ without_ids old → xs ≡ []
+which-none old new id xs is after = which old new id xs [] is
+    (ap (λ (y : SeenSite). y.entries) after ∙ sym (append-nil (without_ids old).entries))
+
+-- ---- entries that may have no id
+
+-- an entry with an id
+abbrev tagged-by : List ℕ → Entry → AskedEntry
+tagged-by id x = record { id = id; entry = x }
+
+-- no id stays none
+pub with-none : (x : Entry) → with_id [] x ≡ without_id x
+with-none x = by (may_be_asked x)
   where
-    by : (b : Bool) → (cond b x (stepped x e)).me ≡ x.me
+    by : (b : Bool) → tagged-by (cond b [] []) x ≡ without_id x
     by true = refl
     by false = refl
 
--- where the history isn't full, the site after an event has its entry
-pub next-free : (x : SeenSite) (e : Event) → is_full x.settings (state_of x) ≡ false → next_site x e ≡ stepped x e
-next-free x e free = ap (λ b. cond b x (stepped x e)) free
+-- an entry that may have no id has none
+pub with-unasked : (id : List ℕ) (x : Entry) → may_be_asked x ≡ false → with_id id x ≡ without_id x
+with-unasked id x none = ap (λ b. tagged-by (cond b id []) x) none
 
--- where it is full, the site stays
-pub next-full : (x : SeenSite) (e : Event) → is_full x.settings (state_of x) ≡ true → next_site x e ≡ x
-next-full x e full = ap (λ b. cond b x (stepped x e)) full
+-- what would be made, and wasn't, is refused
+refused-made : {A : Type 0} (s : Settings) (us : List Shadow) (r : Result A Refusal) (made : A → Outcome) → ((x : A) → changes (made x) ≡ true)
+    → changes (and_then Refuses r made) ≡ false → is_refusal (reply_of s us (and_then Refuses r made)) ≡ true
+refused-made s us (Ok x) made all none = let some : changes (made x) ≡ true = all x in cc
+refused-made s us (Err why) made all none = refl
 
--- an event was recorded, and its entry's line added
-pub recorded : (old new : SeenSite) (e : Event) (reply : Reply) (x : Entry) (me : ℕ) (entries after : List ℕ) →
-    is_full old.settings (state_of old) ≡ false → new ≡ next_site old e → reply ≡ reply_to old.settings (state_of old) e
-    → x ≡ entry e reply → me ≡ old.me → after ≡ entries ++ line_of (entry_json old.settings me x)
+-- an event that changes nothing isn't one with an id that was made
+unasked : (s : Settings) (t : ModelSite) (e : Event) → changes_site s t e ≡ false
+    → may_be_asked (entry e (reply_of s t.ops (outcome_of s t e))) ≡ false
+unfolding outcome_of
+unasked s t (Submit r) none = ap not (refused-made s t.ops (made_of s t.me t.ops t.token r) Makes (λ v. refl) none)
+unasked s t (Batch rs) none = at (not (nat_le 1 (length rs) && nat_le (length rs) MOST_REQUESTS)) none
+  where
+    all : Outcome
+    all = and_then Refuses (batch_of s t.me t.ops t.token 0 rs) MakesAll
+
+    at : (b : Bool) → changes (cond b (Refuses BadBatch) all) ≡ false
+        → not (is_refusal (reply_of s t.ops (cond b (Refuses BadBatch) all))) ≡ false
+    at true h = refl
+    at false h = ap not (refused-made s t.ops (batch_of s t.me t.ops t.token 0 rs) MakesAll (λ vs. refl) h)
+unasked s t (Receive m) none = refl
+unasked s t (Apply x) none = refl
+unasked s t (Pass to) none = refl
+unasked s t (Balance a) none = refl
+unasked s t (AsOf a n) none = refl
+unasked s t (Statement a) none = refl
+
+-- so its entry has no id
+unchanging-unasked : (s : Settings) (t : ModelSite) (e : Event) (id : List ℕ) → is_full s t ≡ false → changes_site s t e ≡ false
+    → with_id id (entry e (reply_to s t e)) ≡ without_id (entry e (reply_to s t e))
+unchanging-unasked s t e id free none = with-unasked id (entry e (reply_to s t e))
+    (ap (λ b. may_be_asked (entry e (cond b (Refused HistoryFull) (reply_of s t.ops (outcome_of s t e))))) free ∙ unasked s t e none)
+
+-- ---- steps
+
+-- an event of no id was recorded
+pub recorded : (old new : SeenAsked) (e : Event) (reply : Reply) (xs : List Entry) (config : Settings) (me : ℕ) (entries after : List ℕ)
+    → is_full old.settings (asked_state old) ≡ false → new ≡ with_more old (map (with_id []) xs)
+    → without_ids new ≡ next_site (without_ids old) e → reply ≡ reply_to old.settings (asked_state old) e
+    → config ≡ old.settings → me ≡ old.me → after ≡ entries ++ line_of (entry_json config me (entry e reply))
     → Steps old new e reply entries after
-recorded old new e reply x me entries after free is given same number added = record {
-  site = is;
-  reply_is = given;
-  recorded = entry e reply ∷ [];
-  recorded_are = ap (λ (y : SeenSite). y.entries) (is ∙ next-free old e free)
-      ∙ ap (λ r. old.entries ++ entry e r ∷ []) (sym given);
-  entries_are = added ∙ ap (λ n. entries ++ line_of (entry_json old.settings n x)) number
-      ∙ ap (λ y. entries ++ line_of (entry_json old.settings old.me y)) same
-      ∙ ap (λ l. entries ++ l) (sym (append-nil (line_of (entry_json old.settings old.me (entry e reply)))));
-}
+recorded old new e reply xs config me entries after free is next given same number added =
+    let x = entry e reply in
+    let one : xs ≡ x ∷ [] = which-one old new [] e xs free is next ∙ ap (λ r. entry e r ∷ []) (sym given) in
+    record {
+      site = next;
+      reply_is = given;
+      recorded_are = is ∙ ap (λ ys. with_more old (map (with_id []) ys)) one ∙ ap (λ y. with_more old (y ∷ [])) (with-none x);
+      entries_are = added ∙ ap (λ s. entries ++ line_of (entry_json s me x)) same
+          ∙ ap (λ n. entries ++ line_of (entry_json old.settings n x)) number
+          ∙ ap (λ l. entries ++ l) (sym (append-nil (line_of (entry_json old.settings old.me x))));
+    }
 
--- an event that a full history refuses leaves no entry
-pub refused : (old : SeenSite) (e : Event) (reply : Reply) (entries : List ℕ) → is_full old.settings (state_of old) ≡ true
-    → reply ≡ reply_to old.settings (state_of old) e → Steps old old e reply entries entries
-refused old e reply entries full given = record {
-  site = sym (next-full old e full);
-  reply_is = given;
+-- an event that a full history refuses, if all are recorded, leaves no entry
+step-full : (old : SeenAsked) (id : List ℕ) (e : Event) (entries : List ℕ) → is_full old.settings (asked_state old) ≡ true
+    → StepsKept true old old id e (Refused HistoryFull) entries entries
+step-full old id e entries full = record {
+  site = by (is_kept true (without_ids old) e);
+  reply_is = sym (ap (λ b. cond b (Refused HistoryFull) (reply_of old.settings (asked_state old).ops (outcome_of old.settings (asked_state old) e)))
+      full);
   recorded = [];
-  recorded_are = sym (append-nil old.entries);
+  recorded_are = more-none old;
   entries_are = sym (append-nil entries);
 }
+  where
+    by : (b : Bool) → without_ids old ≡ next_sites (without_ids old) (cond b (e ∷ []) [])
+    by true = sym (next-full (without_ids old) e full)
+    by false = refl
+
+-- what is left out where only changes are recorded stays
+stays-out : (x : SeenSite) (e : Event) → (changes_site x.settings (state_of x) e && not (is_full x.settings (state_of x))) ≡ false
+    → (next_if_changes x e ≡ x) × (next_sites x (kept_events false x e) ≡ x)
+stays-out x e out = by (changes_site x.settings (state_of x) e) (is_full x.settings (state_of x)) refl out
+  where
+    by : (b full : Bool) → is_full x.settings (state_of x) ≡ full → (b && not full) ≡ false
+        → (cond b (next_site x e) x ≡ x) × (next_sites x (cond (b || false) (e ∷ []) []) ≡ x)
+    by true true q h = (next-full x e q, next-full x e q)
+    by true false q h = absurd (cc)
+    by false full q h = (refl, refl)
+
+-- an event that isn't recorded, if only changes are
+step-left-out : (old new : SeenAsked) (id : List ℕ) (e : Event) (reply : Reply) (xs : List Entry) (entries : List ℕ)
+    → (changes_site old.settings (asked_state old) e && not (is_full old.settings (asked_state old))) ≡ false
+    → new ≡ with_more old (map (with_id id) xs) → without_ids new ≡ next_if_changes (without_ids old) e
+    → reply ≡ reply_if_changes old.settings (asked_state old) e → StepsKept false old new id e reply entries entries
+step-left-out old new id e reply xs entries out is next given =
+    let stays = stays-out (without_ids old) e out in
+    record {
+      site = next ∙ stays.0 ∙ sym stays.1;
+      reply_is = given;
+      recorded = xs;
+      recorded_are = is;
+      entries_are = sym (append-nil entries)
+          ∙ ap (λ ys. entries ++ entry_lines old.settings old.me (map (with_id id) ys)) (sym (which-none old new id xs is (next ∙ stays.0)));
+    }
+
+-- where an event changes the site, and the history isn't full, it is recorded
+next-changed : (all : Bool) (x : SeenSite) (e : Event) → changes_site x.settings (state_of x) e ≡ true
+    → (next_if_changes x e ≡ next_site x e) × (next_sites x (kept_events all x e) ≡ next_site x e)
+next-changed all x e changed = by (changes_site x.settings (state_of x) e) _ changed
+  where
+    by : (b rest : Bool) → b ≡ true → (cond b (next_site x e) x ≡ next_site x e) × (next_sites x (cond (b || rest) (e ∷ []) []) ≡ next_site x e)
+    by true rest q = (refl, refl)
+    by false rest q = absurd (cc)
+
+-- an event that changes the site
+step-changed : (all : Bool) (old new : SeenAsked) (id : List ℕ) (e : Event) (reply : Reply) (xs : List Entry) (config : Settings) (me : ℕ)
+    (entries after : List ℕ) → (changes_site old.settings (asked_state old) e && not (is_full old.settings (asked_state old))) ≡ true
+    → new ≡ with_more old (map (with_id id) xs) → without_ids new ≡ next_if_changes (without_ids old) e
+    → reply ≡ reply_if_changes old.settings (asked_state old) e → config ≡ old.settings → me ≡ old.me
+    → after ≡ entries ++ line_of (asked_entry_json config me (with_id id (entry e reply)))
+    → StepsKept all old new id e reply entries after
+step-changed all old new id e reply xs config me entries after both is next given same number added =
+    let s = old.settings in
+    let t = asked_state old in
+    let parts = and_parts (changes_site s t e) (not (is_full s t)) both in
+    let free : is_full s t ≡ false = not-true (is_full s t) parts.1 in
+    let here = next-changed all (without_ids old) e parts.0 in
+    let x = with_id id (entry e reply) in
+    let one : xs ≡ entry e reply ∷ [] = which-one old new id e xs free is (next ∙ here.0)
+    ∙ ap (λ r. entry e r ∷ []) (sym (given ∙ reply-free s t e free)) in
+    record {
+      site = next ∙ here.0 ∙ sym here.1;
+      reply_is = given ∙ reply-free s t e free ∙ sym (kept-free all (without_ids old) e free);
+      recorded = xs;
+      recorded_are = is;
+      entries_are = added ∙ ap (λ k. entries ++ line_of (asked_entry_json k me x)) same
+          ∙ ap (λ n. entries ++ line_of (asked_entry_json s n x)) number
+          ∙ ap (λ l. entries ++ l) (sym (append-nil (line_of (asked_entry_json s old.me x))))
+          ∙ ap (λ ys. entries ++ entry_lines s old.me (map (with_id id) ys)) (sym one);
+    }
+
+-- what changes nothing, of what isn't recorded
+no-change : (b full : Bool) → full ≡ false → (b && not full) ≡ false → b ≡ false
+no-change true true q h = absurd (cc)
+no-change true false q h = absurd (cc)
+no-change false full q h = refl
+
+-- the site is as it was before an event, which changes nothing
+record Unchanged (old mid : SeenAsked) (x : Entry) : Type 0 where
+  same : mid ≡ old
+  unchanging : IsUnchanging old x
+
+-- so it is where the event wasn't recorded and the history isn't full
+unchanged : (old mid : SeenAsked) (id : List ℕ) (e : Event) (reply : Reply) (xs : List Entry)
+    → (changes_site old.settings (asked_state old) e && not (is_full old.settings (asked_state old))) ≡ false
+    → is_full old.settings (asked_state old) ≡ false → mid ≡ with_more old (map (with_id id) xs)
+    → without_ids mid ≡ next_if_changes (without_ids old) e → reply ≡ reply_if_changes old.settings (asked_state old) e
+    → Unchanged old mid (entry e reply)
+unchanged old mid id e reply xs out free is next given =
+    let s = old.settings in
+    let t = asked_state old in
+    let none : changes_site s t e ≡ false = no-change (changes_site s t e) (is_full s t) free out in
+    let stays : without_ids mid ≡ without_ids old = next ∙ ap (λ b. cond b (next_site (without_ids old) e) (without_ids old)) none in
+    record {
+      same = is ∙ ap (λ ys. with_more old (map (with_id id) ys)) (which-none old mid id xs is stays) ∙ sym (more-none old);
+      unchanging = record { free = free; unchanging = none; reply = given ∙ reply-free s t e free };
+    }
+
+-- an event that changes nothing, if all are recorded
+step-unchanging : (old mid new : SeenAsked) (id : List ℕ) (e : Event) (reply : Reply) (entries after : List ℕ)
+    → Unchanged old mid (entry e reply) → RecordsShort mid new (entry e reply) entries after
+    → StepsKept true old new id e reply entries after
+step-unchanging old mid new id e reply entries after is short = record {
+  site = site;
+  reply_is = reply_is;
+  recorded = if_short s old.me x;
+  recorded_are = here.recorded_are ∙ ap (with_more old) tags;
+  entries_are = here.entries_are ∙ ap (λ ys. entries ++ entry_lines s old.me ys) tags;
+}
+  where
+    s : Settings
+    s = old.settings
+
+    t : ModelSite
+    t = asked_state old
+
+    x : Entry
+    x = entry e reply
+
+    here : RecordsShort old new x entries after
+    here = subst (λ y. RecordsShort y new x entries after) is.same short
+
+    free : is_full s t ≡ false
+    free = is.unchanging.free
+
+    none : changes_site s t e ≡ false
+    none = is.unchanging.unchanging
+
+    reply_is : reply ≡ reply_to s t e
+    reply_is = is.unchanging.reply
+
+    tagged : without_id x ≡ with_id id x
+    tagged = ap (λ r. without_id (entry e r)) reply_is ∙ sym (unchanging-unasked s t e id free none)
+        ∙ ap (λ r. with_id id (entry e r)) (sym reply_is)
+
+    long : Bool
+    long = is_long (compact_text (entry_json s old.me x))
+
+    tagged_if : (b : Bool) → map without_id (cond b [] (x ∷ [])) ≡ map (with_id id) (cond b [] (x ∷ []))
+    tagged_if true = refl
+    tagged_if false = ap (λ y. y ∷ []) tagged
+
+    tags : map without_id (if_short s old.me x) ≡ map (with_id id) (if_short s old.me x)
+    tags = tagged_if long
+
+    kept : kept_events true (without_ids old) e ≡ cond (not long) (e ∷ []) []
+    kept = ap (λ b. cond (b || not (is_long (compact_text (entry_json s old.me (entry e (reply_to s t e)))))) (e ∷ []) []) none
+        ∙ ap (λ r. cond (not (is_long (compact_text (entry_json s old.me (entry e r))))) (e ∷ []) []) (sym reply_is)
+
+    with_entries : List Entry → SeenSite
+    with_entries ys = record (without_ids old) { entries = ys }
+
+    site_if : (b : Bool) → without_ids (with_more old (map without_id (cond b [] (x ∷ [])))) ≡ next_sites (without_ids old) (cond (not b) (e ∷ []) [])
+    site_if true = ap without_ids (sym (more-none old))
+    site_if false = ap with_entries (map-append (λ (y : AskedEntry). y.entry) old.asked (without_id x ∷ []))
+        ∙ ap (λ r. with_entries ((without_ids old).entries ++ entry e r ∷ [])) reply_is ∙ sym (next-free (without_ids old) e free)
+
+    site : without_ids new ≡ next_sites (without_ids old) (kept_events true (without_ids old) e)
+    site = ap without_ids here.recorded_are ∙ site_if long ∙ ap (next_sites (without_ids old)) (sym kept)
+
+-- ---- an entry whose line may be too long
+
+-- the line of an entry, added to others, as long as it is
+length-of-line : (entries added line : List ℕ) → added ≡ entries ++ line → length added - length entries ≡ length line
+length-of-line entries added line is =
+    let whole : length added ≡ length entries + length line = ap length is ∙ length-append entries line in omega arith
+
+-- the entry's line, at what the site knows of itself
+line-at : (s : Settings) (n : ℕ) (x : Entry) (config : Settings) (me : ℕ) (entries added : List ℕ) → config ≡ s → me ≡ n
+    → added ≡ entries ++ compact_text (entry_json config me x) → added ≡ entries ++ compact_text (entry_json s n x)
+line-at s n x config me entries added same number is = is
+    ∙ ap (λ k. entries ++ compact_text (entry_json k me x)) same ∙ ap (λ k. entries ++ compact_text (entry_json s k x)) number
+
+-- an entry whose line isn't too long is recorded
+short-recorded : (old new : SeenAsked) (x : Entry) (config : Settings) (me : ℕ) (entries added after : List ℕ)
+    → new ≡ with_more old (without_id x ∷ []) → config ≡ old.settings → me ≡ old.me
+    → added ≡ entries ++ compact_text (entry_json config me x) → length added - length entries ≤ LINE_LIMIT
+    → after ≡ added ++ 10 ∷ [] → RecordsShort old new x entries after
+short-recorded old new x config me entries added after now is number line short fed =
+    let text = compact_text (entry_json old.settings old.me x) in
+    let here : added ≡ entries ++ text = line-at old.settings old.me x config me entries added is number line in
+    let count : length added - length entries ≡ length text = length-of-line entries added text here in
+    let fits : is_long text ≡ false = grind (arith, nat_tests) in
+    record {
+      recorded_are = now ∙ ap (λ b. with_more old (map without_id (cond b [] (x ∷ [])))) (sym fits);
+      entries_are = fed ∙ ap (λ l. l ++ 10 ∷ []) here ∙ append_assoc entries text (10 ∷ [])
+          ∙ ap (λ l. entries ++ l) (sym (append-nil (text ++ 10 ∷ [])))
+          ∙ ap (λ b. entries ++ entry_lines old.settings old.me (map without_id (cond b [] (x ∷ [])))) (sym fits);
+    }
+
+-- ---- what follows an event
+
+-- where all are recorded and none is refused, the history isn't full
+not-full : (all full : Bool) → false ≡ (all && full) → all ≡ true → full ≡ false
+not-full true full spare each = sym spare
+not-full false full spare each = absurd (cc)
+
+-- an event that wasn't recorded, though all are, changes nothing
+pub still-unchanging : (all recorded : Bool) (old mid : SeenAsked) (id : List ℕ) (e : Event) (reply : Reply) (xs : List Entry)
+    → recorded ≡ (changes_site old.settings (asked_state old) e && not (is_full old.settings (asked_state old)))
+    → false ≡ (all && is_full old.settings (asked_state old)) → mid ≡ with_more old (map (with_id id) xs)
+    → without_ids mid ≡ next_if_changes (without_ids old) e → reply ≡ reply_if_changes old.settings (asked_state old) e
+    → recorded ≡ false → all ≡ true → IsUnchanging mid (entry e reply)
+still-unchanging all recorded old mid id e reply xs told spare is next given out each =
+    let here = unchanged old mid id e reply xs (sym told ∙ out) (not-full all (is_full old.settings (asked_state old)) spare each) is next given in
+    subst (λ y. IsUnchanging y (entry e reply)) (sym here.same) here.unchanging
+
+-- a step, from what follows its event
+pub stepped-by : (all recorded : Bool) (old mid new : SeenAsked) (id : List ℕ) (e : Event) (reply : Reply) (xs : List Entry)
+    (entries after : List ℕ)
+    → recorded ≡ (changes_site old.settings (asked_state old) e && not (is_full old.settings (asked_state old)))
+    → false ≡ (all && is_full old.settings (asked_state old)) → mid ≡ with_more old (map (with_id id) xs)
+    → without_ids mid ≡ next_if_changes (without_ids old) e → reply ≡ reply_if_changes old.settings (asked_state old) e
+    → Notes recorded all mid new id (entry e reply) entries after → StepsKept all old new id e reply entries after
+stepped-by all true old mid new id e reply xs entries after told spare is next given noted =
+    subst (λ y. StepsKept all old y id e reply entries after) (sym noted.0)
+    (step-changed all old mid id e reply xs mid.settings mid.me entries after (sym told) is next given
+    (ap (λ (y : SeenAsked). y.settings) is) (ap (λ (y : SeenAsked). y.me) is) noted.1)
+stepped-by true false old mid new id e reply xs entries after told spare is next given short =
+    step-unchanging old mid new id e reply entries after (unchanged old mid id e reply xs (sym told) (sym spare) is next given) short
+stepped-by false false old mid new id e reply xs entries after told spare is next given noted =
+    subst (λ y. StepsKept false old y id e reply entries after) (sym noted.0)
+    (subst (λ l. StepsKept false old mid id e reply entries l) (sym noted.1)
+    (step-left-out old mid id e reply xs entries (sym told) is next given))
+
+-- where all are recorded and the history is full, each is refused
+pub refused-by : (all : Bool) (old : SeenAsked) (id : List ℕ) (e : Event) (entries : List ℕ)
+    → true ≡ (all && is_full old.settings (asked_state old)) → StepsKept all old old id e (Refused HistoryFull) entries entries
+refused-by true old id e entries full = step-full old id e entries (sym full)
+refused-by false old id e entries full = absurd (cc)
+
+-- and sends nothing
+pub sends-none : (all : Bool) (s : Settings) (t : ModelSite) (e : Event) → true ≡ (all && is_full s t) → sent_at s t e ≡ []
+sends-none true s t e full = ap (λ b. cond b [] (sent_by (outcome_of s t e))) (sym full)
+sends-none false s t e full = absurd (cc)
+
+-- a text that is added, or nothing is
+pub whole-adds : {A E : Type 0} (r : Result A E) (old new text : List ℕ) → OnOk r (new ≡ old ++ text) → OnErr r (new ≡ old)
+    → Adds r old new text
+whole-adds (Ok x) old new text h k = h
+whole-adds (Err x) old new text h k = ap (take (length old)) k ∙ stayed old
+
+-- the line of an entry that may have an id
+pub may-tagged : {A E : Type 0} (r : Result A E) (s : Settings) (me : ℕ) (id : List ℕ) (x : Entry) (old new : List ℕ)
+    → true ≡ may_be_asked x → OnOk r (new ≡ old ++ compact_text (asked_entry_json s me (record { id = id; entry = x })))
+    → OnErr r (new ≡ old) → Adds r old new (compact_text (asked_entry_json s me (with_id id x)))
+may-tagged r s me id x old new may h k =
+    let same : with_id id x ≡ tagged-by id x = ap (λ b. tagged-by (cond b id []) x) (sym may) in
+    subst (λ y. Adds r old new (compact_text (asked_entry_json s me y))) (sym same) (whole-adds r old new _ h k)
+
+-- and of one that may have none
+pub none-tagged : {A E : Type 0} (r : Result A E) (s : Settings) (me : ℕ) (id : List ℕ) (x : Entry) (old new : List ℕ)
+    → false ≡ may_be_asked x → OnOk r (new ≡ old ++ compact_text (entry_json s me x))
+    → OnErr r (new ≡ old) → Adds r old new (compact_text (asked_entry_json s me (with_id id x)))
+none-tagged r s me id x old new none h k =
+    subst (λ y. Adds r old new (compact_text (asked_entry_json s me y))) (sym (with-unasked id x (sym none)))
+    (whole-adds r old new (compact_text (entry_json s me x)) h k)
+
+-- the line of a recorded event's entry, with its line feed
+pub noted-line : {A E : Type 0} (r : Result A E) (recorded all : Bool) (old new : SeenAsked) (id : List ℕ) (x : Entry) (config : Settings)
+    (me : ℕ) (before sent : List Message) (entries added after : List ℕ) → true ≡ recorded → new ≡ old → sent ≡ before
+    → config ≡ old.settings → me ≡ old.me → added ≡ entries ++ compact_text (asked_entry_json config me (with_id id x))
+    → Adds r added after (codes "\n")
+    → MatchResult r (λ _. Notes recorded all old new id x entries after × (sent ≡ before)) (λ _. take (length entries) after ≡ entries)
+noted-line (Ok v) true all old new id x config me before sent entries added after is same kept same_config number line fed =
+    let y = with_id id x in (
+      (
+        same,
+        both entries added after _ (codes "\n") line fed
+            ∙ ap (λ s. entries ++ line_of (asked_entry_json s me y)) same_config
+            ∙ ap (λ n. entries ++ line_of (asked_entry_json old.settings n y)) number,
+      ),
+      kept,
+    )
+noted-line (Ok y) false all old new id x config me before sent entries added after is same kept same_config number line fed = absurd (cc)
+noted-line (Err y) recorded all old new id x config me before sent entries added after is same kept same_config number line fed =
+    front_stays entries added after _ line fed
+
+-- an event that wasn't recorded, and is now
+pub noted-short : {A E : Type 0} (P : Type 0) (r : Result A E) (recorded all : Bool) (old new : SeenAsked) (id : List ℕ) (x : Entry)
+    (entries after : List ℕ) → false ≡ recorded → true ≡ all
+    → MatchResult r (λ _. RecordsShort old new x entries after × P) (λ _. take (length entries) after ≡ entries)
+    → MatchResult r (λ _. Notes recorded all old new id x entries after × P) (λ _. take (length entries) after ≡ entries)
+noted-short P r true all old new id x entries after out each h = absurd (cc)
+noted-short P r false true old new id x entries after out each h = h
+noted-short P r false false old new id x entries after out each h = absurd (cc)
+
+-- an event that isn't recorded
+pub noted-none : (recorded all : Bool) (old new : SeenAsked) (id : List ℕ) (x : Entry) (entries : List ℕ) → false ≡ recorded → false ≡ all
+    → new ≡ old → Notes recorded all old new id x entries entries
+noted-none true all old new id x entries out none same = absurd (cc)
+noted-none false true old new id x entries out none same = absurd (cc)
+noted-none false false old new id x entries out none same = (same, refl)
+
+-- an entry whose line isn't too long was recorded, or there was no memory
+pub recorded-short : {A E : Type 0} (r : Result A E) (inside old new : SeenAsked) (x : Entry) (config : Settings) (me : ℕ)
+    (before sent : List Message) (entries added after : List ℕ) → inside ≡ old → sent ≡ before → config ≡ old.settings → me ≡ old.me
+    → added ≡ entries ++ compact_text (entry_json config me x) → length added - length entries ≤ LINE_LIMIT
+    → after ≡ added ++ 10 ∷ [] → OnOk r (new ≡ with_more inside (without_id x ∷ []))
+    → MatchResult r (λ _. RecordsShort old new x entries after × (sent ≡ before)) (λ _. take (length entries) after ≡ entries)
+recorded-short (Ok v) inside old new x config me before sent entries added after seen kept is number line short fed now =
+    (short-recorded old new x config me entries added after (now ∙ ap (λ y. with_more y (without_id x ∷ [])) seen) is number line short fed, kept)
+recorded-short (Err v) inside old new x config me before sent entries added after seen kept is number line short fed now =
+    front_of_sum entries after _ (both entries added after _ _ line fed)

@@ -1,39 +1,30 @@
 -- An entry, replayed from its line.
-use Rattle.std.proofs.Common.{◌≡◌, ◌≢◌, ◌⊎◌, ◌++◌, ℕ, Bool, true, false, not, List, [], inl, inr, sym, ap, subst, ◌∙◌}
-use Rattle.std.specs.Prelude.{Option, Some, Result, Ok, Err, IfErr, OnOk}
+use Rattle.std.proofs.Common.{◌≡◌, ◌≢◌, ◌++◌, ℕ, Bool, true, false, cond, not, List, [], ◌∷◌, inl, inr, refl, sym, ap, subst, ◌∙◌}
+use Rattle.std.specs.Prelude.{map, is_some, Option, Some, None, MatchOption, Result, Ok, Err, IfErr, OnOk}
 use Rattle.std.specs.Result.{IsErrAnd}
+use Rattle.std.specs.Str.{is_utf8}
 use Rattle.std.specs.Cmp.Lexicographic.{pointwise}
 use lib.Dec.{eqb}
 use lib.Pointwise.{bytes_decides}
 use Rattle.serde_json.specs.Written.{compact_text}
 use Rattle.rb_money.specs.Settings.{Settings}
 use Rattle.rb_site.specs.declared.entry.Entry.{Entry}
-use Rattle.rb_site.specs.Events.{is_full, reply_to}
-use Rattle.rb_site.specs.Seen.{SeenSite, state_of}
-use Rattle.rb_history.specs.Entries.{entry_json, entry_on}
+use Rattle.rb_site.specs.Events.{is_full, reply_to, sent_at}
+use Rattle.rb_site.specs.Seen.{entry, next_site}
+use Rattle.rb_history.specs.Entries.{asked_entry_json, asked_entry_of_line, asked_entry_on}
+use Rattle.rb_history.specs.Fits.{ReadEntriesFit}
+use Rattle.rb_history.specs.Ids.{AskedEntry, IsAsked, may_be_asked}
+use Rattle.rb_node.specs.declared.known_request.KnownRequest.{KnownRequest}
 use Rattle.rb_node.specs.declared.fault.NodeFault.{NodeFault}
-use Rattle.rb_node.specs.declared.fault.NodeFault.TheVariants.{BadLine, OutOfMemory, WrongReply}
+use Rattle.rb_node.specs.declared.fault.NodeFault.TheVariants.{OutOfMemory}
 use Rattle.rb_node.specs.Answers.{SeenNode}
+use Rattle.rb_node.specs.Asked.{SeenAsked, asked_state, known_of, without_ids, with_id, with_more}
 use Rattle.rb_node.specs.Faults.{IsEntryFault}
+use Rattle.rb_node.specs.Kept.{IsKeptAs}
 use Rattle.rb_node.specs.Replays.{IsReadBack, IsReplayedAs}
+use Rattle.rb_node.proofs.Recorded.{which-one}
 
 -- ---- faults
-
--- a replayed entry had another reply, or there was no memory
-abbrev pub IsReplayFault : NodeFault → Type 0
-IsReplayFault why = (why ≡ WrongReply) ⊎ (why ≡ OutOfMemory)
-
--- neither says that its line is bad
-pub not_bad : {A : Type 0} (r : Result A NodeFault) → IfErr r IsReplayFault → r ≡ Err BadLine → ⊥
-not_bad (Ok x) h e = cc
-not_bad (Err x) (inl wrong) e = cc
-not_bad (Err x) (inr none) e = cc
-
--- each is a fault of an entry
-pub entry_fault : {A : Type 0} (r : Result A NodeFault) → IfErr r IsReplayFault → IfErr r IsEntryFault
-entry_fault (Ok x) h = tt
-entry_fault (Err x) (inl wrong) = subst IsEntryFault (sym wrong) tt
-entry_fault (Err x) (inr none) = subst IsEntryFault (sym none) tt
 
 -- what the one fault is the other is
 pub fault_of : {A : Type 0} (r : Result A NodeFault) (why : NodeFault) → IsErrAnd r (λ x. x ≡ why) → IsEntryFault why
@@ -41,10 +32,9 @@ pub fault_of : {A : Type 0} (r : Result A NodeFault) (why : NodeFault) → IsErr
 fault_of (Ok x) why h is = tt
 fault_of (Err x) why h is = subst IsEntryFault (sym h) is
 
--- want of memory is a fault of a replayed entry
-pub memory_fault : {A : Type 0} (r : Result A NodeFault) → IsErrAnd r (λ why. why ≡ OutOfMemory) → IfErr r IsReplayFault
-memory_fault (Ok x) h = tt
-memory_fault (Err x) h = inr h
+-- want of memory is a fault of an entry
+pub memory_fault : {A : Type 0} (r : Result A NodeFault) → IsErrAnd r (λ why. why ≡ OutOfMemory) → IfErr r IsEntryFault
+memory_fault r h = fault_of r OutOfMemory h tt
 
 -- ---- lines
 
@@ -62,57 +52,119 @@ pub other_bytes : (xs ys : List ℕ) → true ≡ not (pointwise eqb xs ys) → 
 other_bytes xs ys h = λ e. let same : not (pointwise eqb xs ys) ≡ false = ap not ((bytes_decides xs ys).1 e) in cc
 
 -- an entry's line, written into what was emptied
-pub written_for : (inside old : SeenSite) (config : Settings) (me : ℕ) (x : Entry) (empty out : List ℕ) → inside ≡ old
-    → inside.settings ≡ config → me ≡ inside.me → empty ≡ [] → out ≡ empty ++ compact_text (entry_json config me x)
-    → out ≡ compact_text (entry_json old.settings old.me x)
+pub written_for : (inside old : SeenAsked) (config : Settings) (me : ℕ) (x : AskedEntry) (empty out : List ℕ) → inside ≡ old
+    → inside.settings ≡ config → me ≡ inside.me → empty ≡ [] → out ≡ empty ++ compact_text (asked_entry_json config me x)
+    → out ≡ compact_text (asked_entry_json old.settings old.me x)
 written_for inside old config me x empty out seen settings number none added =
-    added ∙ ap (λ l. l ++ compact_text (entry_json config me x)) none
-    ∙ ap (λ n. compact_text (entry_json config n x)) (number ∙ ap (λ (y : SeenSite). y.me) seen)
-    ∙ ap (λ s. compact_text (entry_json s old.me x)) (sym settings ∙ ap (λ (y : SeenSite). y.settings) seen)
+    added ∙ ap (λ l. l ++ compact_text (asked_entry_json config me x)) none
+    ∙ ap (λ n. compact_text (asked_entry_json config n x)) (number ∙ ap (λ (y : SeenAsked). y.me) seen)
+    ∙ ap (λ s. compact_text (asked_entry_json s old.me x)) (sym settings ∙ ap (λ (y : SeenAsked). y.settings) seen)
 
 -- a line that is the entry's is read as the entry
-pub back : (s : Settings) (me : ℕ) (x : Entry) (line : List ℕ) → entry_on s line ≡ Some (me, x)
-    → line ≡ compact_text (entry_json s me x) → IsReadBack s me x
-back s me x line on spelled = ap (entry_on s) (sym spelled) ∙ on
+pub back : (s : Settings) (me : ℕ) (x : AskedEntry) (line : List ℕ) → asked_entry_on s line ≡ Some (me, x)
+    → line ≡ compact_text (asked_entry_json s me x) → IsReadBack s me x
+back s me x line on spelled = ap (asked_entry_on s) (sym spelled) ∙ on
 
 -- two values that are there are equal where their options are
-some_is : {A : Type 0} (x y : A) → Some x ≡ Some y → x ≡ y
+pub some_is : {A : Type 0} (x y : A) → Some x ≡ Some y → x ≡ y
 some_is x y e = cc
 
 -- a line is read as one entry
-one_entry : (o : Option (ℕ × Entry)) (me : ℕ) (x y : Entry) → o ≡ Some (me, x) → o ≡ Some (me, y) → y ≡ x
-one_entry o me x y e f = ap (λ (q : ℕ × Entry). q.1) (some_is _ _ (sym f ∙ e))
+pub one_entry : (o : Option (ℕ × AskedEntry)) (me : ℕ) (x y : AskedEntry) → o ≡ Some (me, x) → o ≡ Some (me, y) → x ≡ y
+one_entry o me x y e f = ap (λ (q : ℕ × AskedEntry). q.1) (some_is _ _ (sym e ∙ f))
 
--- a line that isn't the entry's which it is read as is no entry's
-pub no_other : (s : Settings) (me : ℕ) (x : Entry) (line : List ℕ) → entry_on s line ≡ Some (me, x)
-    → line ≢ compact_text (entry_json s me x) → (y : Entry) → entry_on s line ≡ Some (me, y) → line ≢ compact_text (entry_json s me y)
-no_other s me x line on other y read = λ spelled.
-    other (spelled ∙ ap (λ z. compact_text (entry_json s me z)) (one_entry (entry_on s line) me x y on read))
+-- what is read from a line that isn't the line of what it is read as, unless its id is known, isn't that of another entry
+pub no_other : (x : SeenAsked) (e : AskedEntry) (line : List ℕ) → asked_entry_on x.settings line ≡ Some (x.me, e)
+    → (known_of x e.id ≡ None → line ≢ compact_text (asked_entry_json x.settings x.me e)) → (y : AskedEntry)
+    → asked_entry_on x.settings line ≡ Some (x.me, y) → known_of x y.id ≡ None
+    → line ≢ compact_text (asked_entry_json x.settings x.me y)
+no_other x e line on other y read =
+    let P : AskedEntry → Type 0 = λ z. known_of x z.id ≡ None → line ≢ compact_text (asked_entry_json x.settings x.me z) in
+    subst P (one_entry (asked_entry_on x.settings line) x.me e y on read) other
+
+-- where the id of what is read from a line is known, so is that of each entry which is read from it
+pub each_known : (x : SeenAsked) (e : AskedEntry) (line : List ℕ) → asked_entry_on x.settings line ≡ Some (x.me, e)
+    → known_of x e.id ≢ None → (y : AskedEntry) → asked_entry_on x.settings line ≡ Some (x.me, y) → known_of x y.id ≢ None
+each_known x e line on known y read =
+    let P : AskedEntry → Type 0 = λ z. known_of x z.id ≢ None in
+    subst P (one_entry (asked_entry_on x.settings line) x.me e y on read) known
+
+-- ---- ids
+
+-- what is read from a line is an entry with an id that it may have, or with none
+pub read_asked : ReadEntriesFit → (s : Settings) (line : List ℕ) (site : ℕ) (x : AskedEntry) → asked_entry_on s line ≡ Some (site, x) → IsAsked x
+unfolding asked_entry_on
+read_asked fit s line site x is = at (is_utf8 line) is
+  where
+    at : (b : Bool) → cond b (asked_entry_of_line s line) None ≡ Some (site, x) → IsAsked x
+    at true h = (fit s line site x h).3
+    at false h = absurd (cc)
+
+-- an id that is known isn't unknown
+pub known_is : (x : SeenAsked) (id : List ℕ) (kept : KnownRequest) → IsKeptAs x id kept → known_of x id ≢ None
+known_is x id kept is = λ none. absurd (cc)
+
+-- what is known of a value that may be there, if it isn't
+pub where_none : {A P : Type 0} (o : Option A) (Q : A → Type 0) → false ≡ is_some o → MatchOption o P Q → P
+where_none None Q h known = known
+where_none (Some x) Q h known = absurd (cc)
+
+-- and if it is
+pub where_some : {A : Type 0} (P : Type 0) (o : Option A) (Q : A → Type 0) → true ≡ is_some o → MatchOption o P Q → (x : A) × Q x
+where_some P None Q h known = absurd (cc)
+where_some P (Some x) Q h known = (x, known)
+
+-- such an entry is recorded with its id
+tagged : (x : AskedEntry) → IsAsked x → with_id x.id x.entry ≡ x
+tagged x (inl none) = by (may_be_asked x.entry)
+  where
+    with_the : List ℕ → AskedEntry
+    with_the i = record { id = i; entry = x.entry }
+
+    by : (b : Bool) → with_the (cond b x.id []) ≡ x
+    by true = refl
+    by false = ap with_the (sym none)
+tagged x (inr is) = ap (λ b. with_the (cond b x.id [])) is.1
+  where
+    with_the : List ℕ → AskedEntry
+    with_the i = record { id = i; entry = x.entry }
 
 -- ---- replays
 
--- the history is full, or the site gives another reply than the entry has
-abbrev pub IsWrong : SeenSite → Entry → Type 0
-IsWrong old x = (is_full old.settings (state_of old) ≡ true) ⊎ (x.reply ≢ reply_to old.settings (state_of old) x.event)
+-- an entry was replayed: it was recorded with its id, and the site gave its reply
+pub replayed_entry : (old : SeenAsked) (new : SeenNode) (x : AskedEntry) (ys : List Entry) → IsAsked x
+    → is_full old.settings (asked_state old) ≡ false → known_of old x.id ≡ None
+    → new.site ≡ with_more old (map (with_id x.id) ys) → without_ids new.site ≡ next_site (without_ids old) x.entry.event
+    → x.entry.reply ≡ reply_to old.settings (asked_state old) x.entry.event
+    → new.sent ≡ sent_at old.settings (asked_state old) x.entry.event → IsReplayedAs old new x
+replayed_entry old new x ys asked free unknown is next reply sent = record {
+  free = free;
+  unknown = unknown;
+  reply = reply;
+  site = is ∙ ap (λ l. with_more old (map (with_id x.id) l)) (which-one old new.site x.id x.entry.event ys free is next)
+      ∙ ap (λ r. with_more old (with_id x.id (entry x.entry.event r) ∷ [])) (sym reply)
+      ∙ ap (λ y. with_more old (y ∷ [])) (tagged x asked);
+  sent = sent;
+}
 
 -- what is known beside a replay
-pub beside : {A P : Type 0} (r : Result A NodeFault) (inside old : SeenSite) (new : SeenNode) (x : Entry) → inside ≡ old → P
+pub beside : {A P : Type 0} (r : Result A NodeFault) (inside old : SeenAsked) (new : SeenNode) (x : AskedEntry) → inside ≡ old → P
     → OnOk r (IsReplayedAs inside new x) → OnOk r (P × IsReplayedAs old new x)
 beside (Ok y) inside old new x seen p h = (p, subst (λ s. IsReplayedAs s new x) seen h)
 beside (Err y) inside old new x seen p h = tt
 
 -- what the line shows beside a replay
-pub read_from : {A : Type 0} (r : Result A NodeFault) (old : SeenSite) (new : SeenNode) (x : Entry) (line : List ℕ)
-    → entry_on old.settings line ≡ Some (old.me, x)
-    → OnOk r ((line ≡ compact_text (entry_json old.settings old.me x)) × IsReplayedAs old new x)
-    → OnOk r ((y : Entry) × (line ≡ compact_text (entry_json old.settings old.me y)) × IsReadBack old.settings old.me y
+pub read_from : {A : Type 0} (r : Result A NodeFault) (old : SeenAsked) (new : SeenNode) (x : AskedEntry) (line : List ℕ)
+    → asked_entry_on old.settings line ≡ Some (old.me, x)
+    → OnOk r ((line ≡ compact_text (asked_entry_json old.settings old.me x)) × IsReplayedAs old new x)
+    → OnOk r ((y : AskedEntry) × (line ≡ compact_text (asked_entry_json old.settings old.me y)) × IsReadBack old.settings old.me y
     × IsReplayedAs old new y)
 read_from (Ok v) old new x line on h = (x, h.0, back old.settings old.me x line on h.0, h.1)
 read_from (Err v) old new x line on h = tt
 
 -- which entry was replayed, where it is the one on a line
-pub read_on : {A : Type 0} (r : Result A NodeFault) (old : SeenSite) (new : SeenNode) (x : Entry) (line : List ℕ)
-    → entry_on old.settings line ≡ Some (old.me, x) → OnOk r (IsReplayedAs old new x)
-    → OnOk r ((y : Entry) × (entry_on old.settings line ≡ Some (old.me, y)) × IsReplayedAs old new y)
+pub read_on : {A : Type 0} (r : Result A NodeFault) (old : SeenAsked) (new : SeenNode) (x : AskedEntry) (line : List ℕ)
+    → asked_entry_on old.settings line ≡ Some (old.me, x) → OnOk r (IsReplayedAs old new x)
+    → OnOk r ((y : AskedEntry) × (asked_entry_on old.settings line ≡ Some (old.me, y)) × IsReplayedAs old new y)
 read_on (Ok v) old new x line on h = (x, on, h)
 read_on (Err v) old new x line on h = tt

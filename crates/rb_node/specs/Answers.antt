@@ -1,9 +1,11 @@
 -- The answer of a site to the line of an event.
-use Rattle.std.specs.Prelude.{◌≡◌, ℕ, true, false, if◌then◌else◌, List, [], ◌∷◌, ◌++◌, ◌⊎◌, codes, map, Option, Some, None}
+use Rattle.std.specs.Prelude.{◌≡◌, ◌≢◌, ℕ, Bool, true, false, not, ◌&&◌, ◌||◌, if◌then◌else◌, List, [], ◌∷◌, ◌++◌, ◌⊎◌, codes, map}
+use Rattle.std.specs.Prelude.{Option, Some, None}
 use Rattle.std.specs.List.{flat_map}
 use Rattle.std.specs.Str.{is_utf8}
-use Rattle.serde_json.specs.Data.{Data, object, member, no_members}
+use Rattle.serde_json.specs.Data.{Data, Members, array, boolean, no_items, object, member, no_members}
 use Rattle.serde_json.specs.Written.{compact_text}
+use Rattle.rb_lines.specs.Lines.{is_long}
 use Rattle.rb_money.specs.Settings.{Settings}
 use Rattle.rb_shadow.specs.Operations.{clock_of, find_in}
 use Rattle.rb_shadow.specs.declared.op_name.OpName.{OpName}
@@ -15,23 +17,26 @@ use Rattle.rb_site.specs.declared.event.Event.TheVariants.{Apply, Receive}
 use Rattle.rb_site.specs.declared.message.Message.{Message}
 use Rattle.rb_site.specs.declared.reply.Reply.{Reply}
 use Rattle.rb_site.specs.Events.{ModelSite, after_event, after_events, is_full, replies_to_events, reply_to, sent_at}
-use Rattle.rb_site.specs.Seen.{SeenSite, next_sites, state_of}
+use Rattle.rb_site.specs.Seen.{SeenSite, entry, next_sites, state_of}
+use Rattle.rb_site.specs.Unchanging.{changes_site, reply_if_changes}
+use Rattle.rb_history.specs.Ids.{AskedEntry, AskedEvent, id_member}
 use Rattle.rb_history.specs.Replies.{reply_json}
-use Rattle.rb_history.specs.Values.{list_json, one_json}
-use Rattle.rb_history.specs.Entries.{entry_json, event_json, event_of_line}
+use Rattle.rb_history.specs.Values.{list_json, number_json, one_json}
+use Rattle.rb_history.specs.Entries.{asked_entry_json, asked_event_of_line, entry_json, event_json}
+use Rattle.rb_node.specs.Asked.{Known, SeenAsked, asked_state, known_of, without_ids, with_id, with_more}
 
 -- ---- a site by lines, as clients see it
 
 -- the site, and the messages that its last event sent
 pub record SeenNode : Type 0 where
-  pub site : SeenSite
+  pub site : SeenAsked
   pub sent : List Message
 
 -- ---- lines
 
--- the event on a line, at these settings: it has to be UTF-8
-unfoldable pub event_on : Settings → List ℕ → Option Event
-event_on s l = if is_utf8 l then event_of_line s l else None
+-- the event on a line with its id, at these settings: it has to be UTF-8
+unfoldable pub asked_event_on : Settings → List ℕ → Option AskedEvent
+asked_event_on s l = if is_utf8 l then asked_event_of_line s l else None
 
 -- the line of a value, with its line feed
 abbrev pub line_of : Data → List ℕ
@@ -41,13 +46,28 @@ line_of d = compact_text d ++ 10 ∷ []
 abbrev pub messages_json : Settings → List Message → Data
 messages_json s ms = list_json (λ m. event_json s (Receive m)) ms
 
--- an answer: the reply, the messages that were sent, and the replies to the applications that followed; the keys in
--- byte order
-abbrev pub answer_json : Settings → Reply → List Message → List Reply → Data
-answer_json s reply sent later = object
-    (member (codes "reply") (reply_json reply)
+-- the reply, the messages that were sent, and the replies to the applications that followed
+abbrev pub answer_members : Settings → Reply → List Message → List Reply → Members
+answer_members s reply sent later =
+    member (codes "reply") (reply_json reply)
     (member (codes "sends") (messages_json s sent)
-    (member (codes "then") (list_json reply_json later) no_members)))
+    (member (codes "then") (list_json reply_json later) no_members))
+
+-- an answer, with the id of the event, if it has one; the keys in byte order
+abbrev pub asked_answer_json : Settings → List ℕ → Reply → List Message → List Reply → Data
+asked_answer_json s id reply sent later = object (id_member id (answer_members s reply sent later))
+
+-- the answer to a request that was made before
+abbrev pub again_json : Settings → List ℕ → Known → Data
+again_json s id known =
+    object (member (codes "again") (boolean true) (id_member id (answer_members s known.reply known.sent [])))
+
+-- the answer to another request of a known id: it is refused by 25, which is no refusal of a site
+abbrev pub other_request_json : List ℕ → Data
+other_request_json id = object (id_member id
+    (member (codes "reply") (one_json (codes "refused") (number_json 25))
+    (member (codes "sends") (array no_items)
+    (member (codes "then") (array no_items) no_members))))
 
 -- the line of what is sent again; there is none if nothing was sent
 abbrev pub sent_line : Settings → List Message → List ℕ
@@ -55,8 +75,8 @@ sent_line s [] = []
 sent_line s (m ∷ ms) = line_of (one_json (codes "sends") (messages_json s (m ∷ ms)))
 
 -- the lines of entries of a site
-abbrev pub entry_lines : Settings → ℕ → List Entry → List ℕ
-entry_lines s me xs = flat_map (λ x. line_of (entry_json s me x)) xs
+abbrev pub entry_lines : Settings → ℕ → List AskedEntry → List ℕ
+entry_lines s me xs = flat_map (λ x. line_of (asked_entry_json s me x)) xs
 
 -- ---- what is applied after an event
 
@@ -88,17 +108,47 @@ pub record AppliesAll (old new : SeenSite) (names : List OpName) (replies : List
 
 -- ---- the answer
 
--- the site answers the line of an event by this text; these bytes are the lines of the entries that it recorded
-pub record IsSiteAnswer (old new : SeenSite) (line text entries : List ℕ) : Type 0 where
-  pub event : Event
-  pub is_event : event_on old.settings line ≡ Some event
+-- whether a site records an event: the event changes it; or all are recorded, and the line of its entry isn't longer than a
+-- line may be
+abbrev pub is_kept : Bool → SeenSite → Event → Bool
+is_kept all x e = changes_site x.settings (state_of x) e
+    || (all && not (is_long (compact_text (entry_json x.settings x.me (entry e (reply_to x.settings (state_of x) e))))))
+
+-- the event, if it is recorded
+abbrev pub kept_events : Bool → SeenSite → Event → List Event
+kept_events all x e = if is_kept all x e then e ∷ [] else []
+
+-- the reply to an event: where all are recorded each is refused if the history is full; else only what changes the site
+abbrev pub reply_kept : Bool → SeenSite → Event → Reply
+reply_kept all x e = if all then reply_to x.settings (state_of x) e else reply_if_changes x.settings (state_of x) e
+
+-- the site answers the line of an event, whose id, if it has one, isn't known, by this text; these bytes are the lines of
+-- the entries that it recorded: of the event, if it is recorded, with its id, if it was made, and of what was applied then
+pub record IsSiteAnswer (all : Bool) (old new : SeenAsked) (line text entries : List ℕ) : Type 0 where
+  pub asked : AskedEvent
+  pub is_event : asked_event_on old.settings line ≡ Some asked
+  pub unknown : known_of old asked.id ≡ None
+  pub mid : SeenSite
+  pub mid_is : mid ≡ next_sites (without_ids old) (kept_events all (without_ids old) asked.event)
   pub applied : List OpName
-  pub in_turn : AreReadyInTurn old.settings (after_event old.settings (state_of old) event) applied
-  pub all : IsAllApplied old.settings (after_events old.settings (state_of old) (event ∷ map Apply applied))
-  pub after : new ≡ next_sites old (event ∷ map Apply applied)
-  pub text_is : text ≡ line_of (answer_json old.settings (reply_to old.settings (state_of old) event)
-      (sent_at old.settings (state_of old) event)
-      (replies_to_events old.settings (after_event old.settings (state_of old) event) (map Apply applied)))
+  pub in_turn : AreReadyInTurn old.settings (state_of mid) applied
+  pub all_applied : IsAllApplied old.settings (after_events old.settings (state_of mid) (map Apply applied))
+  pub after : without_ids new ≡ next_sites mid (map Apply applied)
+  pub text_is : text ≡ line_of (asked_answer_json old.settings asked.id (reply_kept all (without_ids old) asked.event)
+      (sent_at old.settings (asked_state old) asked.event)
+      (replies_to_events old.settings (state_of mid) (map Apply applied)))
   pub recorded : List Entry
-  pub recorded_are : new.entries ≡ old.entries ++ recorded
-  pub entries_are : entries ≡ entry_lines old.settings old.me recorded
+  pub recorded_are : new ≡ with_more old (map (with_id asked.id) recorded)
+  pub entries_are : entries ≡ entry_lines old.settings old.me (map (with_id asked.id) recorded)
+
+-- the site answers the line of an event whose id is known: the request is the same, and its reply and its messages come
+-- once more; or it is another, and is refused. The site stays as it was, and records nothing
+pub record IsKnownAnswer (old new : SeenAsked) (line text entries : List ℕ) : Type 0 where
+  pub asked : AskedEvent
+  pub is_event : asked_event_on old.settings line ≡ Some asked
+  pub known : Known
+  pub is_known : known_of old asked.id ≡ Some known
+  pub again : known.event ≡ asked.event → text ≡ line_of (again_json old.settings asked.id known)
+  pub other : known.event ≢ asked.event → text ≡ line_of (other_request_json asked.id)
+  pub after : new ≡ old
+  pub entries_are : entries ≡ []

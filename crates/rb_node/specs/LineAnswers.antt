@@ -1,5 +1,5 @@
 -- The answer of a site to a line: to an event, or to a question about itself.
-use Rattle.std.specs.Prelude.{◌≡◌, ◌⊎◌, ℕ, if◌then◌else◌, List, [], ◌++◌, codes, Option, Some, None}
+use Rattle.std.specs.Prelude.{◌≡◌, ◌⊎◌, ℕ, Bool, if◌then◌else◌, List, [], ◌++◌, codes, Option, Some, None}
 use Rattle.std.specs.Str.{is_utf8}
 use Rattle.serde_json.specs.Data.{Data, array, no_items, object, member, no_members}
 use Rattle.rb_site.specs.Seen.{SeenSite}
@@ -8,7 +8,8 @@ use Rattle.rb_history.specs.declared.question.Question.TheVariants.{About, Resen
 use Rattle.rb_history.specs.Questions.{question_of_line}
 use Rattle.rb_history.specs.Values.{number_json, one_json}
 use Rattle.rb_node.specs.About.{about_json}
-use Rattle.rb_node.specs.Answers.{IsSiteAnswer, line_of}
+use Rattle.rb_node.specs.Asked.{SeenAsked, without_ids}
+use Rattle.rb_node.specs.Answers.{IsKnownAnswer, IsSiteAnswer, line_of}
 use Rattle.rb_node.specs.Resends.{count_again, sent_again}
 
 -- the question on a line: it has to be UTF-8
@@ -29,14 +30,15 @@ question_text x (Resend most) =
     sent_again most x ++ line_of (reply_only (one_json (codes "resent") (number_json (count_again most x))))
 
 -- the site answers the question on a line by this text; it stays as it was, and records nothing
-pub record IsQuestionAnswer (old new : SeenSite) (line text entries : List ℕ) : Type 0 where
+pub record IsQuestionAnswer (old new : SeenAsked) (line text entries : List ℕ) : Type 0 where
   pub question : Question
   pub is_question : question_on line ≡ Some question
-  pub text_is : text ≡ question_text old question
+  pub text_is : text ≡ question_text (without_ids old) question
   pub after : new ≡ old
   pub entries_are : entries ≡ []
 
--- the site answers a line by this text; these bytes are the lines of the entries that it recorded
-abbrev pub IsLineAnswer : SeenSite → SeenSite → List ℕ → List ℕ → List ℕ → Type 0
-IsLineAnswer old new line text entries =
-    IsSiteAnswer old new line text entries ⊎ IsQuestionAnswer old new line text entries
+-- the site, which records all events or those that change it, answers a line by this text; these bytes are the lines of the
+-- entries that it recorded
+abbrev pub IsLineAnswer : Bool → SeenAsked → SeenAsked → List ℕ → List ℕ → List ℕ → Type 0
+IsLineAnswer all old new line text entries = IsSiteAnswer all old new line text entries
+    ⊎ (IsKnownAnswer old new line text entries ⊎ IsQuestionAnswer old new line text entries)

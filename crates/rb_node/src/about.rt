@@ -3,7 +3,7 @@ ghost use Rattle.std.specs.Prelude.{◌++◌, codes, decimal, length};
 ghost use Rattle.serde_json.specs.Data.{boolean};
 ghost use Rattle.serde_json.specs.Written.{compact_text};
 ghost use Rattle.rb_shadow.specs.Operations.{clock_of};
-ghost use Rattle.rb_site.specs.Seen.{state_of};
+ghost use Rattle.rb_node.specs.Asked.{asked_state, without_ids};
 ghost use Rattle.rb_history.specs.Adds.{Adds};
 ghost use Rattle.rb_history.specs.Entries.{deps_json};
 ghost use Rattle.rb_history.specs.declared.question.Question.TheVariants.{About};
@@ -18,40 +18,45 @@ impl Node {
     /// How much the site applied, how many entries its history has, and the greatest epoch that it has seen.
     fn append_applied(&self, out: &mut Vec<u8>) -> Result<(), AllocError>
         ensures { Adds result out.old.items out.new.items (codes "{\"reply\":{\"about\":{\"applied\":"
-            ++ (compact_text (deps_json self.now.site.settings.version (clock_of (state_of self.now.site).ops))
-            ++ (codes ",\"entries\":" ++ (decimal (length self.now.site.entries)
-            ++ (codes ",\"epoch\":" ++ decimal (state_of self.now.site).token.epoch))))) }
+            ++ (compact_text (deps_json self.now.site.settings.version (clock_of (asked_state self.now.site).ops))
+            ++ (codes ",\"entries\":" ++ (decimal (length self.now.site.asked)
+            ++ (codes ",\"epoch\":" ++ decimal (asked_state self.now.site).token.epoch))))) }
     {
         append(out, "{\"reply\":{\"about\":{\"applied\":")?;
         append_deps(
             out,
             self.config.version(),
-            self.site.ledger().clock().entries(),
+            self.site.site().ledger().clock().entries(),
         )?;
-        append_number(out, ",\"entries\":", self.site.len() as u64, ",\"epoch\":")?;
-        append_number(out, "", self.site.token().epoch() as u64, "")
+        append_number(
+            out,
+            ",\"entries\":",
+            self.site.site().len() as u64,
+            ",\"epoch\":",
+        )?;
+        append_number(out, "", self.site.site().token().epoch() as u64, "")
     }
 
     /// How many operations the site holds, its number, and whether it has the token.
     fn append_held(&self, out: &mut Vec<u8>) -> Result<(), AllocError>
         ensures { Adds result out.old.items out.new.items (codes ",\"held\":"
-            ++ (decimal (length (state_of self.now.site).held) ++ (codes ",\"site\":" ++ (decimal self.now.site.me
-            ++ (codes ",\"token\":" ++ compact_text (boolean (state_of self.now.site).token.held)))))) }
+            ++ (decimal (length (asked_state self.now.site).held) ++ (codes ",\"site\":" ++ (decimal self.now.site.me
+            ++ (codes ",\"token\":" ++ compact_text (boolean (asked_state self.now.site).token.held)))))) }
     {
-        let has_token = self.site.token().view().held;
+        let has_token = self.site.site().token().view().held;
         append_number(
             out,
             ",\"held\":",
-            self.site.inbox().len() as u64,
+            self.site.site().inbox().len() as u64,
             ",\"site\":",
         )?;
-        append_number(out, "", self.site.me() as u64, ",\"token\":")?;
+        append_number(out, "", self.site.site().me() as u64, ",\"token\":")?;
         append(out, if has_token { "true" } else { "false" })
     }
 
     /// The line of the answer.
     pub(crate) fn append_about(&self, out: &mut Vec<u8>) -> Result<(), AllocError>
-        ensures { Adds result out.old.items out.new.items (question_text self.now.site About) }
+        ensures { Adds result out.old.items out.new.items (question_text (without_ids self.now.site) About) }
     {
         self.append_applied(out)?;
         self.append_held(out)?;

@@ -8,18 +8,19 @@ ghost use Rattle.serde_json.specs.View.{items_of};
 ghost use Rattle.serde_json.specs.Written.{compact_text, items_text};
 ghost use Rattle.rb_site.specs.declared.event.Event.TheVariants.{Receive as Receipt};
 ghost use Rattle.rb_site.specs.Events.{is_full};
-ghost use Rattle.rb_site.specs.Seen.{state_of};
 ghost use Rattle.rb_history.specs.Adds.{Adds};
 ghost use Rattle.rb_history.specs.Replies.{reply_json};
 ghost use Rattle.rb_history.specs.Entries.{event_json};
-ghost use Rattle.rb_node.specs.Answers.{IsAllApplied, IsNextName, event_on, messages_json};
+ghost use Rattle.rb_history.specs.Ids.{IsIdOrNone, between_if_any};
+ghost use Rattle.rb_node.specs.Answers.{IsAllApplied, IsNextName, asked_event_on, messages_json};
+ghost use Rattle.rb_node.specs.Asked.{asked_state, known_of};
 ghost use Rattle.rb_node.specs.Faults.{IsLineFault};
 ghost use Rattle.rb_node.specs.LineAnswers.{IsLineAnswer, question_on};
-ghost use Rattle.rb_node.specs.Steps.{AnswersEvent, Applies, AppliesOne};
+ghost use Rattle.rb_node.specs.Steps.{AnswersAsked, AnswersEvent, Applies, AppliesOne};
 
 use crate::{Node, NodeFault};
 use rb_history::write::append::append;
-use rb_history::{LineFault, append_event, append_value, read_event};
+use rb_history::{LineFault, RequestId, append_event, append_value, read_asked_event};
 use rb_lines::text_on;
 use rb_money::Config;
 use rb_shadow::OpName;
@@ -65,17 +66,30 @@ fn append_later_reply(out: &mut Vec<u8>, comma: &str, reply: &Reply) -> Result<(
     append_value(out, reply)
 }
 
-/// What an answer begins with: the reply, the messages, and the bracket that opens the list of what follows.
-fn append_answer_head(
+/// The beginning of an answer: its id, if it has one, and the key of the reply.
+fn append_answer_head(out: &mut Vec<u8>, id: &RequestId) -> Result<(), AllocError>
+    ensures added { Adds result out.old.items out.new.items
+        (codes "{" ++ (between_if_any (codes "\"id\":\"") id.now (codes "\",") ++ codes "\"reply\":")) }
+    ensures id { IsIdOrNone id.now }
+{
+    if id.as_bytes().is_empty() {
+        return append(out, "{\"reply\":");
+    }
+    append(out, "{\"id\":\"")?;
+    out.extend_from_slice(id.as_bytes())?;
+    append(out, "\",\"reply\":")
+}
+
+/// The reply of an answer, the messages, and the bracket that opens the list of what follows.
+pub(crate) fn append_rest(
     out: &mut Vec<u8>,
     config: &Config,
     reply: &Reply,
     sent: &[Message],
 ) -> Result<(), AllocError>
-    ensures { Adds result out.old.items out.new.items (codes "{\"reply\":" ++ (compact_text (reply_json reply.now)
-        ++ (codes ",\"sends\":" ++ (compact_text (messages_json config.now sent.now) ++ codes ",\"then\":[")))) }
+    ensures { Adds result out.old.items out.new.items (compact_text (reply_json reply.now)
+        ++ (codes ",\"sends\":" ++ (compact_text (messages_json config.now sent.now) ++ codes ",\"then\":["))) }
 {
-    append(out, "{\"reply\":")?;
     append_value(out, reply)?;
     append(out, ",\"sends\":[")?;
     append_messages(out, config, sent)?;
@@ -83,19 +97,19 @@ fn append_answer_head(
 }
 
 impl Node {
-    /// The event on a line.
-    #[tactic(auto, unfolding(crate::specs::Answers::event_on))]
-    fn event_of(&self, line: &[u8]) -> Result<Event, NodeFault>
+    /// The event on a line, and its id in its place.
+    #[tactic(auto, unfolding(crate::specs::Answers::asked_event_on))]
+    fn event_of(&self, line: &[u8], id: &mut RequestId) -> Result<Event, NodeFault>
         ensures read { MatchResult result
-            (λ event. event_on self.now.site.settings line.now ≡ Some event)
-            (λ why. (why ≡ NodeFault.BadLine → event_on self.now.site.settings line.now ≡ None)
+            (λ event. asked_event_on self.now.site.settings line.now ≡ Some (record { id = id.new; event = event }))
+            (λ why. (why ≡ NodeFault.BadLine → asked_event_on self.now.site.settings line.now ≡ None)
             × IsLineFault why) }
         ensures not_text { is_utf8 line.now ≡ false → result ≡ Err NodeFault.BadLine }
     {
         let Some(text) = text_on(line) else {
             return Err(NodeFault::BadLine);
         };
-        match read_event(self.alloc, &self.config, text) {
+        match read_asked_event(self.alloc, &self.config, text, id) {
             Ok(event) => Ok(event),
             Err(LineFault::Bad) => Err(NodeFault::BadLine),
             Err(LineFault::OutOfMemory) => Err(NodeFault::OutOfMemory),
@@ -126,7 +140,7 @@ impl Node {
         text: &mut Vec<u8>,
         entries: &mut Vec<u8>,
     ) -> Result<(), AllocError>
-        requires { is_full self.old.site.settings (state_of self.old.site) ≡ false }
+        requires { is_full self.old.site.settings (asked_state self.old.site) ≡ false }
         ensures { MatchResult result
             (λ _. AppliesOne self.old.site self.new.site name comma.now text.old.items text.new.items entries.old.items
             entries.new.items)
@@ -140,49 +154,78 @@ impl Node {
     /// The name of the operation that is to be applied next: the first, by home, colour and number, of those that are
     /// held and whose past is applied. `None` if there is none, or the history is full.
     fn ready(&self) -> Option<OpName>
-        ensures some { IfSome result (IsNextName (state_of self.now.site)) }
-        ensures free { OnSome result (is_full self.now.site.settings (state_of self.now.site) ≡ false) }
-        ensures none { IfNone result (IsAllApplied self.now.site.settings (state_of self.now.site)) }
+        ensures some { IfSome result (IsNextName (asked_state self.now.site)) }
+        ensures free { OnSome result (is_full self.now.site.settings (asked_state self.now.site) ≡ false) }
+        ensures none { IfNone result (IsAllApplied self.now.site.settings (asked_state self.now.site)) }
     {
-        if self.site.is_full() {
+        if self.site.site().is_full() {
             return None;
         }
-        self.site.inbox().ready(self.site.ledger().clock())
+        let site = self.site.site();
+        site.inbox().ready(site.ledger().clock())
     }
 
-    /// One event, answered.
+    /// One event of an id that isn't known, answered.
     fn answer_event(
         &mut self,
+        all: bool,
+        id: &RequestId,
+        event: Event,
+        text: &mut Vec<u8>,
+        entries: &mut Vec<u8>,
+    ) -> Result<(), AllocError>
+        requires { known_of self.old.site id.now ≡ None }
+        ensures { MatchResult result
+            (λ _. AnswersEvent all self.old.site self.new.site id.now event text.old.items text.new.items
+            entries.old.items entries.new.items)
+            (λ _. (take (length text.old.items) text.new.items ≡ text.old.items)
+            × (take (length entries.old.items) entries.new.items ≡ entries.old.items)) }
+    {
+        let reply = self.step(all, id, event, entries)?;
+        append_answer_head(text, id)?;
+        append_rest(text, &self.config, &reply, self.sent.as_slice())?;
+        self.apply_ready(text, entries)?;
+        append(text, "}\n")
+    }
+
+    /// One event with its id, answered: by what is known of the id, or as a new one.
+    fn answer_asked(
+        &mut self,
+        all: bool,
+        id: &RequestId,
         event: Event,
         text: &mut Vec<u8>,
         entries: &mut Vec<u8>,
     ) -> Result<(), AllocError>
         ensures { MatchResult result
-            (λ _. AnswersEvent self.old.site self.new.site event text.old.items text.new.items entries.old.items
-            entries.new.items)
+            (λ _. AnswersAsked all self.old.site self.new.site (record { id = id.now; event = event }) text.old.items
+            text.new.items entries.old.items entries.new.items)
             (λ _. (take (length text.old.items) text.new.items ≡ text.old.items)
             × (take (length entries.old.items) entries.new.items ≡ entries.old.items)) }
     {
-        let reply = self.step(event, entries)?;
-        append_answer_head(text, &self.config, &reply, self.sent.as_slice())?;
-        self.apply_ready(text, entries)?;
-        append(text, "}\n")
+        if self.append_known(text, id, &event)? {
+            return Ok(());
+        }
+        self.answer_event(all, id, event, text, entries)
     }
 
-    /// One event, answered. `OutOfMemory` leaves answers and entries as they were.
+    /// One event with its id, answered. `OutOfMemory` leaves answers and entries as they were.
     fn answer_whole(
         &mut self,
+        all: bool,
+        id: &RequestId,
         event: Event,
         answers: &mut Vec<u8>,
         entries: &mut Vec<u8>,
     ) -> Result<(), NodeFault>
-        ensures answered { OnOk result (AnswersEvent self.old.site self.new.site event answers.old.items
-            answers.new.items entries.old.items entries.new.items) }
+        ensures answered { OnOk result (AnswersAsked all self.old.site self.new.site
+            (record { id = id.now; event = event }) answers.old.items answers.new.items entries.old.items
+            entries.new.items) }
         ensures err { OnErr result ((answers.new.items ≡ answers.old.items) × (entries.new.items ≡ entries.old.items)) }
         ensures memory { IfErr result (λ why. why ≡ NodeFault.OutOfMemory) }
     {
         let (answered, recorded) = (answers.len(), entries.len());
-        match self.answer_event(event, answers, entries) {
+        match self.answer_asked(all, id, event, answers, entries) {
             Ok(()) => Ok(()),
             Err(_) => {
                 answers.truncate(answered);
@@ -200,6 +243,14 @@ impl Node {
     /// whatever is held and ready is applied, by home, of one home the blue ones before the red ones, and of one colour
     /// by number, until nothing is ready or the history is full.
     ///
+    /// With `all` each event is recorded, but for one that changes nothing and whose entry's line would be longer than
+    /// a line may be. Without it an event is recorded only if it changes the site, and any other is answered though the
+    /// history is full.
+    ///
+    /// A request or a batch may have an id: 1 to 64 bytes of `A-Z a-z 0-9 . _ : -`, as the member `"id"`. Answer and
+    /// entry have it too. It is known once the request is made; then the same request is answered by its reply and its
+    /// messages once more, `{"again":true,"id":..}`, and another one of the id by refusal 25. Neither changes anything.
+    ///
     /// A question leaves the site as it was, and isn't recorded. `{"about":"site"}` has a reply `{"about":..}` of what
     /// the site applied and holds, and `{"resend":N}` (N 0 to 100,000,000) a reply `{"resent":K}` behind K lines
     /// `{"sends":[M..]}`, one for each of the last N entries that sent any message.
@@ -211,20 +262,22 @@ impl Node {
     pub fn answer(
         &mut self,
         line: &[u8],
+        all: bool,
         answers: &mut Vec<u8>,
         entries: &mut Vec<u8>,
     ) -> Result<(), NodeFault>
         ensures answered { OnOk result ((text : List ℕ) × (lines : List ℕ)
-            × IsLineAnswer self.old.site self.new.site line.now text lines
+            × IsLineAnswer all self.old.site self.new.site line.now text lines
             × (answers.new.items ≡ answers.old.items ++ text) × (entries.new.items ≡ entries.old.items ++ lines)) }
-        ensures bad { result ≡ Err NodeFault.BadLine → (event_on self.old.site.settings line.now ≡ None)
+        ensures bad { result ≡ Err NodeFault.BadLine → (asked_event_on self.old.site.settings line.now ≡ None)
             × (question_on line.now ≡ None) × (self.new ≡ self.old) }
         ensures not_text { is_utf8 line.now ≡ false → result ≡ Err NodeFault.BadLine }
         ensures err { OnErr result ((answers.new.items ≡ answers.old.items) × (entries.new.items ≡ entries.old.items)) }
         ensures refusals { IfErr result IsLineFault }
     {
-        match self.event_of(line) {
-            Ok(event) => self.answer_whole(event, answers, entries),
+        let mut id = RequestId::none(self.alloc);
+        match self.event_of(line, &mut id) {
+            Ok(event) => self.answer_whole(all, &id, event, answers, entries),
             Err(NodeFault::BadLine) => self.answer_question(line, answers),
             Err(fault) => Err(fault),
         }

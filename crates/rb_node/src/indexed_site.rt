@@ -1,10 +1,11 @@
 //! A site that keeps no history, with an index of the messages of its entries. The operations that it made are in its
 //! ledger, each behind those that were applied before it, so the index says which they are; it keeps the token's
 //! messages.
-ghost use Rattle.std.specs.Prelude.{◌≡◌, ◌<◌, ◌≤◌, ◌+◌, ◌++◌, IfOk, OnErr, OnOk, length};
+ghost use Rattle.std.specs.Prelude.{◌≡◌, ◌<◌, ◌≤◌, ◌+◌, ◌++◌, ◌&&◌, not, false, IfOk, OnErr, OnOk, length};
 ghost use Rattle.std.specs.Prelude.{vec_len, vec_capacity};
 ghost use Rattle.rb_site.specs.Events.{first_site, is_full, reply_to, sent_at};
 ghost use Rattle.rb_site.specs.Seen.{first_seen, next_site, state_of};
+ghost use Rattle.rb_site.specs.Unchanging.{changes_site, next_if_changes, reply_if_changes};
 ghost use Rattle.rb_node.specs.Index.{lines_again, noted_of};
 ghost use Rattle.rb_node.specs.Resends.{resent, resent_count};
 
@@ -90,6 +91,47 @@ impl IndexedSite {
             &sent.as_slice()[sent_before..],
         );
         Ok(())
+    }
+
+    /// One event, which is recorded only if it changes more than the history: as `Site::answer_if_changes`. Whether it
+    /// was recorded.
+    #[inline(always)]
+    pub fn answer_if_changes(
+        &mut self,
+        event: &Event,
+        sent: &mut Vec<Message>,
+        reply: &mut Reply,
+    ) -> Result<bool, AllocError>
+        ensures ok { OnOk result ((self.new ≡ next_if_changes self.old event.now)
+            × (reply.new ≡ reply_if_changes self.old.settings (state_of self.old) event.now)
+            × (sent.new.items ≡ sent.old.items ++ sent_at self.old.settings (state_of self.old) event.now)) }
+        ensures recorded { IfOk result (λ recorded. recorded
+            ≡ (changes_site self.old.settings (state_of self.old) event.now
+            && not (is_full self.old.settings (state_of self.old)))) }
+        ensures err { OnErr result ((self.new ≡ self.old) × (sent.new.items ≡ sent.old.items)) }
+    {
+        reserve_one(&mut self.index)?;
+        let (before, first) = (self.site.len(), self.site.ledger().len());
+        let sent_before = sent.len();
+        let recorded = self.site.answer_if_changes(event, sent, reply)?;
+        if !recorded {
+            return Ok(false);
+        }
+        let end = self.site.ledger().len();
+        let messages = &sent.as_slice()[sent_before..];
+        note(&mut self.index, before, first, end, messages);
+        Ok(true)
+    }
+
+    /// Records an event that changes nothing, with the reply that the site gave to it. `Err` means out of memory.
+    pub fn record_unchanging(&mut self, event: &Event, reply: &Reply) -> Result<(), AllocError>
+        requires free { is_full self.old.settings (state_of self.old) ≡ false }
+        requires unchanging { changes_site self.old.settings (state_of self.old) event.now ≡ false }
+        requires reply { reply.now ≡ reply_to self.old.settings (state_of self.old) event.now }
+        ensures ok { OnOk result (self.new ≡ next_site self.old event.now) }
+        ensures err { OnErr result (self.new ≡ self.old) }
+    {
+        self.site.record_unchanging(event, reply)
     }
 
     /// The entries that sent any message, of those that have at least this number before them.

@@ -4,9 +4,13 @@
 #![tactic(auto)]
 
 mod about;
+mod again;
+mod asked_site;
+mod erased_asked;
 mod event_line;
 mod fault;
 mod indexed_site;
+mod known_request;
 mod node;
 mod question;
 mod replay;
@@ -14,8 +18,8 @@ mod resend;
 mod sent_entry;
 mod step;
 
-ghost use Rattle.rb_node.specs.Laws.{AnswersAreOne, AnswersAreReplayed, ConfigsAreJournalLines};
-ghost use Rattle.rb_node.specs.Laws.{EntriesAreJournalLines};
+ghost use Rattle.rb_node.specs.Laws.{AnswersAreOne, AnswersAreReplayed, AnswersAreTheSame, ConfigsAreJournalLines};
+ghost use Rattle.rb_node.specs.Laws.{EntriesAreJournalLines, IdsStayOnce};
 
 pub use fault::NodeFault;
 pub use node::Node;
@@ -44,4 +48,12 @@ pub fn replays_back()
 /// entries and the site after it.
 pub fn answers_are_one()
     ensures { AnswersAreOne }
+{}
+
+/// No two entries of a site have one id, if its lines are answered: an answer leaves none where there were none. And an
+/// answer to a line whose id an entry has is that entry's reply with its messages, once more, if it is the same
+/// request, and else refusal 25; it changes nothing and records nothing.
+pub fn asked_once()
+    ensures once { IdsStayOnce }
+    ensures same { AnswersAreTheSame }
 {}

@@ -1,13 +1,13 @@
 //! One site by lines.
 ghost use Rattle.std.specs.Prelude.{◌≡◌, ◌<◌, ◌≤◌, Some, None, IfOk, Err};
 ghost use Rattle.rb_money.specs.Settings.{Settings};
-ghost use Rattle.rb_site.specs.Seen.{first_seen};
 ghost use Rattle.rb_history.specs.Configurations.{config_on};
 ghost use Rattle.rb_history.specs.ConfigLines.{config_json};
 ghost use Rattle.rb_node.specs.Answers.{line_of};
+ghost use Rattle.rb_node.specs.Asked.{first_asked};
 
+use crate::asked_site::AskedSite;
 use crate::fault::NodeFault;
-use crate::indexed_site::IndexedSite;
 use rb_history::{LineFault, open_config, write_config};
 use rb_money::Config;
 use rb_site::Message;
@@ -19,7 +19,7 @@ use std::marker::Model;
 pub struct Node {
     pub(crate) alloc: Global,
     pub(crate) config: Config,
-    pub(crate) site: IndexedSite,
+    pub(crate) site: AskedSite,
     /// The messages of the last event.
     pub(crate) sent: Vec<Message>,
     /// The last entry, written to compare it with its line; it keeps its memory from one entry to the next.
@@ -43,7 +43,7 @@ impl Node {
     /// Errors: `BadConfig` if the line is none; `NoSite` if it has no such site; `OutOfMemory`.
     pub fn open(alloc: Global, line: &[u8], me: u8) -> Result<Node, NodeFault>
         ensures opened { IfOk result (λ node. (s : Settings) × (config_on line.now ≡ Some s) × (me < s.sites)
-            × (node.site ≡ first_seen s me)) }
+            × (node.site ≡ first_asked s me)) }
         ensures bad { result ≡ Err NodeFault.BadConfig → config_on line.now ≡ None }
         ensures no_site { result ≡ Err NodeFault.NoSite → (s : Settings) × (config_on line.now ≡ Some s)
             × (s.sites ≤ me) }
@@ -58,7 +58,7 @@ impl Node {
         if me >= config.sites() {
             return Err(NodeFault::NoSite);
         }
-        let site = IndexedSite::open(alloc, &config, me)?;
+        let site = AskedSite::open(alloc, &config, me)?;
         Ok(Node {
             alloc,
             config,
@@ -79,7 +79,7 @@ impl Node {
     pub fn me(&self) -> u8
         ensures { result ≡ self.now.site.me }
     {
-        self.site.me()
+        self.site.site().me()
     }
 
     /// The line of the configuration, with its line feed: the first of a journal. An `Err` means out of memory.

@@ -4,6 +4,7 @@ ghost use Rattle.std.specs.Str.{is_utf8};
 ghost use Rattle.rb_history.specs.Adds.{Adds};
 ghost use Rattle.rb_history.specs.declared.question.Question.{Question as TheQuestion};
 ghost use Rattle.rb_node.specs.Faults.{IsLineFault};
+ghost use Rattle.rb_node.specs.Asked.{without_ids};
 ghost use Rattle.rb_node.specs.LineAnswers.{question_on, question_text};
 
 use crate::{Node, NodeFault};
@@ -32,7 +33,7 @@ impl Node {
 
     /// The text of the answer to a question.
     fn append_question_text(&self, out: &mut Vec<u8>, question: Question) -> Result<(), AllocError>
-        ensures { Adds result out.old.items out.new.items (question_text self.now.site question) }
+        ensures { Adds result out.old.items out.new.items (question_text (without_ids self.now.site) question) }
     {
         match question {
             Question::About => self.append_about(out),
@@ -49,7 +50,7 @@ impl Node {
         answers: &mut Vec<u8>,
     ) -> Result<(), NodeFault>
         ensures answered { OnOk result ((question : TheQuestion) × (question_on line.now ≡ Some question)
-            × (answers.new.items ≡ answers.old.items ++ question_text self.now.site question)) }
+            × (answers.new.items ≡ answers.old.items ++ question_text (without_ids self.now.site) question)) }
         ensures bad { result ≡ Err NodeFault.BadLine → question_on line.now ≡ None }
         ensures not_text { is_utf8 line.now ≡ false → result ≡ Err NodeFault.BadLine }
         ensures err { OnErr result (answers.new.items ≡ answers.old.items) }

@@ -1,24 +1,23 @@
 //! The line of an entry, replayed. A journal's line is taken only as the site writes it: it is written once more and
 //! compared, so that what is replayed and what the file has can't differ.
-ghost use Rattle.std.specs.Prelude.{◌≡◌, ◌≢◌, ◌++◌, ◌⊎◌, Some, None, true, length, take, Err, IfErr, OnOk, OnErr};
+ghost use Rattle.std.specs.Prelude.{◌≡◌, ◌≢◌, ◌++◌, Some, None, length, take, Err, IfErr, IfOk, OnOk, OnErr};
 ghost use Rattle.std.specs.Prelude.{MatchResult};
-ghost use Rattle.rb_site.specs.declared.entry.Entry.{Entry as EntryOf};
-ghost use Rattle.rb_site.specs.Events.{is_full, reply_to};
-ghost use Rattle.rb_site.specs.Seen.{state_of};
 ghost use Rattle.rb_history.specs.Adds.{Adds};
-ghost use Rattle.rb_history.specs.Entries.{entry_json, entry_on};
+ghost use Rattle.rb_history.specs.Entries.{asked_entry_json, asked_entry_on};
+ghost use Rattle.rb_history.specs.Ids.{AskedEntry, IsAsked};
 ghost use Rattle.serde_json.specs.Written.{compact_text};
 ghost use Rattle.rb_node.specs.Answers.{sent_line};
+ghost use Rattle.rb_node.specs.Asked.{known_of};
 ghost use Rattle.rb_node.specs.Faults.{IsEntryFault};
-ghost use Rattle.rb_node.specs.Replays.{IsReadBack, IsReplayedAs};
+ghost use Rattle.rb_node.specs.Replays.{IsNotNext, IsReadBack, IsReplayedAs};
 
 use crate::event_line::append_messages;
 use crate::{Node, NodeFault};
 use rb_history::write::append::append;
-use rb_history::{LineFault, append_line, read_line};
+use rb_history::{LineFault, RequestId, append_asked_line, read_asked_entry};
 use rb_lines::text_on;
 use rb_money::{Config, Refusal};
-use rb_site::{Entry, Message, Reply};
+use rb_site::{Entry, Event, Message, Reply};
 use std::alloc::AllocError;
 
 /// The messages as a line, if there are any.
@@ -38,19 +37,26 @@ pub(crate) fn append_sends(
 }
 
 impl Node {
-    /// The entry of this site on a line.
-    #[tactic(auto, unfolding(rb_history::specs::Entries::entry_on))]
-    fn entry_of(&self, line: &[u8]) -> Result<Entry, NodeFault>
-        ensures { MatchResult result
-            (λ entry. entry_on self.now.site.settings line.now ≡ Some (self.now.site.me, entry))
-            (λ why. (why ≡ NodeFault.BadLine → (x : EntryOf) → entry_on self.now.site.settings line.now
+    /// The entry of this site on a line, and its id in its place.
+    #[tactic(auto, unfolding(rb_history::specs::Entries::asked_entry_on))]
+    fn entry_of(&self, line: &[u8], id: &mut RequestId) -> Result<Entry, NodeFault>
+        ensures read { MatchResult result
+            (λ entry. asked_entry_on self.now.site.settings line.now
+            ≡ Some (self.now.site.me, record { id = id.new; entry = entry }))
+            (λ why. (why ≡ NodeFault.BadLine → (x : AskedEntry) → asked_entry_on self.now.site.settings line.now
             ≢ Some (self.now.site.me, x)) × IsEntryFault why × (why ≢ NodeFault.WrongReply)) }
+        ensures asked { IfOk result (λ entry. IsAsked (record { id = id.new; entry = entry })) }
     {
+        rb_history::read_entries_fit();
         let Some(text) = text_on(line) else {
             return Err(NodeFault::BadLine);
         };
-        match read_line(self.alloc, &self.config, text) {
-            Ok((site, entry)) if site == self.site.me() => Ok(entry),
+        let mut entry = Entry {
+            event: Event::Pass(0),
+            reply: Reply::Taken(0),
+        };
+        match read_asked_entry(self.alloc, &self.config, text, &mut entry, id) {
+            Ok(site) if site == self.me() => Ok(entry),
             Err(LineFault::OutOfMemory) => Err(NodeFault::OutOfMemory),
             _ => Err(NodeFault::BadLine),
         }
@@ -59,77 +65,95 @@ impl Node {
     /// The next entry of the site's history, from its line. What the entry sent stays to be sent again by
     /// `append_sent`.
     ///
-    /// Errors: `BadLine` if the line is no entry of this site; `WrongReply` if the site gives another reply, or
-    /// its history is full; `OutOfMemory`. After the last two nothing more may be asked of the site.
+    /// Errors: `BadLine` if the line is no entry of this site, or has the id of an entry before; `WrongReply` if the
+    /// site gives another reply, or its history is full; `OutOfMemory`. After the last two nothing more may be asked of
+    /// the site.
     pub fn replay(&mut self, line: &[u8]) -> Result<(), NodeFault>
-        ensures replayed { OnOk result ((x : EntryOf) × (entry_on self.old.site.settings line.now
+        ensures replayed { OnOk result ((x : AskedEntry) × (asked_entry_on self.old.site.settings line.now
             ≡ Some (self.old.site.me, x)) × IsReplayedAs self.old.site self.new x) }
-        ensures bad { result ≡ Err NodeFault.BadLine → ((x : EntryOf) → entry_on self.old.site.settings line.now
-            ≢ Some (self.old.site.me, x)) × (self.new ≡ self.old) }
-        ensures wrong { result ≡ Err NodeFault.WrongReply → (x : EntryOf)
-            × (entry_on self.old.site.settings line.now ≡ Some (self.old.site.me, x))
-            × ((is_full self.old.site.settings (state_of self.old.site) ≡ true)
-            ⊎ (x.reply ≢ reply_to self.old.site.settings (state_of self.old.site) x.event)) }
+        ensures bad { result ≡ Err NodeFault.BadLine → ((x : AskedEntry)
+            → asked_entry_on self.old.site.settings line.now ≡ Some (self.old.site.me, x)
+            → known_of self.old.site x.id ≢ None) × (self.new ≡ self.old) }
+        ensures wrong { result ≡ Err NodeFault.WrongReply → (x : AskedEntry)
+            × (asked_entry_on self.old.site.settings line.now ≡ Some (self.old.site.me, x))
+            × IsNotNext self.old.site x }
         ensures refusals { IfErr result IsEntryFault }
     {
-        let entry = self.entry_of(line)?;
-        self.replay_entry(&entry)
+        let mut id = RequestId::none(self.alloc);
+        let entry = self.entry_of(line, &mut id)?;
+        self.replay_entry(&id, &entry)
     }
 
     /// The same, of a line that is exactly what `answer` adds to the entries: any other spelling of it is `BadLine`.
     pub fn replay_written(&mut self, line: &[u8]) -> Result<(), NodeFault>
-        ensures replayed { OnOk result ((x : EntryOf) × (line.now
-            ≡ compact_text (entry_json self.old.site.settings self.old.site.me x))
+        ensures replayed { OnOk result ((x : AskedEntry) × (line.now
+            ≡ compact_text (asked_entry_json self.old.site.settings self.old.site.me x))
             × IsReadBack self.old.site.settings self.old.site.me x × IsReplayedAs self.old.site self.new x) }
-        ensures bad { result ≡ Err NodeFault.BadLine → ((x : EntryOf) → (entry_on self.old.site.settings line.now
-            ≡ Some (self.old.site.me, x)) → line.now ≢ compact_text (entry_json self.old.site.settings
-            self.old.site.me x)) × (self.new ≡ self.old) }
-        ensures wrong { result ≡ Err NodeFault.WrongReply → (x : EntryOf)
-            × (line.now ≡ compact_text (entry_json self.old.site.settings self.old.site.me x))
+        ensures bad { result ≡ Err NodeFault.BadLine → ((x : AskedEntry)
+            → asked_entry_on self.old.site.settings line.now ≡ Some (self.old.site.me, x)
+            → known_of self.old.site x.id ≡ None → line.now
+            ≢ compact_text (asked_entry_json self.old.site.settings self.old.site.me x)) × (self.new ≡ self.old) }
+        ensures wrong { result ≡ Err NodeFault.WrongReply → (x : AskedEntry)
+            × (line.now ≡ compact_text (asked_entry_json self.old.site.settings self.old.site.me x))
             × IsReadBack self.old.site.settings self.old.site.me x
-            × ((is_full self.old.site.settings (state_of self.old.site) ≡ true)
-            ⊎ (x.reply ≢ reply_to self.old.site.settings (state_of self.old.site) x.event)) }
+            × IsNotNext self.old.site x }
         ensures refusals { IfErr result IsEntryFault }
     {
-        let entry = self.entry_of(line)?;
-        self.replay_spelled(line, &entry)
+        let mut id = RequestId::none(self.alloc);
+        let entry = self.entry_of(line, &mut id)?;
+        self.replay_spelled(line, &id, &entry)
     }
 
     /// The entry on a line, if the line is exactly what is written for it: any other is `BadLine`.
-    fn replay_spelled(&mut self, line: &[u8], entry: &Entry) -> Result<(), NodeFault>
-        ensures replayed { OnOk result ((line.now
-            ≡ compact_text (entry_json self.old.site.settings self.old.site.me entry.now))
-            × IsReplayedAs self.old.site self.new entry.now) }
-        ensures bad { result ≡ Err NodeFault.BadLine → (line.now ≢ compact_text (entry_json self.old.site.settings
-            self.old.site.me entry.now)) × (self.new ≡ self.old) }
+    fn replay_spelled(
+        &mut self,
+        line: &[u8],
+        id: &RequestId,
+        entry: &Entry,
+    ) -> Result<(), NodeFault>
+        requires { IsAsked (record { id = id.now; entry = entry.now }) }
+        ensures replayed { OnOk result ((line.now ≡ compact_text (asked_entry_json self.old.site.settings
+            self.old.site.me (record { id = id.now; entry = entry.now })))
+            × IsReplayedAs self.old.site self.new (record { id = id.now; entry = entry.now })) }
+        ensures bad { result ≡ Err NodeFault.BadLine → (known_of self.old.site id.now ≡ None → line.now
+            ≢ compact_text (asked_entry_json self.old.site.settings self.old.site.me
+            (record { id = id.now; entry = entry.now }))) × (self.new ≡ self.old) }
         ensures wrong { result ≡ Err NodeFault.WrongReply
-            → (line.now ≡ compact_text (entry_json self.old.site.settings self.old.site.me entry.now))
-            × ((is_full self.old.site.settings (state_of self.old.site) ≡ true)
-            ⊎ (entry.now.reply ≢ reply_to self.old.site.settings (state_of self.old.site) entry.now.event)) }
+            → (line.now ≡ compact_text (asked_entry_json self.old.site.settings self.old.site.me
+            (record { id = id.now; entry = entry.now })))
+            × IsNotNext self.old.site (record { id = id.now; entry = entry.now }) }
         ensures refusals { IfErr result IsEntryFault }
     {
+        let me = self.me();
         self.written.clear();
-        append_line(&mut self.written, &self.config, self.site.me(), entry)?;
+        append_asked_line(&mut self.written, &self.config, me, id, entry)?;
         if self.written.as_slice() != line {
             return Err(NodeFault::BadLine);
         }
-        self.replay_entry(entry)
+        self.replay_entry(id, entry)
     }
 
-    /// An entry of this site is its next one, if the site gives the reply that it has.
-    fn replay_entry(&mut self, entry: &Entry) -> Result<(), NodeFault>
-        ensures replayed { OnOk result (IsReplayedAs self.old.site self.new entry.now) }
+    /// An entry of this site is its next one, if its id isn't known and the site gives the reply that it has.
+    fn replay_entry(&mut self, id: &RequestId, entry: &Entry) -> Result<(), NodeFault>
+        requires { IsAsked (record { id = id.now; entry = entry.now }) }
+        ensures replayed { OnOk result (IsReplayedAs self.old.site self.new
+            (record { id = id.now; entry = entry.now })) }
+        ensures bad { result ≡ Err NodeFault.BadLine → (known_of self.old.site id.now ≢ None)
+            × (self.new ≡ self.old) }
         ensures wrong { result ≡ Err NodeFault.WrongReply
-            → (is_full self.old.site.settings (state_of self.old.site) ≡ true)
-            ⊎ (entry.now.reply ≢ reply_to self.old.site.settings (state_of self.old.site) entry.now.event) }
-        ensures refusals { IfErr result (λ why. (why ≡ NodeFault.WrongReply) ⊎ (why ≡ NodeFault.OutOfMemory)) }
+            → IsNotNext self.old.site (record { id = id.now; entry = entry.now }) }
+        ensures refusals { IfErr result IsEntryFault }
     {
+        if self.site.known(id).is_some() {
+            return Err(NodeFault::BadLine);
+        }
         self.sent.clear();
-        if self.site.is_full() {
+        if self.site.site().is_full() {
             return Err(NodeFault::WrongReply);
         }
         let mut reply = Reply::Refused(Refusal::HistoryFull);
-        self.site.answer(&entry.event, &mut self.sent, &mut reply)?;
+        self.site
+            .answer(id, &entry.event, &mut self.sent, &mut reply)?;
         if !reply.same(&entry.reply) {
             return Err(NodeFault::WrongReply);
         }

@@ -2,7 +2,7 @@
 ghost use Rattle.std.specs.Prelude.{◌≡◌, ◌++◌, OnOk};
 ghost use Rattle.rb_history.specs.Adds.{Adds};
 ghost use Rattle.rb_history.specs.declared.question.Question.TheVariants.{Resend};
-ghost use Rattle.rb_site.specs.Seen.{state_of};
+ghost use Rattle.rb_node.specs.Asked.{asked_state, without_ids};
 ghost use Rattle.rb_node.specs.Answers.{sent_line};
 ghost use Rattle.rb_node.specs.Index.{lines_again, messages_of};
 ghost use Rattle.rb_node.specs.LineAnswers.{question_text};
@@ -17,7 +17,7 @@ use rb_site::Message;
 use std::alloc::AllocError;
 
 /// Adds operations to messages: those from one number of them to another.
-fn push_operations(
+pub(crate) fn push_operations(
     messages: &mut Vec<Message>,
     operations: &OperationList,
     first: u32,
@@ -59,17 +59,17 @@ impl Node {
         sent: Sent,
     ) -> Result<(), AllocError>
         ensures { Adds result out.old.items out.new.items
-            (sent_line self.now.site.settings (messages_of (state_of self.now.site).ops sent)) }
+            (sent_line self.now.site.settings (messages_of (asked_state self.now.site).ops sent)) }
     {
         messages.clear();
-        push_sent(messages, self.site.ledger().entries(), sent)?;
+        push_sent(messages, self.site.site().ledger().entries(), sent)?;
         append_sends(out, &self.config, messages.as_slice())
     }
 
     /// The lines of the messages of entries.
     fn append_all_again(&self, out: &mut Vec<u8>, entries: &[SentEntry]) -> Result<(), AllocError>
         ensures { Adds result out.old.items out.new.items
-            (lines_again self.now.site.settings (state_of self.now.site).ops entries.now) }
+            (lines_again self.now.site.settings (asked_state self.now.site).ops entries.now) }
     {
         let mut messages = Vec::new(self.alloc);
         for entry in entries {
@@ -81,10 +81,10 @@ impl Node {
     /// The messages of up to `most` of the last entries, a line for each that sent any, and then the answer's line,
     /// which says how many these are.
     pub(crate) fn append_resent(&self, out: &mut Vec<u8>, most: u32) -> Result<(), AllocError>
-        ensures { Adds result out.old.items out.new.items (question_text self.now.site (Resend most)) }
+        ensures { Adds result out.old.items out.new.items (question_text (without_ids self.now.site) (Resend most)) }
     {
-        let skipped = self.site.len().saturating_sub(most);
-        let entries = self.site.sent_since(skipped);
+        let skipped = self.site.site().len().saturating_sub(most);
+        let entries = self.site.site().sent_since(skipped);
         self.append_all_again(out, entries)?;
         append_number(
             out,

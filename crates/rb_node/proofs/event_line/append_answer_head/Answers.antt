@@ -1,55 +1,24 @@
-use Rattle.std.proofs.Common.{◌≡◌, ◌++◌, List, ℕ, codes, append_assoc}
-use Rattle.std.specs.Prelude.{false, map}
-use Rattle.json.specs.Print.{escape_byte}
-use Rattle.serde_json.specs.View.{items_of}
-use Rattle.serde_json.specs.Written.{compact_text, items_text}
-use Rattle.rb_site.specs.declared.event.Event.TheVariants.{Receive}
-use Rattle.rb_history.specs.Entries.{event_json}
-use Rattle.rb_history.specs.Replies.{reply_json}
-use Rattle.rb_history.proofs.Public.Appended.{both, failed, then}
+use Rattle.std.proofs.Common.{◌≡◌, ◌++◌, ℕ, List, [], ◌∷◌, false, codes, length, append_assoc, ap, ◌∙◌}
+use Rattle.std.specs.Prelude.{Result, ◌==◌}
+use Rattle.rb_history.specs.Adds.{Adds}
+use Rattle.rb_history.proofs.Public.Appended.{both, then}
+use Rattle.rb_node.proofs.Applied.{head_text}
 use Rattle.rb_node.proofs.event_line.append_answer_head.Goals as goal
 
 -- the parts of the text, one behind another
-parts : (reply sends : List ℕ) → (((codes "{\"reply\":" ++ reply) ++ codes ",\"sends\":[") ++ sends) ++ codes ",\"then\":["
-    ≡ codes "{\"reply\":" ++ (reply ++ (codes ",\"sends\":" ++ ((codes "[" ++ sends) ++ codes ",\"then\":[")))
-parts reply sends = simp append_assoc
+parts : (id : List ℕ) → (codes "{\"id\":\"" ++ id) ++ codes "\",\"reply\":"
+    ≡ codes "{" ++ ((codes "\"id\":\"" ++ (id ++ codes "\",")) ++ codes "\"reply\":")
+parts id = simp append_assoc
 
-pub returns-in_err-append_value : goal.returns-in_err-append_value
-returns-in_err-append_value c = failed c.from_residual-in_err-append_value.result c.args.out.now.items c.append.new.out.items
-    c.append_value.new.out.items _ _ c.from_residual-in_err-append_value.ensures.0 c.in_ok-append.ensures c.in_err-append_value.ensures
+-- the text, if there is an id
+whole : {A E : Type 0} (r : Result A E) (id old a b new : List ℕ) → false ≡ (length id == 0) → a ≡ old ++ codes "{\"id\":\""
+    → b ≡ a ++ id → Adds r b new (codes "\",\"reply\":") → Adds r old new (head_text id)
+whole r [] old a b new some front is h = absurd (cc)
+whole r (x ∷ xs) old a b new some front is h =
+    then r old b new (codes "{\"id\":\"" ++ x ∷ xs) (codes "\",\"reply\":") _ (both old a b (codes "{\"id\":\"") (x ∷ xs) front is) h
+    (parts (x ∷ xs))
 
-pub returns-in_err-append-2 : goal.returns-in_err-append-2
-returns-in_err-append-2 c =
-    let old = c.args.out.now.items in
-    let reply = compact_text (reply_json c.args.reply.now) in
-    let two = both old c.append.new.out.items c.append_value.new.out.items
-    (codes "{\"reply\":") reply c.in_ok-append.ensures c.in_ok-append_value.ensures in
-    failed c.from_residual-in_err-append-2.result old c.append_value.new.out.items c.append-2.new.out.items _ _
-    c.from_residual-in_err-append-2.ensures.0 two c.in_err-append-2.ensures
-
-pub returns-in_err-append_messages : goal.returns-in_err-append_messages
-returns-in_err-append_messages c =
-    let old = c.args.out.now.items in
-    let reply = compact_text (reply_json c.args.reply.now) in
-    let two = both old c.append.new.out.items c.append_value.new.out.items
-    (codes "{\"reply\":") reply c.in_ok-append.ensures c.in_ok-append_value.ensures in
-    let three = both old c.append_value.new.out.items c.append-2.new.out.items (codes "{\"reply\":" ++ reply)
-    (codes ",\"sends\":[") two c.in_ok-append-2.ensures in
-    failed c.from_residual-in_err-append_messages.result old c.append-2.new.out.items c.append_messages.new.out.items _ _
-    c.from_residual-in_err-append_messages.ensures.0 three c.in_err-append_messages.ensures
-
-pub returns : goal.returns
-unfolding escape_byte
-returns c =
-    let old = c.args.out.now.items in
-    let reply = compact_text (reply_json c.args.reply.now) in
-    let sends = items_text false (items_of (map (λ m. event_json c.args.config.now (Receive m)) c.args.sent.now)) in
-    let two = both old c.append.new.out.items c.append_value.new.out.items
-    (codes "{\"reply\":") reply c.in_ok-append.ensures c.in_ok-append_value.ensures in
-    let three = both old c.append_value.new.out.items c.append-2.new.out.items (codes "{\"reply\":" ++ reply)
-    (codes ",\"sends\":[") two c.in_ok-append-2.ensures in
-    let four = both old c.append-2.new.out.items c.append_messages.new.out.items
-    ((codes "{\"reply\":" ++ reply) ++ codes ",\"sends\":[") sends three c.in_ok-append_messages.ensures in
-    then c.append-3.result old c.append_messages.new.out.items c.append-3.new.out.items
-    (((codes "{\"reply\":" ++ reply) ++ codes ",\"sends\":[") ++ sends) (codes ",\"then\":[") _ four c.append-3.ensures
-    (parts reply sends)
+pub returns-clause-added : goal.returns-clause-added
+returns-clause-added c = whole c.append-3.result c.args.id.now c.args.out.now.items c.append-2.new.out.items
+    c.extend_from_slice.new.self.items c.append-3.new.out.items (c.if-is_empty.ensures ∙ ap (λ (l : List ℕ). length l == 0) c.as_bytes.ensures.same) c.in_ok-append.ensures
+    (c.in_ok-extend_from_slice.ensures.items ∙ ap (λ l. c.append-2.new.out.items ++ l) c.as_bytes-2.ensures.same) c.append-3.ensures

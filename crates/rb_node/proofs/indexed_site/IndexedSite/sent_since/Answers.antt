@@ -2,7 +2,7 @@ use Rattle.std.proofs.Common.{◌∙◌, rules}
 use Rattle.std.specs.Prelude.{nat_lt}
 use Rattle.std.proofs.lemmas.List.Sorted.{IsPartitionPoint-from_clause}
 use Rattle.rb_node.specs.declared.sent_entry.SentEntry.{SentEntry}
-use Rattle.rb_node.proofs.Again.{since_part}
+use Rattle.rb_node.proofs.SentAgain.{since_part}
 use Rattle.rb_node.proofs.Ascending.{index_parted}
 use Rattle.rb_node.proofs.indexed_site.IndexedSite.sent_since.Goals as goal
 

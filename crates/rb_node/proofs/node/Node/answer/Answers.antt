@@ -6,7 +6,7 @@ pub returns-in-Ok : goal.returns-in-Ok
 returns-in-Ok c =
     let whole = c.answer_whole in
     record {
-      answered = event_answered whole.result c.args.self.now.site whole.new.self.site c.args.line.now c.in-Ok.event
+      answered = event_answered whole.result c.args.all c.args.self.now.site whole.new.self.site c.args.line.now _
           c.args.answers.now.items whole.new.answers.items c.args.entries.now.items whole.new.entries.items c.in-Ok.ensures.read
           whole.ensures.answered;
       bad = λ e. no_bad_line whole.result whole.ensures.memory e;
@@ -19,7 +19,7 @@ pub returns-in-Err-BadLine : goal.returns-in-Err-BadLine
 returns-in-Err-BadLine c =
     let asked = c.answer_question in
     record {
-      answered = question_answered asked.result c.args.self.now.site c.args.line.now c.args.answers.now.items asked.new.answers.items
+      answered = question_answered asked.result c.args.all c.args.self.now.site c.args.line.now c.args.answers.now.items asked.new.answers.items
           c.args.entries.now.items asked.ensures.answered;
       bad = λ e. (c.in-Err-BadLine.ensures.read.0 c.in-Err-BadLine.field-0-is, asked.ensures.bad e, refl);
       not_text = asked.ensures.not_text;

@@ -4,6 +4,7 @@ use Rattle.rb_site.specs.Seen.{SeenSite, state_of}
 use Rattle.rb_history.specs.Values.{number_json, one_json}
 use Rattle.rb_history.proofs.Public.Appended.{then}
 use Rattle.rb_node.specs.Answers.{SeenNode, line_of}
+use Rattle.rb_node.specs.Asked.{without_ids}
 use Rattle.rb_node.specs.Index.{lines_again}
 use Rattle.rb_node.specs.LineAnswers.{reply_only}
 use Rattle.rb_node.specs.Resends.{count_again, resent, resent_count, sent_again}
@@ -17,19 +18,19 @@ returns-in_err-append_all_again c = kept c.from_residual.result _ c.from_residua
 pub returns : goal.returns
 returns c =
     let old = c.args.out.now.items in
-    let site = c.args.self.now.site in
+    let site = without_ids c.args.self.now.site in
     let most = c.args.most in
     let since = c.sent_since-entries.result.now in
     let first = c.saturating_sub-skipped.result in
-    let seen : c.self.inside.site ≡ site = ap (λ (v : SeenNode). v.site) c.self.view_is in
+    let seen : without_ids c.self.inside.site ≡ site = ap (λ (v : SeenNode). without_ids v.site) c.self.view_is in
     let skipped : first ≡ length site.entries - most =
-    c.saturating_sub-skipped.ensures ∙ ap (λ n. n - most) (c.len.ensures ∙ ap (λ (y : SeenSite). length y.entries) seen) in
+    c.saturating_sub-skipped.ensures ∙ ap (λ n. n - most) (c.len.ensures ∙ ap (λ (y : SeenSite). length y.entries) (c.site.ensures ∙ seen)) in
     let lines : lines_again site.settings (state_of site).ops since ≡ sent_again most site =
     subst (λ (y : SeenSite). lines_again y.settings (state_of y).ops since ≡ resent y.settings (first_site y.me) first y.entries)
-    seen c.sent_since-entries.ensures.lines ∙ ap (λ k. resent site.settings (first_site site.me) k site.entries) skipped in
+    (c.site-2.ensures ∙ seen) c.sent_since-entries.ensures.lines ∙ ap (λ k. resent site.settings (first_site site.me) k site.entries) skipped in
     let count : length since ≡ count_again most site =
     c.sent_since-entries.ensures.count
-    ∙ ap (λ (y : SeenSite). resent_count y.settings (first_site y.me) first y.entries) seen
+    ∙ ap (λ (y : SeenSite). resent_count y.settings (first_site y.me) first y.entries) (c.site-2.ensures ∙ seen)
     ∙ ap (λ k. resent_count site.settings (first_site site.me) k site.entries) skipped in
     then c.append_number.result old c.append_all_again.new.out.items c.append_number.new.out.items
     (lines_again site.settings (state_of site).ops since)

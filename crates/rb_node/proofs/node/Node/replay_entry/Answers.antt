@@ -1,20 +1,36 @@
-use Rattle.std.proofs.Common.{◌≡◌, ◌≢◌, ◌++◌, inl, inr, ap, refl, sym, ◌∙◌}
+use Rattle.std.proofs.Common.{◌≡◌, ◌≢◌, ◌++◌, inl, inr, ap, refl, subst, sym, ◌∙◌}
+use Rattle.std.specs.Prelude.{map, None}
 use Rattle.std.proofs.lemmas.Bool.{false≢true}
 use Rattle.rb_site.specs.Events.{is_full, reply_to, sent_at}
 use Rattle.rb_site.specs.Seen.{SeenSite, next_site, state_of}
-use Rattle.rb_node.specs.declared.fault.NodeFault.TheVariants.{OutOfMemory, WrongReply}
+use Rattle.rb_history.specs.Ids.{AskedEntry}
+use Rattle.rb_node.specs.declared.fault.NodeFault.TheVariants.{BadLine, OutOfMemory, WrongReply}
 use Rattle.rb_node.specs.Answers.{SeenNode}
+use Rattle.rb_node.specs.Asked.{SeenAsked, asked_state, known_of, without_ids, with_id, with_more}
 use Rattle.rb_node.proofs.Failed.{ended_by, no_fault, no_value, other_fault}
-use Rattle.rb_node.proofs.Spelled.{memory_fault}
+use Rattle.rb_node.proofs.Spelled.{known_is, memory_fault, replayed_entry, where_none, where_some}
 use Rattle.rb_node.proofs.node.Node.replay_entry.Goals as goal
+
+pub returns-then-is_some : goal.returns-then-is_some
+returns-then-is_some c =
+    let id = c.args.id.now in
+    let seen : c.self.inside.site ≡ c.args.self.now.site = ap (λ (v : SeenNode). v.site) c.self.view_is in
+    let kept = where_some _ c.known.result _ c.if-is_some.ensures c.known.ensures in
+    record {
+      replayed = tt;
+      bad = λ e. (subst (λ (y : SeenAsked). known_of y id ≢ None) seen (known_is c.self.inside.site id kept.0.now kept.1), refl);
+      wrong = other_fault _ BadLine WrongReply refl refl;
+      refusals = tt;
+    }
 
 pub returns-then-is_full : goal.returns-then-is_full
 returns-then-is_full c =
     let seen : c.self.inside.site ≡ c.args.self.now.site = ap (λ (v : SeenNode). v.site) c.self.view_is in
     record {
       replayed = tt;
-      wrong = λ e. inl (ap (λ (y : SeenSite). is_full y.settings (state_of y)) (sym seen) ∙ sym c.if-is_full.ensures);
-      refusals = inl refl;
+      bad = other_fault _ WrongReply BadLine refl refl;
+      wrong = λ e. inl (ap (λ (y : SeenSite). is_full y.settings (state_of y)) (sym (c.site.ensures ∙ ap without_ids seen)) ∙ sym c.if-is_full.ensures);
+      refusals = tt;
     }
 
 pub returns-in_err-answer : goal.returns-in_err-answer
@@ -22,6 +38,7 @@ returns-in_err-answer c =
     let ended = ended_by c.from_residual.result OutOfMemory c.from_residual.ensures.1 in
     record {
       replayed = no_value c.from_residual.result _ c.from_residual.ensures.0;
+      bad = other_fault _ OutOfMemory BadLine ended refl;
       wrong = other_fault _ OutOfMemory WrongReply ended refl;
       refusals = memory_fault c.from_residual.result c.from_residual.ensures.1;
     }
@@ -31,28 +48,31 @@ returns-then-not-same c =
     let old = c.args.self.now.site in
     let x = c.args.entry.now in
     let seen : c.self.inside.site ≡ old = ap (λ (v : SeenNode). v.site) c.self.view_is in
-    let given : c.answer.new.reply ≡ reply_to old.settings (state_of old) x.event =
-    c.in_ok-answer.ensures.ok.1 ∙ ap (λ (y : SeenSite). reply_to y.settings (state_of y) x.event) seen in
-    let other : x.reply ≢ reply_to old.settings (state_of old) x.event =
+    let given : c.answer.new.reply ≡ reply_to old.settings (asked_state old) x.event =
+    c.in_ok-answer.ensures.ok.3 ∙ ap (λ (y : SeenAsked). reply_to y.settings (asked_state y) x.event) seen in
+    let other : x.reply ≢ reply_to old.settings (asked_state old) x.event =
     λ e. false≢true (sym c.if-not-same.true ∙ c.same.ensures.1 (given ∙ sym e)) in
-    record { replayed = tt; wrong = λ e. inr other; refusals = inl refl }
+    record { replayed = tt; bad = other_fault _ WrongReply BadLine refl refl; wrong = λ e. inr other; refusals = tt }
 
 pub returns : goal.returns
 returns c =
     let old = c.args.self.now.site in
-    let x = c.args.entry.now in
+    let e = c.args.entry.now.event in
+    let x : AskedEntry = record { id = c.args.id.now; entry = c.args.entry.now } in
     let seen : c.self.inside.site ≡ old = ap (λ (v : SeenNode). v.site) c.self.view_is in
-    let given : c.answer.new.reply ≡ reply_to old.settings (state_of old) x.event =
-    c.in_ok-answer.ensures.ok.1 ∙ ap (λ (y : SeenSite). reply_to y.settings (state_of y) x.event) seen in
+    let ok = c.in_ok-answer.ensures.ok in
+    let given : c.answer.new.reply ≡ reply_to old.settings (asked_state old) e =
+    ok.3 ∙ ap (λ (y : SeenAsked). reply_to y.settings (asked_state y) e) seen in
     record {
-      replayed = record {
-        free = ap (λ (y : SeenSite). is_full y.settings (state_of y)) (sym seen) ∙ sym c.if-is_full.ensures;
-        reply = sym (c.same.ensures.0 c.if-not-same.false) ∙ given;
-        site = c.in_ok-answer.ensures.ok.0 ∙ ap (λ y. next_site y x.event) seen;
-        sent = c.in_ok-answer.ensures.ok.2
-            ∙ ap (λ l. l ++ sent_at c.self.inside.site.settings (state_of c.self.inside.site) x.event) c.clear.ensures.items
-            ∙ ap (λ (y : SeenSite). sent_at y.settings (state_of y) x.event) seen;
-      };
+      replayed = replayed_entry old (record { site = c.answer.new.self; sent = c.answer.new.sent.items }) x ok.0 c.requires
+          (ap (λ (y : SeenSite). is_full y.settings (state_of y)) (sym (c.site.ensures ∙ ap without_ids seen)) ∙ sym c.if-is_full.ensures)
+          (sym (ap (λ (y : SeenAsked). known_of y x.id) seen) ∙ where_none c.known.result _ c.if-is_some.ensures c.known.ensures)
+          (ok.1 ∙ ap (λ (y : SeenAsked). with_more y (map (with_id x.id) ok.0)) seen)
+          (ok.2 ∙ ap (λ (y : SeenAsked). next_site (without_ids y) e) seen)
+          (sym (c.same.ensures.0 c.if-not-same.false) ∙ given)
+          (ok.4 ∙ ap (λ l. l ++ sent_at c.self.inside.site.settings (asked_state c.self.inside.site) e) c.clear.ensures.items
+          ∙ ap (λ (y : SeenAsked). sent_at y.settings (asked_state y) e) seen);
+      bad = no_fault _ BadLine;
       wrong = no_fault _ WrongReply;
       refusals = tt;
     }

@@ -1,11 +1,22 @@
-use Rattle.std.proofs.Common.{◌≡◌, ◌++◌, ap, refl, sym, ◌∙◌}
+use Rattle.std.proofs.Common.{◌≡◌, ◌++◌, [], codes, ap, sym, ◌∙◌}
+use Rattle.std.specs.Prelude.{map}
+use Rattle.serde_json.specs.Written.{compact_text}
 use Rattle.rb_site.specs.Events.{reply_to, sent_at}
-use Rattle.rb_site.specs.Seen.{SeenSite, entry, next_site, state_of}
+use Rattle.rb_site.specs.Seen.{entry, next_site}
 use Rattle.rb_history.specs.Entries.{entry_json}
-use Rattle.rb_node.specs.Answers.{SeenNode, line_of}
-use Rattle.rb_node.proofs.Failed.{kept, stayed}
-use Rattle.rb_node.proofs.Recorded.{me-next, recorded}
+use Rattle.rb_history.proofs.Public.Appended.{both, front_stays}
+use Rattle.rb_node.specs.Answers.{SeenNode}
+use Rattle.rb_node.specs.Asked.{SeenAsked, asked_state, without_ids, with_id, with_more}
+use Rattle.rb_node.proofs.Failed.{kept}
+use Rattle.rb_node.proofs.Recorded.{recorded}
 use Rattle.rb_node.proofs.node.Node.step_within_limit.Goals as goal
+
+pub returns-in_err-append : goal.returns-in_err-append
+returns-in_err-append c = record {
+  recorded = kept c.from_residual-in_err-append.result _ c.from_residual-in_err-append.ensures.0
+      (front_stays c.args.entries.now.items c.append_line.new.out.items c.append.new.out.items _ c.in_ok-append_line.ensures.ok
+      c.in_err-append.ensures);
+}
 
 pub returns : goal.returns
 returns c =
@@ -13,29 +24,21 @@ returns c =
     let event = c.args.event in
     let reply = c.answer.new.reply in
     let entries = c.args.entries.now.items in
-    let x = entry event reply in
+    let config = c.self.inside.config in
     let seen : c.self.inside.site ≡ old = ap (λ (v : SeenNode). v.site) c.self.view_is in
-    let is : c.answer.new.self ≡ next_site old event = c.in_ok-answer.ensures.ok.0 ∙ ap (λ y. next_site y event) seen in
+    let ok = c.in_ok-answer.ensures.ok in
+    let is : c.answer.new.self ≡ with_more old (map (with_id []) ok.0) =
+    ok.1 ∙ ap (λ i. with_more c.self.inside.site (map (with_id i) ok.0)) c.none-none.ensures
+    ∙ ap (λ (y : SeenAsked). with_more y (map (with_id []) ok.0)) seen in
     record {
       recorded = (
-        recorded old c.answer.new.self event reply x c.me.result entries c.append_entry_line.new.out.items c.requires is
-            (c.in_ok-answer.ensures.ok.1 ∙ ap (λ (y : SeenSite). reply_to y.settings (state_of y) event) seen)
-            refl
-            (c.me.ensures.same ∙ ap (λ (y : SeenSite). y.me) is ∙ me-next old event)
-            (c.in_ok-append_entry_line.ensures ∙ ap (λ s. entries ++ line_of (entry_json s c.me.result x))
-            (sym c.self.invariant ∙ ap (λ (y : SeenSite). y.settings) seen)),
-        c.in_ok-answer.ensures.ok.2
-            ∙ ap (λ (v : SeenNode). v.sent ++ sent_at v.site.settings (state_of v.site) event) c.self.view_is,
+        recorded old c.answer.new.self event reply ok.0 config c.me.result entries c.append.new.out.items c.requires is
+            (ok.2 ∙ ap (λ (y : SeenAsked). next_site (without_ids y) event) seen)
+            (ok.3 ∙ ap (λ (y : SeenAsked). reply_to y.settings (asked_state y) event) seen)
+            (sym c.self.invariant ∙ ap (λ (y : SeenAsked). y.settings) seen)
+            (c.me.ensures ∙ ap (λ (y : SeenAsked). y.me) is)
+            (both entries c.append_line.new.out.items c.append.new.out.items (compact_text (entry_json config c.me.result (entry event reply)))
+            (codes "\n") c.in_ok-append_line.ensures.ok c.in_ok-append.ensures),
+        ok.4 ∙ ap (λ (v : SeenNode). v.sent ++ sent_at v.site.settings (asked_state v.site) event) c.self.view_is,
       );
     }
-
-pub returns-in_err-answer : goal.returns-in_err-answer
-returns-in_err-answer c = record {
-  recorded = kept c.from_residual.result _ c.from_residual.ensures.0 (stayed c.args.entries.now.items);
-}
-
-pub returns-in_err-append_entry_line : goal.returns-in_err-append_entry_line
-returns-in_err-append_entry_line c = record {
-  recorded = kept c.from_residual-in_err-append_entry_line.result _ c.from_residual-in_err-append_entry_line.ensures.0
-      c.in_err-append_entry_line.ensures;
-}

@@ -26,7 +26,7 @@ use Rattle.rb_node.specs.declared.sent_entry.SentEntry.{SentEntry}
 -- ---- what one event sent
 
 -- the part between a prefix and a longer one
-between : {A : Type 0} (us vs more : List A) → take (length (us ++ vs) - length us) (drop (length us) ((us ++ vs) ++ more)) ≡ vs
+pub between : {A : Type 0} (us vs more : List A) → take (length (us ++ vs) - length us) (drop (length us) ((us ++ vs) ++ more)) ≡ vs
 between us vs more =
     ap (λ l. take (length (us ++ vs) - length us) (drop (length us) l)) (append_assoc us vs more)
     ∙ ap (take (length (us ++ vs) - length us)) (drop_at us (vs ++ more) (length us) refl)
@@ -71,7 +71,7 @@ read_event s t e before more = by (is_full s t)
 -- ---- operations are only added
 
 -- a list begins with another
-abbrev Begins : List Shadow → List Shadow → Type 0
+abbrev pub Begins : List Shadow → List Shadow → Type 0
 Begins us all = (more : List Shadow) × (all ≡ us ++ more)
 
 grown_outcome : (t : ModelSite) (o : Outcome) → Begins t.ops (changed t o).ops
@@ -128,7 +128,7 @@ kept_noted m before first end (ShadowMessage v ∷ ms) = kept_one (nat_lt before
 kept_noted m before first end (TokenOnItsWay t ∷ ms) = kept_one (nat_lt before m) _
 
 -- the operations after an event, and what was applied later
-later_ops : (s : Settings) (t : ModelSite) (x : Entry) (xs : List Entry) (us : List Shadow) →
+pub later_ops : (s : Settings) (t : ModelSite) (x : Entry) (xs : List Entry) (us : List Shadow) →
     Begins (after_events s t (events_of (x ∷ xs))).ops us → Begins (after_event s t x.event).ops us
 later_ops s t x xs us all =
     let (a, is) = grown_run s (after_event s t x.event) (events_of xs) in

@@ -1,0 +1,41 @@
+use Rattle.std.proofs.Common.{◌≡◌, ◌++◌, List, ℕ, codes, append_assoc}
+use Rattle.std.specs.Prelude.{false, map}
+use Rattle.json.specs.Print.{escape_byte}
+use Rattle.serde_json.specs.View.{items_of}
+use Rattle.serde_json.specs.Written.{compact_text, items_text}
+use Rattle.rb_site.specs.declared.event.Event.TheVariants.{Receive}
+use Rattle.rb_history.specs.Entries.{event_json}
+use Rattle.rb_history.specs.Replies.{reply_json}
+use Rattle.rb_history.proofs.Public.Appended.{both, failed, then}
+use Rattle.rb_node.proofs.event_line.append_rest.Goals as goal
+
+-- the parts of the text, one behind another
+parts : (reply sends : List ℕ) → ((reply ++ codes ",\"sends\":[") ++ sends) ++ codes ",\"then\":["
+    ≡ reply ++ (codes ",\"sends\":" ++ ((codes "[" ++ sends) ++ codes ",\"then\":["))
+parts reply sends = simp append_assoc
+
+pub returns-in_err-append : goal.returns-in_err-append
+returns-in_err-append c = failed c.from_residual-in_err-append.result c.args.out.now.items c.append_value.new.out.items
+    c.append.new.out.items _ _ c.from_residual-in_err-append.ensures.0 c.in_ok-append_value.ensures c.in_err-append.ensures
+
+pub returns-in_err-append_messages : goal.returns-in_err-append_messages
+returns-in_err-append_messages c =
+    let old = c.args.out.now.items in
+    let reply = compact_text (reply_json c.args.reply.now) in
+    let two = both old c.append_value.new.out.items c.append.new.out.items reply (codes ",\"sends\":[") c.in_ok-append_value.ensures
+    c.in_ok-append.ensures in
+    failed c.from_residual-in_err-append_messages.result old c.append.new.out.items c.append_messages.new.out.items _ _
+    c.from_residual-in_err-append_messages.ensures.0 two c.in_err-append_messages.ensures
+
+pub returns : goal.returns
+unfolding escape_byte
+returns c =
+    let old = c.args.out.now.items in
+    let reply = compact_text (reply_json c.args.reply.now) in
+    let sends = items_text false (items_of (map (λ m. event_json c.args.config.now (Receive m)) c.args.sent.now)) in
+    let two = both old c.append_value.new.out.items c.append.new.out.items reply (codes ",\"sends\":[") c.in_ok-append_value.ensures
+    c.in_ok-append.ensures in
+    let three = both old c.append.new.out.items c.append_messages.new.out.items (reply ++ codes ",\"sends\":[") sends two
+    c.in_ok-append_messages.ensures in
+    then c.append-2.result old c.append_messages.new.out.items c.append-2.new.out.items ((reply ++ codes ",\"sends\":[") ++ sends)
+    (codes ",\"then\":[") _ three c.append-2.ensures (parts reply sends)

@@ -1,0 +1,56 @@
+use Rattle.std.proofs.Common.{◌≡◌, ◌++◌, codes, ap, sym, subst, ◌∙◌}
+use Rattle.rb_site.specs.Seen.{SeenSite, state_of}
+use Rattle.rb_site.specs.declared.message.Message.{Message}
+use Rattle.std.specs.Prelude.{List}
+use Rattle.rb_shadow.specs.declared.shadow.Shadow.{Shadow}
+use Rattle.rb_history.proofs.Public.Appended.{both, failed, failed_first, then}
+use Rattle.rb_node.specs.Answers.{SeenNode, again_json, line_of}
+use Rattle.rb_node.specs.Asked.{Known, SeenAsked, asked_state, without_ids}
+use Rattle.rb_node.specs.Index.{messages_of}
+use Rattle.rb_node.specs.Kept.{reply_made, known_again}
+use Rattle.rb_node.specs.declared.sent_entry.Sent.TheVariants.{Operations}
+use Rattle.rb_node.proofs.AgainTexts.{again_head, again_line, an_id, rest_text}
+use Rattle.rb_node.proofs.Failed.{stayed}
+use Rattle.rb_node.proofs.node.Node.append_made.Goals as goal
+
+pub returns-in_err-messages : goal.returns-in_err-messages
+returns-in_err-messages c = failed_first c.from_residual.result c.args.out.now.items c.args.out.now.items _ c.from_residual.ensures.0
+    (stayed c.args.out.now.items)
+
+pub returns-in_err-reply : goal.returns-in_err-reply
+returns-in_err-reply c = failed_first c.from_residual-in_err-reply.result c.args.out.now.items c.args.out.now.items _
+    c.from_residual-in_err-reply.ensures.0 (stayed c.args.out.now.items)
+
+pub returns-in_err-append_with_id : goal.returns-in_err-append_with_id
+returns-in_err-append_with_id c = failed_first c.from_residual-in_err-append_with_id.result c.args.out.now.items
+    c.append_with_id.new.out.items _ c.from_residual-in_err-append_with_id.ensures.0 c.in_err-append_with_id.ensures.added
+
+pub returns-in_err-append_rest : goal.returns-in_err-append_rest
+returns-in_err-append_rest c = failed c.from_residual-in_err-append_rest.result c.args.out.now.items c.append_with_id.new.out.items
+    c.append_rest.new.out.items _ _ c.from_residual-in_err-append_rest.ensures.0 c.in_ok-append_with_id.ensures.added
+    c.in_err-append_rest.ensures
+
+pub returns : goal.returns
+returns c =
+    let old = c.args.out.now.items in
+    let x = c.args.self.now.site in
+    let known = c.args.known.now in
+    let id = c.args.id.now in
+    let us = (asked_state x).ops in
+    let k = known_again us known in
+    let seen : c.self.inside.site ≡ x = ap (λ (v : SeenNode). v.site) c.self.view_is in
+    let held : c.entries-operations.result.now.items ≡ us =
+    c.entries-operations.ensures ∙ c.ledger.ensures.entries ∙ ap (λ (y : SeenSite). (state_of y).ops) (c.site.ensures ∙ ap without_ids seen) in
+    let sent : c.in_ok-messages.messages.items ≡ k.sent =
+    c.in_ok-messages.ensures ∙ ap (λ (vs : List Shadow). messages_of vs (Operations known.first known.end)) held in
+    let reply : c.in_ok-reply.reply ≡ k.reply =
+    c.in_ok-reply.ensures ∙ ap (reply_made known.event) (c.as_slice.ensures.value ∙ sent) in
+    let s : c.self.inside.config ≡ x.settings = sym c.self.invariant ∙ ap (λ (y : SeenAsked). y.settings) seen in
+    let two = both old c.append_with_id.new.out.items c.append_rest.new.out.items (again_head id)
+    (rest_text c.self.inside.config c.in_ok-reply.reply c.as_slice-2.result.now) c.in_ok-append_with_id.ensures.added c.in_ok-append_rest.ensures in
+    then c.append.result old c.append_rest.new.out.items c.append.new.out.items
+    (again_head id ++ rest_text c.self.inside.config c.in_ok-reply.reply c.as_slice-2.result.now) (codes "]}\n") _ two c.append.ensures
+    (ap (λ r. (again_head id ++ rest_text r c.in_ok-reply.reply c.as_slice-2.result.now) ++ codes "]}\n") s
+    ∙ ap (λ r. (again_head id ++ rest_text x.settings r c.as_slice-2.result.now) ++ codes "]}\n") reply
+    ∙ ap (λ (ms : List Message). (again_head id ++ rest_text x.settings k.reply ms) ++ codes "]}\n") (c.as_slice-2.ensures.value ∙ sent)
+    ∙ again_line x.settings id k (an_id id c.requires c.in_ok-append_with_id.ensures.id))

@@ -1,0 +1,81 @@
+//! A request that was made by an id, as it is kept: its event, and which operations of the ledger it made. Its reply
+//! and its messages are made of these again.
+ghost use Rattle.std.specs.Prelude.{◌≡◌, ◌≢◌, ◌≤◌, ◌++◌, [], None, IfOk, OnOk, IfSome, MatchOption, map, option_copied};
+ghost use Rattle.indexmap.specs.IndexMap.{get_by, spare};
+ghost use Rattle.std.specs.Str.{bytes_eq};
+ghost use Rattle.rb_node.specs.Kept.{by_bytes, find_request, request_noted};
+
+use indexmap::IndexMap;
+use rb_history::{RequestId, may_be_asked_by};
+use rb_site::{Event, Reply};
+use std::alloc::{AllocError, Global};
+
+/// A request that was made: its event, and its operations: as many as `first` were applied before it, and as many as
+/// `end` with it.
+#[derive(Drop)]
+pub struct KnownRequest {
+    pub event: Event,
+    pub first: u32,
+    pub end: u32,
+}
+
+/// The id as a key of the map, and a copy of the event; `None` if there is no id.
+pub(crate) fn copy_asked(
+    alloc: Global,
+    id: &RequestId,
+    event: &Event,
+) -> Result<Option<(Vec<u8>, Event)>, AllocError>
+    ensures { IfOk result (λ copies. MatchOption copies (id.now ≡ [])
+        (λ p. (id.now ≢ []) × (p.0.items ≡ id.now) × (p.1 ≡ event.now))) }
+{
+    if id.as_bytes().is_empty() {
+        return Ok(None);
+    }
+    let mut key = Vec::new(alloc);
+    key.extend_from_slice(id.as_bytes())?;
+    let event = event.try_copy(alloc)?;
+    Ok(Some((key, event)))
+}
+
+/// The request of the id.
+pub(crate) fn request_of<'m>(
+    by_id: &'m IndexMap<Vec<u8>, KnownRequest>,
+    id: &RequestId,
+) -> Option<&'m KnownRequest>
+    ensures { option_copied result ≡ find_request id.now (by_bytes by_id.now.entries) }
+{
+    by_id.get(id.as_bytes())
+}
+
+/// Memory for one request more, if there is an id.
+pub(crate) fn reserve_request(
+    by_id: &mut IndexMap<Vec<u8>, KnownRequest>,
+    id: &RequestId,
+) -> Result<(), AllocError>
+    ensures entries { by_id.new.entries ≡ by_id.old.entries }
+    ensures ok { OnOk result (id.now ≢ [] → 1 ≤ spare by_id.new) }
+{
+    if id.as_bytes().is_empty() {
+        return Ok(());
+    }
+    by_id.reserve(1)
+}
+
+/// Notes a request by an id that isn't known, if it was made, in the capacity that is there.
+pub(crate) fn note_request(
+    by_id: &mut IndexMap<Vec<u8>, KnownRequest>,
+    copies: Option<(Vec<u8>, Event)>,
+    reply: &Reply,
+    first: u32,
+    end: u32,
+)
+    requires new { IfSome copies (λ p. find_request p.0.items (by_bytes by_id.old.entries) ≡ None) }
+    requires capacity { IfSome copies (λ _. 1 ≤ spare by_id.old) }
+    ensures { by_bytes by_id.new.entries ≡ by_bytes by_id.old.entries ++ request_noted copies reply.now first end }
+{
+    if let Some((id, event)) = copies {
+        if may_be_asked_by(&event, reply) {
+            let _before = by_id.insert(id, KnownRequest { event, first, end });
+        }
+    }
+}
