@@ -1,9 +1,9 @@
 -- The site that was opened goes on over what is behind the configuration's line.
-use Rattle.std.proofs.Common.{inl, inr, ℕ, List, ◌++◌, Option, Some, None, Result, Ok, Err, ap, subst}
+use Rattle.std.proofs.Common.{inl, inr, ℕ, Bool, List, ◌++◌, Option, Some, None, Result, Ok, Err, ap, subst}
 use Rattle.std.specs.Prelude.{IfSome}
 use Rattle.rb_journal.specs.Lines.{recovered}
 use Rattle.rb_lines.specs.Lines.{lines_of}
-use Rattle.rb_site.specs.Seen.{SeenSite}
+use Rattle.rb_node.specs.Asked.{SeenAsked}
 use Rattle.rb_journal.specs.Ends.{IsFull}
 use Rattle.rb_journal.specs.Run.{served_input}
 use Rattle.rb_journal.specs.declared.fault.ServeFault.{ServeFault}
@@ -31,7 +31,8 @@ first_known : (input : Option (List ℕ)) (config : List ℕ) (number : ℕ) (pe
 first_known None config number pending left w = tt
 first_known (Some all) config number pending left w = (number, lines_of (pending ++ w.rest), w.behind)
 
-module _ (me most number : ℕ) (input left : Option (List ℕ)) (file config pending : List ℕ) (x : SeenSite) (first sends : List ℕ)
+module _ (all : Bool) (me most number : ℕ) (input left : Option (List ℕ)) (file config pending : List ℕ)
+    (x : SeenAsked) (first sends : List ℕ)
     (opens : OpensSite config me most file x first sends) (waits : IfSome input (WaitsBehind config number pending left)) where
   -- the site that was opened is the one that the input and the journal say
   starts : Starts me input (recovered file) x
@@ -42,11 +43,12 @@ module _ (me most number : ℕ) (input left : Option (List ℕ)) (file config pe
     journal = opens.journal;
     replayed = opens.replayed;
     read = opens.read;
+    once = opens.once;
   }
 
   -- what it may leave at any moment is what the whole run may leave
-  pub run_behind : (output c d : List ℕ) → IsNewOrAnswered (recovered file) x sends number (served_input pending left) output c d
-      → IsSiteRun me most input file output c d
+  pub run_behind : (output c d : List ℕ) → IsNewOrAnswered all (recovered file) x sends number (served_input pending left) output c d
+      → IsSiteRun all me most input file output c d
   run_behind output c d (inl still) = inl (inr (record { start = x; starts = starts; still_new = still }))
   run_behind output c d (inr has) = inr (record {
     start = x;
@@ -54,24 +56,25 @@ module _ (me most number : ℕ) (input left : Option (List ℕ)) (file config pe
     number = number;
     behind = served_input pending left;
     behind_is = behind_known input config number pending left waits;
-    answered = subst (λ s. HasAnswered x s number (served_input pending left) output c d) opens.sends_are has;
+    answered = subst (λ s. HasAnswered all x s number (served_input pending left) output c d) opens.sends_are has;
   })
 
   -- how it ends is how the whole run ends
   pub ends_behind : (output : List ℕ) (still : Option (List ℕ)) (now : List (List ℕ)) (said : List ℕ) (ended : Result ℕ ServeFault)
-      → AnswersAll x sends number (served_input pending left) still output now said ended
-      → AnswersBehind me most input still (recovered file) output now said ended
-  ends_behind output still now said ended all = record {
+      → AnswersAll all x sends number (served_input pending left) still output now said ended
+      → AnswersBehind all me most input still (recovered file) output now said ended
+  ends_behind output still now said ended a = record {
     start = x;
     starts = starts;
     number = number;
     behind = served_input pending left;
     behind_is = behind_known input config number pending left waits;
-    answered = subst (λ s. AnswersAll x s number (served_input pending left) still output now said ended) opens.sends_are all;
+    answered = subst (λ s. AnswersAll all x s number (served_input pending left) still output now said ended) opens.sends_are a;
   }
 
   -- where the site's journal is full, the whole run's is
-  pub full_behind : IsFull SiteAnswers number (served_input pending left) x (journal_of x) → IsFullBehind me input (recovered file)
+  pub full_behind : IsFull (SiteAnswers all) number (served_input pending left) x (journal_of x)
+      → IsFullBehind all me input (recovered file)
   full_behind full = record {
     start = x;
     starts = starts;

@@ -4,7 +4,7 @@ use Rattle.std.proofs.Common.{Err, sym, ap, subst, ◌∙◌}
 use Rattle.std.specs.Prelude.{IfSome}
 use Rattle.std.specs.Io.KnownBytes.{IsAtEnd}
 use Rattle.rb_lines.specs.Lines.{line_len, lines_of}
-use Rattle.rb_site.specs.Seen.{SeenSite, first_seen}
+use Rattle.rb_node.specs.Asked.{SeenAsked, first_asked}
 use Rattle.rb_run_site.specs.Faults.{IsFirstLineFault}
 use Rattle.rb_run_site.specs.FirstLines.{FindsFirst, IsBehindBlanks, WaitsAt}
 use Rattle.rb_run_site.specs.Openings.{EndsFile, EndsNode, IsOpeningCause}
@@ -58,7 +58,8 @@ module _ (me : ℕ) (input left : Option (List ℕ)) (file : List ℕ) (number :
   node_cause _ ends = tt
 
   -- the file isn't replayed
-  pub file_cause : (old : SeenSite) → IsOf line me old → old ≡ first_seen old.settings me → (why : SiteFault) → EndsFile old file why
+  pub file_cause : (old : SeenAsked) → IsOf line me old → old ≡ first_asked old.settings me → (why : SiteFault)
+      → EndsFile old file why
       → IsOpeningCause me input left file why
   file_cause old is begins AnotherJournal ends = record {
     number = number;

@@ -3,13 +3,15 @@ use Rattle.std.proofs.Common.{◌≡◌, ◌<◌, ◌≤◌, ◌+◌, ◌⊎◌,
 use Rattle.std.proofs.Common.{Some, None, refl, sym, ap, subst, ◌∙◌, arith}
 use Rattle.std.specs.Prelude.{IfSome}
 use Rattle.std.specs.Io.KnownBytes.{IsAtEnd}
-use Rattle.rb_site.specs.Seen.{IsReplayed, SeenSite, first_seen}
+use Rattle.rb_site.specs.Seen.{IsReplayed}
 use Rattle.rb_lines.specs.Lines.{line_len, lines_of}
 use Rattle.rb_lines.proofs.Public.Walks.{Walks, after_line}
+use Rattle.rb_node.specs.Asked.{AreIdsOnce, SeenAsked, first_asked, without_ids}
 use Rattle.rb_node.specs.Replays.{IsReadWhole}
 use Rattle.rb_run_site.specs.FirstLines.{WaitsAt}
 use Rattle.rb_run_site.specs.Openings.{OpensFile, OpensSite}
 use Rattle.rb_run_site.specs.Starts.{IsOf, WaitsBehind}
+use Rattle.rb_run_site.proofs.Ids.{none_once}
 
 -- the line at the front is the first of what waits
 pub next_line : (p rest : List ℕ) (e : Bool) (n : ℕ) → n ≡ line_len p → n ≤ length p
@@ -40,15 +42,21 @@ behind (Some all) (Some rest) number p e n w len fits at_front end =
     }
 
 -- a site before any event has nothing to replay
-pub first_replayed : (old : SeenSite) (me : ℕ) → me < old.settings.sites → old ≡ first_seen old.settings me → IsReplayed old
-first_replayed old me low begins = subst IsReplayed (sym begins) (record { within = low; replays = tt; room = omega arith })
+pub first_replayed : (old : SeenAsked) (me : ℕ) → me < old.settings.sites → old ≡ first_asked old.settings me
+    → IsReplayed (without_ids old)
+first_replayed old me low begins =
+    subst (λ x. IsReplayed (without_ids x)) (sym begins) (record { within = low; replays = tt; room = omega arith })
 
-first_read : (old : SeenSite) (me : ℕ) → old ≡ first_seen old.settings me → IsReadWhole old
+first_read : (old : SeenAsked) (me : ℕ) → old ≡ first_asked old.settings me → IsReadWhole old
 first_read old me begins = subst IsReadWhole (sym begins) tt
 
+-- nor has it an id
+pub first_once : (old : SeenAsked) (me : ℕ) → old ≡ first_asked old.settings me → AreIdsOnce old.asked
+first_once old me begins = subst (λ (x : SeenAsked). AreIdsOnce x.asked) (sym begins) none_once
+
 -- the site that a file is replayed at is the configuration's
-pub opened : (config : List ℕ) (me most : ℕ) (old new : SeenSite) (file first sends : List ℕ) → IsOf config me old
-    → old ≡ first_seen old.settings me → OpensFile old new file first sends most → OpensSite config me most file new first sends
+pub opened : (config : List ℕ) (me most : ℕ) (old new : SeenAsked) (file first sends : List ℕ) → IsOf config me old
+    → old ≡ first_asked old.settings me → OpensFile old new file first sends most → OpensSite config me most file new first sends
 opened config me most old new file first sends is begins o = record {
   is_of = record {
     configured = is.configured ∙ ap Some (sym o.settings);
@@ -57,6 +65,7 @@ opened config me most old new file first sends is begins o = record {
   };
   replayed = o.replayed (first_replayed old me is.within begins);
   read = o.read (first_read old me begins);
+  once = o.once (first_once old me begins);
   journal = o.journal;
   begins = o.begins;
   undamaged = o.undamaged;

@@ -4,6 +4,7 @@ mod Causes
 mod Configured
 mod EntryLines
 mod Going
+mod Ids
 mod NewFiles
 mod Stopped
 mod Opened
@@ -11,7 +12,9 @@ mod Buffered
 mod Prefixes
 mod Replayed
 mod Restarts
+mod SameAnswers
 mod Split
+mod Served
 mod Stepped
 mod Taken
 mod Turned

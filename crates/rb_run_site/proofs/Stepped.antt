@@ -2,11 +2,13 @@
 use Rattle.std.proofs.Common.{◌≡◌, ◌≤◌, ◌<◌, ◌+◌, ℕ, Bool, true, false, cond, List, [], ◌∷◌, ◌++◌, length, take, refl}
 use Rattle.std.proofs.Common.{sym, ap, subst, ◌∙◌, arith}
 use Rattle.std.proofs.Common.{append_assoc, append-nil, length-append, inl, inr, Option}
-use Rattle.std.specs.Prelude.{map, nat_le}
+use Rattle.std.specs.Prelude.{◌⊎◌, map, nat_le}
+use Rattle.std.specs.List.{concat}
 use Rattle.std.proofs.Math.Seq.{take-length}
 use Rattle.std.proofs.lemmas.Bool.Decides.{nat_tests}
 use Rattle.std.proofs.lemmas.List.{length-map, map-append}
 use Rattle.rb_money.specs.Settings.{Settings}
+use Rattle.rb_shadow.specs.declared.op_name.OpName.{OpName}
 use Rattle.rb_site.specs.declared.entry.Entry.{Entry}
 use Rattle.rb_site.specs.declared.event.Event.{Event}
 use Rattle.rb_site.specs.declared.event.Event.TheVariants.{Apply, Receive}
@@ -21,15 +23,17 @@ use Rattle.rb_journal.specs.Turns.{AreTurns, Turn, lines_added, state_after}
 use Rattle.std.proofs.Common.{Some, None}
 use Rattle.std.specs.Str.{is_utf8}
 use Rattle.rb_history.specs.declared.question.Question.{Question}
-use Rattle.rb_history.specs.Entries.{event_of_line}
+use Rattle.rb_history.specs.Entries.{asked_event_of_line}
+use Rattle.rb_history.specs.Ids.{AskedEntry}
 use Rattle.rb_history.specs.Questions.{question_of_line}
 use Rattle.rb_history.proofs.Public.Questions.{question_no_event}
-use Rattle.rb_node.specs.Answers.{event_on}
+use Rattle.rb_node.specs.Answers.{IsSiteAnswer, asked_event_on, is_kept}
+use Rattle.rb_node.specs.Asked.{SeenAsked, entries_alone, without_ids}
 use Rattle.rb_node.specs.LineAnswers.{question_on}
 use Rattle.rb_lines.specs.Lines.{is_long}
-use Rattle.rb_run_site.specs.Journals.{IsAnswer, SiteAnswers, journal_of}
+use Rattle.rb_run_site.specs.Journals.{AnswersEither, IsAnswer, SiteAnswers, journal_of}
 use Rattle.rb_run_site.specs.Runs.{IsSiteRun}
-use Rattle.rb_run_site.specs.Steps.{AreEventsOf, AreSteps, AreStepsOf, IsRunOfSteps, IsTurnInSteps, journal_on_disk, restarted, step_of}
+use Rattle.rb_run_site.specs.Steps.{AreEventsOf, AreSteps, AreStepsOf, IsRunOfSteps, IsJournalOnDisk, IsTurnInSteps, restarted, step_of}
 use Rattle.rb_run_site.proofs.Turned.{me_kept, settings_kept}
 
 -- the events of a site, with these numbers of those on the disk and of those reported
@@ -123,48 +127,79 @@ events_recorded s x (e ∷ es) k r same is =
 
 -- ---- one turn
 
--- the events of a turn's line lead to the site after it
-record HasEvents (x : SeenSite) (t : Turn SeenSite) : Type 0 where
+-- the events that a turn recorded lead to the site after it
+record HasEvents (x : SeenAsked) (t : Turn SeenAsked) : Type 0 where
   events : List Event
   on_line : AreEventsOf x.settings t.line events
-  after : t.after ≡ next_sites x events
+  after : without_ids t.after ≡ next_sites (without_ids x) events
 
 -- a question is no event
-no_event : (s : Settings) (l : List ℕ) (q : Question) → question_on l ≡ Some q → event_on s l ≡ None
-unfolding question_on event_on
+pub no_event : (s : Settings) (l : List ℕ) (q : Question) → question_on l ≡ Some q → asked_event_on s l ≡ None
+unfolding question_on asked_event_on
 no_event s l q asked = at (is_utf8 l) asked
   where
-    at : (b : Bool) → cond b (question_of_line l) None ≡ Some q → cond b (event_of_line s l) None ≡ None
+    at : (b : Bool) → cond b (question_of_line l) None ≡ Some q → cond b (asked_event_of_line s l) None ≡ None
     at true asked = question_no_event s l q asked
     at false asked = refl
 
-events_in : (x : SeenSite) (t : Turn SeenSite) → SiteAnswers x t.number t.line t.added t.text t.after → HasEvents x t
-events_in x t a = by (is_long t.line) refl a.answered
-  where
-    by : (b : Bool) → is_long t.line ≡ b → IsAnswer b x t.number t.line t.added t.text t.after → HasEvents x t
-    by true long bad = record { events = []; on_line = inr (refl, inr long); after = bad.same }
-    by false short (inl (inr asked)) =
-        record { events = []; on_line = inr (refl, inl (no_event x.settings t.line asked.question asked.is_question)); after = asked.after }
-    by false short (inl (inl own)) = record {
-      events = own.event ∷ map Apply own.applied;
-      on_line = inl (own.event, own.applied, own.is_event, refl);
-      after = own.after;
+-- a site after two lists of events
+sites_both : (x : SeenSite) (es fs : List Event) → next_sites x (es ++ fs) ≡ next_sites (next_sites x es) fs
+sites_both x [] fs = refl
+sites_both x (e ∷ es) fs = sites_both (next_site x e) es fs
+
+-- the event, or nothing, and then applications
+kept_or_not : (b : Bool) (e : Event) (names : List OpName)
+    → (cond b (e ∷ []) [] ++ map Apply names ≡ e ∷ map Apply names) ⊎ (cond b (e ∷ []) [] ++ map Apply names ≡ map Apply names)
+kept_or_not true e names = inl refl
+kept_or_not false e names = inr refl
+
+-- the events of an answer to an event
+events_kept : (all : Bool) (x : SeenAsked) (t : Turn SeenAsked) (entries : List ℕ)
+    → IsSiteAnswer all x t.after t.line t.text entries
+    → HasEvents x t
+events_kept all x t entries own =
+    let keep : Bool = is_kept all (without_ids x) own.asked.event in
+    let e : Event = own.asked.event in
+    let es : List Event = cond keep (e ∷ []) [] in
+    let names : List Event = map Apply own.applied in
+    record {
+      events = es ++ names;
+      on_line = inl (own.asked, own.applied, own.is_event, kept_or_not keep e own.applied);
+      after = own.after ∙ ap (λ m. next_sites m names) own.mid_is ∙ sym (sites_both (without_ids x) es names);
     }
-    by false short (inr bad) = record { events = []; on_line = inr (refl, inl bad.0); after = bad.2.same }
+
+events_in : (x : SeenAsked) (t : Turn SeenAsked) → AnswersEither x t.number t.line t.added t.text t.after
+    → HasEvents x t
+events_in x t (all, a) = by (is_long t.line) refl a.answered
+  where
+    by : (b : Bool) → is_long t.line ≡ b → IsAnswer all b x t.number t.line t.added t.text t.after → HasEvents x t
+    by true long bad = record { events = []; on_line = inr (refl, inr long); after = ap without_ids bad.same }
+    by false short (inl (inl own)) = events_kept all x t (concat t.added) own
+    by false short (inl (inr (inl known))) = record {
+      events = [];
+      on_line = inl (known.asked, [], known.is_event, inr refl);
+      after = ap without_ids known.after;
+    }
+    by false short (inl (inr (inr asked))) = record {
+      events = [];
+      on_line = inr (refl, inl (no_event x.settings t.line asked.question asked.is_question));
+      after = ap without_ids asked.after;
+    }
+    by false short (inr bad) = record { events = []; on_line = inr (refl, inl bad.0); after = ap without_ids bad.2.same }
 
 -- the steps of a turn lead from a site that restarts to one that does
-pub record TakesTurn (s : Settings) (x : SeenSite) (t : Turn SeenSite) : Type 0 where
+pub record TakesTurn (s : Settings) (x : SeenAsked) (t : Turn SeenAsked) : Type 0 where
   pub steps : List DiskStep
   pub theirs : IsTurnInSteps x t steps
   pub after : after_steps s (restarted x) steps ≡ restarted t.after
   pub may : MayAllHappen s (restarted x) steps
-  pub replayed : IsReplayed t.after
+  pub replayed : IsReplayed (without_ids t.after)
   pub settings : t.after.settings ≡ x.settings
   pub me : t.after.me ≡ x.me
 
 -- a turn is steps
-pub turn_taken : (s : Settings) (x : SeenSite) (t : Turn SeenSite) → s ≡ x.settings → IsReplayed x
-    → SiteAnswers x t.number t.line t.added t.text t.after → TakesTurn s x t
+pub turn_taken : (s : Settings) (x : SeenAsked) (t : Turn SeenAsked) → s ≡ x.settings → IsReplayed (without_ids x)
+    → AnswersEither x t.number t.line t.added t.text t.after → TakesTurn s x t
 turn_taken s x t same is a = record {
   steps = map step_of es ++ (Syncs m ∷ Reports m ∷ []);
   theirs = record { events = es; on_line = (events_in x t a).on_line; after = next; steps_are = refl };
@@ -173,51 +208,61 @@ turn_taken s x t same is a = record {
   may = both_may s (restarted x) (map step_of es) (Syncs m ∷ Reports m ∷ []) some.may
       (subst (λ d. MayAllHappen s d (Syncs m ∷ Reports m ∷ [])) (sym recorded)
       ((grown, here), ((grown, omega arith), tt)));
-  replayed = subst IsReplayed (sym next) (all_replayed x es is);
-  settings = ap (λ (y : SeenSite). y.settings) next ∙ settings_kept x es;
-  me = ap (λ (y : SeenSite). y.me) next ∙ me_kept x es;
+  replayed = subst IsReplayed (sym next) (all_replayed (without_ids x) es is);
+  settings = ap (λ (y : SeenSite). y.settings) next ∙ settings_kept (without_ids x) es;
+  me = ap (λ (y : SeenSite). y.me) next ∙ me_kept (without_ids x) es;
 }
   where
     es : List Event
     es = (events_in x t a).events
 
     n : ℕ
-    n = length x.entries
+    n = length x.asked
 
     m : ℕ
-    m = length t.after.entries
+    m = length t.after.asked
 
-    next : t.after ≡ next_sites x es
+    next : without_ids t.after ≡ next_sites (without_ids x) es
     next = (events_in x t a).after
 
-    some : Records s x es n n
-    some = events_recorded s x es n n same is
+    some : Records s (without_ids x) es n n
+    some = events_recorded s (without_ids x) es n n same is
 
-    recorded : after_steps s (restarted x) (map step_of es) ≡ disk_of t.after n n
+    recorded : after_steps s (restarted x) (map step_of es) ≡ disk_of (without_ids t.after) n n
     recorded = some.after ∙ ap (λ y. disk_of y n n) (sym next)
 
-    grown : n ≤ m
-    grown = subst (λ (y : SeenSite). n ≤ length y.entries) (sym next) (longer x es)
+    many : (y : SeenAsked) → length (entries_alone y.asked) ≡ length y.asked
+    many y = length-map y.asked (λ (a : AskedEntry). a.entry)
 
-    here : m ≤ length (events_of t.after.entries)
-    here = let all : length (events_of t.after.entries) ≡ m = length-map t.after.entries (λ (y : Entry). y.event) in omega arith
+    grown : n ≤ m
+    grown =
+        let more : length (entries_alone x.asked) ≤ length (entries_alone t.after.asked) =
+        subst (λ (y : SeenSite). length (entries_alone x.asked) ≤ length y.entries) (sym next) (longer (without_ids x) es) in
+        omega (arith, more, many x, many t.after)
+
+    here : m ≤ length (events_of (entries_alone t.after.asked))
+    here =
+        let all : length (events_of (entries_alone t.after.asked)) ≡ length (entries_alone t.after.asked) =
+        length-map (entries_alone t.after.asked) (λ (y : Entry). y.event) in
+        omega (arith, all, many t.after)
 
 -- ---- all turns
 
 -- the steps of turns lead from a site that restarts to one that does, and the turns' lines are added to its journal
-pub record TakesTurns (s : Settings) (x : SeenSite) (turns : List (Turn SeenSite)) : Type 0 where
+pub record TakesTurns (s : Settings) (x : SeenAsked) (turns : List (Turn SeenAsked)) : Type 0 where
   pub steps : List DiskStep
   pub theirs : AreStepsOf x turns steps
   pub after : after_steps s (restarted x) steps ≡ restarted (state_after x turns)
   pub may : MayAllHappen s (restarted x) steps
-  pub replayed : IsReplayed (state_after x turns)
+  pub replayed : IsReplayed (without_ids (state_after x turns))
   pub settings : (state_after x turns).settings ≡ x.settings
   pub me : (state_after x turns).me ≡ x.me
   pub journal : journal_of (state_after x turns) ≡ journal_of x ++ lines_added turns
 
 -- turns are steps
-pub turns_taken : (s : Settings) (x : SeenSite) (turns : List (Turn SeenSite)) → s ≡ x.settings → IsReplayed x
-    → AreTurns SiteAnswers x turns → TakesTurns s x turns
+pub turns_taken : (s : Settings) (x : SeenAsked) (turns : List (Turn SeenAsked)) → s ≡ x.settings
+    → IsReplayed (without_ids x)
+    → AreTurns AnswersEither x turns → TakesTurns s x turns
 turns_taken s x [] same is are = record {
   steps = [];
   theirs = refl;
@@ -240,39 +285,60 @@ turns_taken s x (t ∷ turns) same is are =
       replayed = rest.replayed;
       settings = rest.settings ∙ one.settings;
       me = rest.me ∙ one.me;
-      journal = rest.journal ∙ ap (λ ls. ls ++ lines_added turns) are.0.after ∙ append_assoc (journal_of x) t.added (lines_added turns);
+      journal = rest.journal ∙ ap (λ ls. ls ++ lines_added turns) are.0.1.after
+          ∙ append_assoc (journal_of x) t.added (lines_added turns);
     }
 
--- the journal of a site is that of all of its events, which are on its disk
-on_disk : (s : Settings) (me : ℕ) (x : SeenSite) → x.settings ≡ s → x.me ≡ me → IsReplayed x
-    → journal_on_disk s me (restarted x) ≡ journal_of x
-on_disk s me x f g is =
-    ap (λ t. journal_on_disk t me (restarted x)) (sym f) ∙ ap (λ i. journal_on_disk x.settings i (restarted x)) (sym g)
-    ∙ ap (λ es. journal_of (record { settings = x.settings; me = x.me; entries = with_replies x.settings (first_site x.me) es })) whole
-    ∙ ap (λ xs. journal_of (record { settings = x.settings; me = x.me; entries = xs }))
-    (entries_replayed x.settings (first_site x.me) x.entries is.replays)
+-- the turns of one run are turns by one choice or the other
+pub by_either : (all : Bool) (x : SeenAsked) (turns : List (Turn SeenAsked)) → AreTurns (SiteAnswers all) x turns
+    → AreTurns AnswersEither x turns
+by_either all x [] are = tt
+by_either all x (t ∷ turns) are = ((all, are.0), by_either all t.after turns are.1)
+
+-- the journal of a site is one of all of its events, which are on its disk
+on_disk : (s : Settings) (me : ℕ) (x : SeenAsked) (lines : List (List ℕ)) → x.settings ≡ s → x.me ≡ me
+    → IsReplayed (without_ids x)
+    → lines ≡ journal_of x → IsJournalOnDisk s me (restarted x) lines
+on_disk s me x lines f g is same = record {
+  asked = x.asked;
+  entries_are = sym (ap (λ t. with_replies t (first_site me) (take (length x.asked) (events_of ys))) (sym f)
+      ∙ ap (λ i. with_replies x.settings (first_site i) (take (length x.asked) (events_of ys))) (sym g)
+      ∙ ap (with_replies x.settings (first_site x.me)) whole ∙ entries_replayed x.settings (first_site x.me) ys is.replays);
+  lines_are = same ∙ ap (λ t. journal_of (record { settings = t; me = x.me; asked = x.asked })) f
+      ∙ ap (λ i. journal_of (record { settings = s; me = i; asked = x.asked })) g;
+}
   where
-    whole : take (length x.entries) (events_of x.entries) ≡ events_of x.entries
-    whole = ap (λ n. take n (events_of x.entries)) (sym (length-map x.entries (λ (y : Entry). y.event))) ∙ take-length (events_of x.entries)
+    ys : List Entry
+    ys = entries_alone x.asked
+
+    whole : take (length x.asked) (events_of ys) ≡ events_of ys
+    whole = ap (λ n. take n (events_of ys))
+        (sym (length-map ys (λ (y : Entry). y.event) ∙ length-map x.asked (λ (a : AskedEntry). a.entry))) ∙ take-length (events_of ys)
 
 -- the turns of a site over its journal are steps
-pub are_steps : (x : SeenSite) (turns : List (Turn SeenSite)) (file : List ℕ) → IsReplayed x → AreTurns SiteAnswers x turns
+pub are_steps : (x : SeenAsked) (turns : List (Turn SeenAsked)) (file : List ℕ) → IsReplayed (without_ids x)
+    → AreTurns AnswersEither x turns
     → recovered file ≡ journal_of x ++ lines_added turns → AreSteps x turns file
 are_steps x turns file is are lines =
     let all : TakesTurns x.settings x turns = turns_taken x.settings x turns refl is are in
+    let last : SeenAsked = state_after x turns in
     record {
       steps = all.steps;
       are_theirs = all.theirs;
       may = all.may;
-      last = restarted (state_after x turns);
+      last = restarted last;
       last_is = sym all.after;
-      lines_are = lines ∙ sym all.journal ∙ sym (on_disk x.settings x.me (state_after x turns) all.settings all.me all.replayed);
-      reported = sym (length-map (state_after x turns).entries (λ (y : Entry). y.event));
+      lines_are = on_disk x.settings x.me last (recovered file) all.settings all.me all.replayed (lines ∙ sym all.journal);
+      reported = sym (length-map (entries_alone last.asked) (λ (y : Entry). y.event)
+          ∙ length-map last.asked (λ (a : AskedEntry). a.entry));
     }
 
 -- what has run is steps
-pub stepped_run : (me most : ℕ) (input : Option (List ℕ)) (file output c d : List ℕ) → IsSiteRun me most input file output c d
-    → IsRunOfSteps me most input file output c d
-stepped_run me most input file output c d (inl at) = inl at
-stepped_run me most input file output c d (inr run) =
-    inr (run, are_steps run.start run.answered.turns c run.starts.replayed run.answered.are run.answered.lines_are)
+pub stepped_run : (all : Bool) (me most : ℕ) (input : Option (List ℕ)) (file output c d : List ℕ)
+    → IsSiteRun all me most input file output c d → IsRunOfSteps all me most input file output c d
+stepped_run all me most input file output c d (inl at) = inl at
+stepped_run all me most input file output c d (inr run) = inr (
+  run,
+  are_steps run.start run.answered.turns c run.starts.replayed (by_either all run.start run.answered.turns run.answered.are)
+      run.answered.lines_are,
+)

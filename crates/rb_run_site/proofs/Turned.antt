@@ -1,26 +1,31 @@
 -- An answer of a site is a turn of it over its journal.
-use Rattle.std.proofs.Common.{◌≡◌, ℕ, Bool, true, false, cond, List, [], ◌∷◌, ◌++◌, None, refl, sym, ap, subst, ◌∙◌, append-nil, inl, inr}
-use Rattle.std.specs.Prelude.{codes, map}
+use Rattle.std.proofs.Common.{◌≡◌, ℕ, Bool, true, false, cond, List, [], ◌∷◌, ◌++◌, Some, None, refl, sym, ap, subst, ◌∙◌}
+use Rattle.std.proofs.Common.{append-nil, inl, inr}
+use Rattle.std.specs.Prelude.{◌⊎◌, codes, map}
+use Rattle.std.specs.Str.{is_utf8}
 use Rattle.std.specs.List.{concat}
 use Rattle.std.proofs.lemmas.List.{map-append}
-use Rattle.rb_money.specs.Settings.{IsConfigured}
+use Rattle.rb_money.specs.Settings.{IsConfigured, Settings}
 use Rattle.rb_site.specs.declared.entry.Entry.{Entry}
 use Rattle.rb_site.specs.declared.event.Event.{Event}
-use Rattle.rb_site.specs.declared.event.Event.TheVariants.{Apply}
 use Rattle.rb_site.specs.Events.{is_full}
 use Rattle.rb_site.specs.Seen.{SeenSite, next_site, next_sites, state_of, stepped}
 use Rattle.rb_site.proofs.Public.Seen.{settings-next}
+use Rattle.rb_history.specs.Entries.{asked_event_of_line}
+use Rattle.rb_history.specs.Ids.{AskedEntry, AskedEvent, IsIdOrNone, is_id, may_have_id}
 use Rattle.rb_history.specs.OneLine.{EntriesAreLines}
+use Rattle.rb_history.specs.Sites.{ReadEventsFit}
 use Rattle.rb_journal.specs.Lines.{IsBatch, recovered}
 use Rattle.rb_journal.specs.Turns.{IsTurn}
 use Rattle.rb_lines.specs.Lines.{is_long}
 use Rattle.rb_lines.specs.declared.limits.TheConstants.{LINE_LIMIT}
 use Rattle.std.proofs.Common.{◌≤◌, length, arith}
 use Rattle.std.proofs.lemmas.Bool.Decides.{nat_tests}
-use Rattle.rb_node.specs.Answers.{IsSiteAnswer, event_on, line_of}
+use Rattle.rb_node.specs.Answers.{IsKnownAnswer, IsSiteAnswer, asked_event_on, line_of}
+use Rattle.rb_node.specs.Asked.{SeenAsked, with_id, with_more}
 use Rattle.rb_node.specs.LineAnswers.{IsLineAnswer, IsQuestionAnswer, question_on}
 use Rattle.rb_run_site.specs.Journals.{IsAnswer, IsBadAnswer, SiteAnswers, bad_json, journal_head, journal_of, lines_of_entries}
-use Rattle.rb_run_site.proofs.EntryLines.{are_theirs, fed, joined_lines}
+use Rattle.rb_run_site.proofs.EntryLines.{are_theirs, fed, ids_had, joined_lines}
 
 -- events keep a site's configuration and its number
 pub settings_kept : (x : SeenSite) (es : List Event) → (next_sites x es).settings ≡ x.settings
@@ -41,89 +46,102 @@ me_kept x [] = refl
 me_kept x (e ∷ es) = me_kept (next_site x e) es ∙ me_next x e
 
 -- a site with more entries has their lines more in its journal
-pub journal_grows : (old new : SeenSite) (s : new.settings ≡ old.settings) (m : new.me ≡ old.me) (xs : List Entry) →
-    new.entries ≡ old.entries ++ xs → journal_of new ≡ journal_of old ++ lines_of_entries old.settings old.me xs
-journal_grows old new s m xs more =
-    ap (λ t. journal_head t ∷ lines_of_entries t new.me new.entries) s
-    ∙ ap (λ me. journal_head old.settings ∷ lines_of_entries old.settings me new.entries) m
-    ∙ ap (λ ys. journal_head old.settings ∷ lines_of_entries old.settings old.me ys) more
-    ∙ ap (λ ls. journal_head old.settings ∷ ls) (map-append (fed old.settings old.me) old.entries xs)
+pub journal_grows : (x : SeenAsked) (more : List AskedEntry) → journal_of (with_more x more) ≡ journal_of x
+    ++ lines_of_entries x.settings x.me more
+journal_grows x more = ap (λ ls. journal_head x.settings ∷ ls) (map-append (fed x.settings x.me) x.asked more)
+
+-- what was recorded for an event, with its ids
+abbrev pub recorded_with : List ℕ → List Entry → List AskedEntry
+recorded_with id xs = map (with_id id) xs
+
+-- the id that is read from a line is one, or there is none
+pub id_read : ReadEventsFit → (s : Settings) (l : List ℕ) (x : AskedEvent) → asked_event_on s l ≡ Some x
+    → IsIdOrNone x.id
+unfolding asked_event_on
+id_read fit s l x is = at (is_utf8 l) is
+  where
+    of : (x.id ≡ []) ⊎ ((is_id x.id ≡ true) × (may_have_id x.event ≡ true)) → IsIdOrNone x.id
+    of (inl none) = inl none
+    of (inr some) = inr some.0
+
+    at : (b : Bool) → cond b (asked_event_of_line s l) None ≡ Some x → IsIdOrNone x.id
+    at true h = of (fit s l x h).1
+    at false h = absurd (cc)
 
 -- what a site adds to the entries are lines of a journal
-pub batched : EntriesAreLines → (old new : SeenSite) (line text entries : List ℕ) → IsConfigured old.settings
-    → IsLineAnswer old new line text entries → IsBatch entries
-batched are old new line text entries ok (inl a) =
-    subst IsBatch (sym a.entries_are) (are_theirs are old.settings ok old.me a.recorded).batch
-batched are old new line text entries ok (inr a) = subst IsBatch (sym a.entries_are) refl
+pub batched : EntriesAreLines → ReadEventsFit → (all : Bool) (old new : SeenAsked) (line text entries : List ℕ)
+    → IsConfigured old.settings → IsLineAnswer all old new line text entries → IsBatch entries
+batched are fit all old new line text entries ok (inl a) =
+    let ids = ids_had a.asked.id a.recorded (id_read fit old.settings line a.asked a.is_event) in
+    subst IsBatch (sym a.entries_are) (are_theirs are old.settings ok old.me (recorded_with a.asked.id a.recorded) ids).batch
+batched are fit all old new line text entries ok (inr (inl a)) = subst IsBatch (sym a.entries_are) refl
+batched are fit all old new line text entries ok (inr (inr a)) = subst IsBatch (sym a.entries_are) refl
 
 -- a line that isn't too long
 pub short_line : (l : List ℕ) → length l ≤ LINE_LIMIT → is_long l ≡ false
 short_line l few = grind (arith, nat_tests)
 
--- the site took the line of an event: it is a turn
-event_turned : EntriesAreLines → (old new : SeenSite) (number : ℕ) (line words entries text text_after : List ℕ)
-    (batch batch_after : List (List ℕ)) → IsConfigured old.settings → is_long line ≡ false → IsSiteAnswer old new line words entries
-    → text_after ≡ text ++ words → batch_after ≡ batch ++ recovered entries
-    → IsTurn SiteAnswers old new (journal_of old) (journal_of new) batch batch_after number line text text_after
-event_turned are old new number line words entries text text_after batch batch_after ok short a said more =
-    let added = lines_of_entries old.settings old.me a.recorded in
-    let theirs = are_theirs are old.settings ok old.me a.recorded in
-    let lines : recovered entries ≡ added = ap recovered a.entries_are ∙ theirs.lines in
-    let events = a.event ∷ map Apply a.applied in
-    let grown : journal_of new ≡ journal_of old ++ added =
-    journal_grows old new (ap (λ (x : SeenSite). x.settings) a.after ∙ settings_kept old events) (ap (λ (x : SeenSite). x.me) a.after
-    ∙ me_kept old events) a.recorded a.recorded_are in
-    let bytes : entries ≡ concat added = a.entries_are ∙ sym (joined_lines old.settings old.me a.recorded) in
-    record {
-      added = added;
-      words = words;
-      answered = record {
-        configured = ok;
-        answered = subst (λ b. IsAnswer b old number line added words new) (sym short) (inl (inl (subst (IsSiteAnswer old new line words) bytes a)));
-        after = grown;
-      };
-      lines_are = grown;
-      batch_is = more ∙ ap (λ ls. batch ++ ls) lines;
-      text_is = said;
-    }
+module _ (all : Bool) (old new : SeenAsked) (number : ℕ) (line words entries text text_after : List ℕ)
+    (batch batch_after : List (List ℕ)) (ok : IsConfigured old.settings) (short : is_long line ≡ false)
+    (said : text_after ≡ text ++ words) (more : batch_after ≡ batch ++ recovered entries) where
+  -- the site took the line of an event: it is a turn
+  event_turned : EntriesAreLines → ReadEventsFit → IsSiteAnswer all old new line words entries
+      → IsTurn (SiteAnswers all) old new (journal_of old) (journal_of new) batch batch_after number line text text_after
+  event_turned are fit a =
+      let xs = recorded_with a.asked.id a.recorded in
+      let added = lines_of_entries old.settings old.me xs in
+      let theirs = are_theirs are old.settings ok old.me xs
+      (ids_had a.asked.id a.recorded (id_read fit old.settings line a.asked a.is_event)) in
+      let lines : recovered entries ≡ added = ap recovered a.entries_are ∙ theirs.lines in
+      let grown : journal_of new ≡ journal_of old ++ added = ap journal_of a.recorded_are ∙ journal_grows old xs in
+      let bytes : entries ≡ concat added = a.entries_are ∙ sym (joined_lines old.settings old.me xs) in
+      record {
+        added = added;
+        words = words;
+        answered = record {
+          configured = ok;
+          answered = subst (λ b. IsAnswer all b old number line added words new) (sym short)
+              (inl (inl (subst (IsSiteAnswer all old new line words) bytes a)));
+          after = grown;
+        };
+        lines_are = grown;
+        batch_is = more ∙ ap (λ ls. batch ++ ls) lines;
+        text_is = said;
+      }
 
--- the site answered a question: it is a turn that changes nothing
-question_turned : (old new : SeenSite) (number : ℕ) (line words entries text text_after : List ℕ) (batch batch_after : List (List ℕ))
-    → IsConfigured old.settings → is_long line ≡ false → IsQuestionAnswer old new line words entries → text_after ≡ text ++ words
-    → batch_after ≡ batch ++ recovered entries
-    → IsTurn SiteAnswers old new (journal_of old) (journal_of new) batch batch_after number line text text_after
-question_turned old new number line words entries text text_after batch batch_after ok short a said more =
-    let grown : journal_of new ≡ journal_of old ++ [] = ap journal_of a.after ∙ sym (append-nil (journal_of old)) in
-    let same : IsQuestionAnswer old new line words [] = subst (IsQuestionAnswer old new line words) a.entries_are a in
-    record {
-      added = [];
-      words = words;
-      answered = record {
-        configured = ok;
-        answered = subst (λ b. IsAnswer b old number line [] words new) (sym short) (inl (inr same));
-        after = grown;
-      };
-      lines_are = grown;
-      batch_is = more ∙ ap (λ l. batch ++ recovered l) a.entries_are;
-      text_is = said;
-    }
+  -- the site stayed as it was, and recorded nothing: it is a turn that changes nothing
+  same_turned : new ≡ old → entries ≡ [] → (entries ≡ [] → IsLineAnswer all old new line words [])
+      → IsTurn (SiteAnswers all) old new (journal_of old) (journal_of new) batch batch_after number line text text_after
+  same_turned same none a =
+      let grown : journal_of new ≡ journal_of old ++ [] = ap journal_of same ∙ sym (append-nil (journal_of old)) in
+      record {
+        added = [];
+        words = words;
+        answered = record {
+          configured = ok;
+          answered = subst (λ b. IsAnswer all b old number line [] words new) (sym short) (inl (a none));
+          after = grown;
+        };
+        lines_are = grown;
+        batch_is = more ∙ ap (λ l. batch ++ recovered l) none;
+        text_is = said;
+      }
 
--- the site answered a line: it is a turn
-pub turned : EntriesAreLines → (old new : SeenSite) (number : ℕ) (line words entries text text_after : List ℕ)
-    (batch batch_after : List (List ℕ)) → IsConfigured old.settings → is_long line ≡ false → IsLineAnswer old new line words entries
-    → text_after ≡ text ++ words → batch_after ≡ batch ++ recovered entries
-    → IsTurn SiteAnswers old new (journal_of old) (journal_of new) batch batch_after number line text text_after
-turned are old new number line words entries text text_after batch batch_after ok short (inl a) said more =
-    event_turned are old new number line words entries text text_after batch batch_after ok short a said more
-turned are old new number line words entries text text_after batch batch_after ok short (inr a) said more =
-    question_turned old new number line words entries text text_after batch batch_after ok short a said more
+  -- the site answered a line: it is a turn
+  pub turned : EntriesAreLines → ReadEventsFit → IsLineAnswer all old new line words entries
+      → IsTurn (SiteAnswers all) old new (journal_of old) (journal_of new) batch batch_after number line text text_after
+  turned are fit (inl a) = event_turned are fit a
+  turned are fit (inr (inl a)) =
+      same_turned a.after a.entries_are (λ none. inr (inl (subst (IsKnownAnswer old new line words) none a)))
+  turned are fit (inr (inr a)) =
+      same_turned a.after a.entries_are (λ none. inr (inr (subst (IsQuestionAnswer old new line words) none a)))
 
 -- the site answered that a line is bad, for this reason: it is a turn that changes nothing
-not_taken : (old new : SeenSite) (number : ℕ) (why line text text_after : List ℕ) (batch batch_after : List (List ℕ)) → IsConfigured old.settings
-    → (IsBadAnswer why old new number [] (line_of (bad_json why number)) → IsAnswer (is_long line) old number line [] (line_of (bad_json why number)) new)
+not_taken : (all : Bool) (old new : SeenAsked) (number : ℕ) (why line text text_after : List ℕ) (batch batch_after : List (List ℕ)) → IsConfigured old.settings
+    → (IsBadAnswer why old new number [] (line_of (bad_json why number)) → IsAnswer all (is_long line) old number line [] (line_of (bad_json why number)) new)
     → new ≡ old → text_after ≡ text ++ line_of (bad_json why number) → batch_after ≡ batch
-    → IsTurn SiteAnswers old new (journal_of old) (journal_of new) batch batch_after number line text text_after
-not_taken old new number why line text text_after batch batch_after ok is same said kept =
+    → IsTurn (SiteAnswers all) old new (journal_of old) (journal_of new) batch batch_after number line text text_after
+not_taken all old new number why line text text_after batch batch_after ok is same said kept =
     let grown : journal_of new ≡ journal_of old ++ [] = ap journal_of same ∙ sym (append-nil (journal_of old)) in
     record {
       added = [];
@@ -135,19 +153,20 @@ not_taken old new number why line text text_after batch batch_after ok is same s
     }
 
 -- the line is no event and no question
-pub bad_line : (old new : SeenSite) (number : ℕ) (line text text_after : List ℕ) (batch batch_after : List (List ℕ)) → IsConfigured old.settings
-    → is_long line ≡ false → event_on old.settings line ≡ None → question_on line ≡ None → new ≡ old
+pub bad_line : (all : Bool) (old new : SeenAsked) (number : ℕ) (line text text_after : List ℕ) (batch batch_after : List (List ℕ)) → IsConfigured old.settings
+    → is_long line ≡ false → asked_event_on old.settings line ≡ None → question_on line ≡ None → new ≡ old
     → text_after ≡ text ++ line_of (bad_json (codes "line") number) → batch_after ≡ batch
-    → IsTurn SiteAnswers old new (journal_of old) (journal_of new) batch batch_after number line text text_after
-bad_line old new number line text text_after batch batch_after ok short none unasked same said kept =
-    not_taken old new number (codes "line") line text text_after batch batch_after ok
-    (λ bad. subst (λ b. IsAnswer b old number line [] (line_of (bad_json (codes "line") number)) new) (sym short) (inr (none, unasked, bad)))
+    → IsTurn (SiteAnswers all) old new (journal_of old) (journal_of new) batch batch_after number line text text_after
+bad_line all old new number line text text_after batch batch_after ok short none unasked same said kept =
+    not_taken all old new number (codes "line") line text text_after batch batch_after ok
+    (λ bad. subst (λ b. IsAnswer all b old number line [] (line_of (bad_json (codes "line") number)) new) (sym short) (inr (none, unasked, bad)))
     same said kept
 
 -- the line is too long
-pub long_line : (old new : SeenSite) (number : ℕ) (line text text_after : List ℕ) (batch : List (List ℕ)) → IsConfigured old.settings
+pub long_line : (all : Bool) (old new : SeenAsked) (number : ℕ) (line text text_after : List ℕ) (batch : List (List ℕ))
+    → IsConfigured old.settings
     → is_long line ≡ true → new ≡ old → text_after ≡ text ++ line_of (bad_json (codes "long") number)
-    → IsTurn SiteAnswers old new (journal_of old) (journal_of new) batch batch number line text text_after
-long_line old new number line text text_after batch ok long same said =
-    not_taken old new number (codes "long") line text text_after batch batch ok
-    (λ bad. subst (λ b. IsAnswer b old number line [] (line_of (bad_json (codes "long") number)) new) (sym long) bad) same said refl
+    → IsTurn (SiteAnswers all) old new (journal_of old) (journal_of new) batch batch number line text text_after
+long_line all old new number line text text_after batch ok long same said =
+    not_taken all old new number (codes "long") line text text_after batch batch ok
+    (λ bad. subst (λ b. IsAnswer all b old number line [] (line_of (bad_json (codes "long") number)) new) (sym long) bad) same said refl

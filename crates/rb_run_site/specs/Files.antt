@@ -14,7 +14,8 @@ BeginsClosed (b ∷ bytes) = (b ≡ 32) ⊎ (b ≡ 0)
 abbrev pub IsNew : List ℕ → List ℕ → Type 0
 IsNew file first = (recovered file ≡ []) × ((file ≡ []) ⊎ (BeginsClosed file × (length file ≤ length first + 1)))
 
--- a crash may have left the file of a journal that begins with this line: it is new, or has whole lines and isn't damaged
+-- a crash may have left the file of a journal that begins with this line: it is new, or has whole lines and isn't
+-- damaged
 abbrev pub IsUndamaged : List ℕ → List ℕ → Type 0
 IsUndamaged file first = IsNew file first ⊎ ((recovered file ≢ []) × IsIntact file)
 

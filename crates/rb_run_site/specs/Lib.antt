@@ -1,3 +1,4 @@
+pub mod Asking
 pub mod Ends
 pub mod Faults
 pub mod Files

@@ -4,8 +4,9 @@ use Rattle.rb_money.specs.Settings.{Settings}
 use Rattle.rb_history.specs.Configurations.{config_on}
 use Rattle.rb_journal.specs.Lines.{IsDamaged, recovered}
 use Rattle.rb_lines.specs.Lines.{lines_of}
-use Rattle.rb_site.specs.declared.entry.Entry.{Entry}
-use Rattle.rb_site.specs.Seen.{IsReplayed, SeenSite, first_seen}
+use Rattle.rb_site.specs.Seen.{IsReplayed}
+use Rattle.rb_history.specs.Ids.{AskedEntry}
+use Rattle.rb_node.specs.Asked.{AreIdsOnce, SeenAsked, first_asked, without_ids}
 use Rattle.rb_node.specs.Replays.{IsReadWhole}
 use Rattle.rb_node.specs.Resends.{sent_again}
 use Rattle.rb_run_site.specs.Journals.{journal_head, journal_of, lines_of_entries}
@@ -18,19 +19,20 @@ use Rattle.rb_run_site.specs.declared.fault.SiteFault.TheVariants.{Damaged, Long
 use Rattle.rb_run_site.specs.Starts.{IsJournalOf, IsOf}
 
 -- the line that a journal is still to begin with: the configuration's, if it has no line
-abbrev pub IsToBegin : List (List ℕ) → SeenSite → List ℕ → Type 0
+abbrev pub IsToBegin : List (List ℕ) → SeenAsked → List ℕ → Type 0
 IsToBegin lines x first = ((lines ≡ []) × (first ≡ journal_head x.settings)) ⊎ ((lines ≡ journal_of x) × (first ≡ []))
 
 -- the site went on by the file's entries, if it has any
-pub record OpensFile (old new : SeenSite) (file first sends : List ℕ) (most : ℕ) : Type 0 where
+pub record OpensFile (old new : SeenAsked) (file first sends : List ℕ) (most : ℕ) : Type 0 where
   pub settings : new.settings ≡ old.settings
   pub me : new.me ≡ old.me
-  pub replayed : IsReplayed old → IsReplayed new
+  pub replayed : IsReplayed (without_ids old) → IsReplayed (without_ids new)
   pub read : IsReadWhole old → IsReadWhole new
+  pub once : AreIdsOnce old.asked → AreIdsOnce new.asked
   pub journal : IsJournalOf (recovered file) new
   pub begins : IsToBegin (recovered file) new first
   pub undamaged : IsUndamaged file (journal_head new.settings)
-  pub sends_are : sends ≡ sent_again most new
+  pub sends_are : sends ≡ sent_again most (without_ids new)
 
 -- why a site of a line isn't opened: the line, of this number, is no configuration; or it has no such site
 abbrev pub EndsNode : List ℕ → ℕ → ℕ → SiteFault → Type 0
@@ -39,11 +41,11 @@ EndsNode line number me NoSite = (s : Settings) × (config_on line ≡ Some s) �
 EndsNode line number me OutOfMemory = Unit {0}
 EndsNode line number me _ = ⊥
 
--- the file's whole lines are all replayed, and behind them, at the place of the line of this number or of the gate, is a
--- byte that no crash leaves there
-pub record IsDamagedBehind (old : SeenSite) (file : List ℕ) (number : ℕ) : Type 0 where
-  pub entries : List Entry
-  pub new : SeenSite
+-- the file's whole lines are all replayed, and behind them, at the place of the line of this number or of the gate, is
+-- a byte that no crash leaves there
+pub record IsDamagedBehind (old : SeenAsked) (file : List ℕ) (number : ℕ) : Type 0 where
+  pub entries : List AskedEntry
+  pub new : SeenAsked
   pub goes_on : GoesOnBy old new entries
   pub lines_are : recovered file ≡ journal_head old.settings ∷ lines_of_entries old.settings old.me entries
   pub damaged : IsDamaged file
@@ -51,7 +53,7 @@ pub record IsDamagedBehind (old : SeenSite) (file : List ℕ) (number : ℕ) : T
 
 -- why a file isn't replayed: it is another's; a line of its entries isn't the site's next; or it is damaged, at its
 -- beginning or behind its whole lines
-abbrev pub EndsFile : SeenSite → List ℕ → SiteFault → Type 0
+abbrev pub EndsFile : SeenAsked → List ℕ → SiteFault → Type 0
 EndsFile old file AnotherJournal = IsAnother file (journal_head old.settings)
 EndsFile old file (Damaged n) = ((n ≡ 1) × IsNoBeginning file (journal_head old.settings)) ⊎ IsDamagedBehind old file n
 EndsFile old file (BadEntry n) = (entries : List ℕ) × BeginsWith file (journal_head old.settings) entries
@@ -64,7 +66,7 @@ EndsFile old file _ = ⊥
 -- the site of the configuration on the line isn't opened over the file, for this fault
 abbrev pub EndsOpening : ℕ → List ℕ → SiteFault → ℕ → List ℕ → Type 0
 EndsOpening me file fault number line =
-    (s : Settings) × (config_on line ≡ Some s) × (me < s.sites) × EndsFile (first_seen s me) file fault
+    (s : Settings) × (config_on line ≡ Some s) × (me < s.sites) × EndsFile (first_asked s me) file fault
 
 -- of the input's first line that isn't blank, and of its number, this holds
 pub record HasFirstLine (input : Option (List ℕ)) (P : ℕ → List ℕ → Type 0) : Type 0 where
@@ -90,11 +92,13 @@ IsOpeningCause me input left file Read = IfSome input (HasReadBlanks left)
 IsOpeningCause me input left file _ = Unit {0}
 
 -- the site of the configuration on a line went on by the file's entries
-pub record OpensSite (config : List ℕ) (me most : ℕ) (file : List ℕ) (x : SeenSite) (first sends : List ℕ) : Type 0 where
+pub record OpensSite (config : List ℕ) (me most : ℕ) (file : List ℕ) (x : SeenAsked)
+    (first sends : List ℕ) : Type 0 where
   pub is_of : IsOf config me x
-  pub replayed : IsReplayed x
+  pub replayed : IsReplayed (without_ids x)
   pub read : IsReadWhole x
+  pub once : AreIdsOnce x.asked
   pub journal : IsJournalOf (recovered file) x
   pub begins : IsToBegin (recovered file) x first
   pub undamaged : IsUndamaged file (journal_head x.settings)
-  pub sends_are : sends ≡ sent_again most x
+  pub sends_are : sends ≡ sent_again most (without_ids x)

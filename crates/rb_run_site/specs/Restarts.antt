@@ -1,10 +1,10 @@
 -- Runs of a site, each over the file that a crash of the one before left.
-use Rattle.std.specs.Prelude.{◌≡◌, ℕ, List, ◌++◌, Option, Some}
+use Rattle.std.specs.Prelude.{◌≡◌, ℕ, Bool, List, ◌++◌, Option, Some}
 use Rattle.rb_history.specs.Configurations.{config_on}
 use Rattle.rb_journal.specs.Lines.{recovered}
 use Rattle.rb_journal.specs.Turns.{AreTurns, Turn, state_after}
-use Rattle.rb_site.specs.Seen.{SeenSite}
-use Rattle.rb_run_site.specs.Journals.{SiteAnswers}
+use Rattle.rb_node.specs.Asked.{SeenAsked}
+use Rattle.rb_run_site.specs.Journals.{AnswersEither}
 use Rattle.rb_run_site.specs.Openings.{EndsOpening}
 use Rattle.rb_run_site.specs.Runs.{HasBegun, HasRun}
 use Rattle.rb_run_site.specs.Starts.{Starts}
@@ -13,29 +13,30 @@ use Rattle.rb_run_site.specs.declared.fault.SiteFault.{SiteFault}
 use Rattle.rb_run_site.specs.declared.fault.SiteFault.TheVariants.{AnotherJournal, BadEntry, Damaged, WrongReply}
 
 -- site `me` ran and crashed, any number of times: the first run started with this site, these are the turns of all runs
--- whose entries the file has that the last crash left. A run that changed nothing left the file that it found
-pub data HasRestarted (me : ℕ) : SeenSite → List (Turn SeenSite) → List ℕ → Type 0 where
+-- whose entries the file has that the last crash left. A run that changed nothing left the file that it found. Each run
+-- chose by itself whether it records all events or those that change the site
+pub data HasRestarted (me : ℕ) : SeenAsked → List (Turn SeenAsked) → List ℕ → Type 0 where
   -- one run
-  Once : {most : ℕ} {input : Option (List ℕ)} {lines : List (List ℕ)} {output c d : List ℕ}
-      → (run : HasRun me most input lines output c d) → HasRestarted me run.start run.answered.turns c
+  Once : {all : Bool} {most : ℕ} {input : Option (List ℕ)} {lines : List (List ℕ)} {output c d : List ℕ}
+      → (run : HasRun all me most input lines output c d) → HasRestarted me run.start run.answered.turns c
   -- one run more, over the file that the crash before it left
-  Again : {start : SeenSite} {turns : List (Turn SeenSite)} {file : List ℕ} {most : ℕ} {input : Option (List ℕ)}
-      {output c d : List ℕ} → HasRestarted me start turns file
-      → (run : HasRun me most input (recovered file) output c d)
+  Again : {all : Bool} {start : SeenAsked} {turns : List (Turn SeenAsked)} {file : List ℕ} {most : ℕ}
+      {input : Option (List ℕ)} {output c d : List ℕ} → HasRestarted me start turns file
+      → (run : HasRun all me most input (recovered file) output c d)
       → HasRestarted me start (turns ++ run.answered.turns) c
 
 -- the next run, over the file that the last crash left, starts with the very site that all these turns led to: of the
 -- same configuration, and with the same entries
 abbrev pub RestartsGoOn : Type 0
-RestartsGoOn = (me : ℕ) (start : SeenSite) (turns : List (Turn SeenSite)) (file : List ℕ)
-    → HasRestarted me start turns file → (input : Option (List ℕ)) (x : SeenSite) → Starts me input (recovered file) x
+RestartsGoOn = (me : ℕ) (start : SeenAsked) (turns : List (Turn SeenAsked)) (file : List ℕ)
+    → HasRestarted me start turns file → (input : Option (List ℕ)) (x : SeenAsked) → Starts me input (recovered file) x
     → x ≡ state_after start turns
 
 -- the turns of all runs are those of one site from its start on, each in the state that the one before it left, as if
 -- nothing had crashed; and they are steps of one site with a disk, of whose events the file is the journal
 abbrev pub RestartedRunsAreOne : Type 0
-RestartedRunsAreOne = (me : ℕ) (start : SeenSite) (turns : List (Turn SeenSite)) (file : List ℕ)
-    → HasRestarted me start turns file → AreTurns SiteAnswers start turns × AreSteps start turns file
+RestartedRunsAreOne = (me : ℕ) (start : SeenAsked) (turns : List (Turn SeenAsked)) (file : List ℕ)
+    → HasRestarted me start turns file → AreTurns AnswersEither start turns × AreSteps start turns file
 
 -- the fault is one of the file's lines
 abbrev pub IsFileFault : SiteFault → Type 0
@@ -47,7 +48,7 @@ IsFileFault _ = ⊥
 
 -- the file that the last crash left is never at fault for a run of the same number with this configuration
 abbrev pub RestartsAreTaken : Type 0
-RestartsAreTaken = (me : ℕ) (start : SeenSite) (turns : List (Turn SeenSite)) (file : List ℕ)
+RestartsAreTaken = (me : ℕ) (start : SeenAsked) (turns : List (Turn SeenAsked)) (file : List ℕ)
     → HasRestarted me start turns file → (config : List ℕ) (number : ℕ) (fault : SiteFault)
     → config_on config ≡ Some start.settings → IsFileFault fault → ¬ EndsOpening me file fault number config
 

@@ -1,11 +1,11 @@
 -- What a run of a site may leave at any moment.
-use Rattle.std.specs.Prelude.{◌≡◌, ◌⊎◌, ℕ, List, [], ◌++◌, Option, Some, IfSome}
+use Rattle.std.specs.Prelude.{◌≡◌, ◌⊎◌, ℕ, Bool, List, [], ◌++◌, Option, Some, IfSome}
 use Rattle.rb_lines.specs.Lines.{lines_of}
 use Rattle.rb_journal.specs.Host.{AddsPrefix}
 use Rattle.rb_journal.specs.Lines.{IsIntact, recovered}
-use Rattle.rb_site.specs.Seen.{SeenSite}
 use Rattle.rb_journal.specs.Run.{AreFirst}
 use Rattle.rb_journal.specs.Turns.{AreTurns, Turn, lines_added, texts}
+use Rattle.rb_node.specs.Asked.{SeenAsked, without_ids}
 use Rattle.rb_node.specs.Resends.{sent_again}
 use Rattle.rb_run_site.specs.Files.{IsNew}
 use Rattle.rb_run_site.specs.Journals.{SiteAnswers, journal_head, journal_of}
@@ -16,40 +16,45 @@ abbrev pub AreBytesBehind : ℕ → Option (List ℕ) → List ℕ → Type 0
 AreBytesBehind number behind input = (bytes : List ℕ) × (behind ≡ Some bytes)
     × (config : List ℕ) × IsBehind config number (lines_of bytes) input
 
--- the file is the journal of a site with the entries of some turns, which answer the first lines of these bytes, in
--- order, and skip none that has an answer; the first has this number. A prefix of what is sent again, and then of the
--- texts of these turns, was put out; and the file isn't damaged
-pub record HasAnswered (x : SeenSite) (sends : List ℕ) (number : ℕ) (bytes : Option (List ℕ)) (output c d : List ℕ) : Type 0 where
-  pub turns : List (Turn SeenSite)
-  pub are : AreTurns SiteAnswers x turns
+-- the file is the journal of a site with the entries of some turns, in which all events are recorded or those that
+-- change the site. They answer the first lines of these bytes, in order, and skip none that has an answer; the first
+-- has this number. A prefix of what is sent again, and then of the texts of these turns, was put out; and the file
+-- isn't damaged
+pub record HasAnswered (all : Bool) (x : SeenAsked) (sends : List ℕ) (number : ℕ) (bytes : Option (List ℕ))
+    (output c d : List ℕ) :
+    Type 0 where
+  pub turns : List (Turn SeenAsked)
+  pub are : AreTurns (SiteAnswers all) x turns
   pub in_order : IfSome bytes (AreFirst number turns)
   pub lines_are : recovered c ≡ journal_of x ++ lines_added turns
   pub intact : IsIntact c
   pub output_is : AddsPrefix output (sends ++ texts turns) d
 
 -- a journal had no lines and is still a new one of the site, and nothing was put out
-pub record IsStillNew (lines : List (List ℕ)) (x : SeenSite) (output c d : List ℕ) : Type 0 where
+pub record IsStillNew (lines : List (List ℕ)) (x : SeenAsked) (output c d : List ℕ) : Type 0 where
   pub none : lines ≡ []
   pub is_new : IsNew c (journal_head x.settings)
   pub silent : d ≡ output
 
 -- a journal that had these lines is still new; or a site has answered
-abbrev pub IsNewOrAnswered : List (List ℕ) → SeenSite → List ℕ → ℕ → Option (List ℕ) → List ℕ → List ℕ → List ℕ → Type 0
-IsNewOrAnswered lines x sends number bytes output c d =
-    IsStillNew lines x output c d ⊎ HasAnswered x sends number bytes output c d
+abbrev pub IsNewOrAnswered : Bool → List (List ℕ) → SeenAsked → List ℕ → ℕ → Option (List ℕ) → List ℕ → List ℕ → List ℕ
+    → Type 0
+IsNewOrAnswered all lines x sends number bytes output c d =
+    IsStillNew lines x output c d ⊎ HasAnswered all x sends number bytes output c d
 
 -- the site that the input's first line and the journal's lines say has answered some of the lines behind
-pub record HasRun (me most : ℕ) (input : Option (List ℕ)) (lines : List (List ℕ)) (output c d : List ℕ) : Type 0 where
-  pub start : SeenSite
+pub record HasRun (all : Bool) (me most : ℕ) (input : Option (List ℕ)) (lines : List (List ℕ))
+    (output c d : List ℕ) : Type 0 where
+  pub start : SeenAsked
   pub starts : Starts me input lines start
   pub number : ℕ
   pub behind : Option (List ℕ)
   pub behind_is : IfSome input (AreBytesBehind number behind)
-  pub answered : HasAnswered start (sent_again most start) number behind output c d
+  pub answered : HasAnswered all start (sent_again most (without_ids start)) number behind output c d
 
 -- the journal of the site that the input's first line says had no lines, and is still a new one
 pub record HasBegun (me : ℕ) (input : Option (List ℕ)) (lines : List (List ℕ)) (output c d : List ℕ) : Type 0 where
-  pub start : SeenSite
+  pub start : SeenAsked
   pub starts : Starts me input lines start
   pub still_new : IsStillNew lines start output c d
 
@@ -59,6 +64,6 @@ HasNotRun me input file output c d = ((c ≡ file) × (d ≡ output)) ⊎ HasBeg
 
 -- at any moment nothing has changed yet, or the journal is still new, or the site has answered some lines: whatever was
 -- put out of their answers, their entries are in the file
-abbrev pub IsSiteRun : ℕ → ℕ → Option (List ℕ) → List ℕ → List ℕ → List ℕ → List ℕ → Type 0
-IsSiteRun me most input file output c d =
-    HasNotRun me input file output c d ⊎ HasRun me most input (recovered file) output c d
+abbrev pub IsSiteRun : Bool → ℕ → ℕ → Option (List ℕ) → List ℕ → List ℕ → List ℕ → List ℕ → Type 0
+IsSiteRun all me most input file output c d =
+    HasNotRun me input file output c d ⊎ HasRun all me most input (recovered file) output c d

@@ -1,21 +1,22 @@
 -- The site that a run starts with.
 use Rattle.std.specs.Prelude.{◌≡◌, ◌⊎◌, ℕ, ◌+◌, ◌<◌, List, [], ◌∷◌, ◌++◌, length, Option, Some, IfSome}
-use Rattle.rb_site.specs.Seen.{IsReplayed, SeenSite, first_seen}
+use Rattle.rb_site.specs.Seen.{IsReplayed}
 use Rattle.rb_history.specs.Configurations.{config_on}
 use Rattle.rb_lines.specs.Lines.{lines_of}
+use Rattle.rb_node.specs.Asked.{AreIdsOnce, SeenAsked, first_asked, without_ids}
 use Rattle.rb_node.specs.Replays.{IsReadWhole}
 use Rattle.rb_run_site.specs.FirstLines.{not_blank}
 use Rattle.rb_run_site.specs.Journals.{journal_of}
 
 -- the site is of the configuration on this line, and of this number
-pub record IsOf (config : List ℕ) (me : ℕ) (x : SeenSite) : Type 0 where
+pub record IsOf (config : List ℕ) (me : ℕ) (x : SeenAsked) : Type 0 where
   pub configured : config_on config ≡ Some x.settings
   pub me_is : x.me ≡ me
   pub within : me < x.settings.sites
 
 -- a journal without lines is of a site before any event; else the lines are the site's journal
-abbrev pub IsJournalOf : List (List ℕ) → SeenSite → Type 0
-IsJournalOf lines x = ((lines ≡ []) × (x ≡ first_seen x.settings x.me)) ⊎ (lines ≡ journal_of x)
+abbrev pub IsJournalOf : List (List ℕ) → SeenAsked → Type 0
+IsJournalOf lines x = ((lines ≡ []) × (x ≡ first_asked x.settings x.me)) ⊎ (lines ≡ journal_of x)
 
 -- the input's first line that isn't blank is the configuration's, and these lines are behind it, of which the first has
 -- this number
@@ -32,11 +33,12 @@ pub record WaitsBehind (config : List ℕ) (number : ℕ) (pending : List ℕ) (
   pub behind : IsBehind config number (lines_of (pending ++ rest)) input
 
 -- a run starts with this site: the one that the input's first line and the journal's lines say; its history replays,
--- and the line of each of its entries is read as that entry
-pub record Starts (me : ℕ) (input : Option (List ℕ)) (lines : List (List ℕ)) (x : SeenSite) : Type 0 where
+-- the line of each of its entries is read as that entry, and no two entries have one id
+pub record Starts (me : ℕ) (input : Option (List ℕ)) (lines : List (List ℕ)) (x : SeenAsked) : Type 0 where
   pub config : List ℕ
   pub is_of : IsOf config me x
   pub first : IfSome input (λ all. (number : ℕ) × (later : List (List ℕ)) × IsBehind config number later all)
   pub journal : IsJournalOf lines x
-  pub replayed : IsReplayed x
+  pub replayed : IsReplayed (without_ids x)
   pub read : IsReadWhole x
+  pub once : AreIdsOnce x.asked

@@ -8,13 +8,16 @@ mod entries;
 mod fault;
 mod first_line;
 mod opening;
+mod records;
 mod replay;
 mod responder;
 mod run;
 
+ghost use Rattle.rb_run_site.specs.Asking.{AskedOnce, AskingIsServing, SameAnswer};
 ghost use Rattle.rb_run_site.specs.Restarts.{NewJournalsAreTaken, RestartedRunsAreOne, RestartsAreTaken, RestartsGoOn};
 
 pub use fault::{SiteFault, site_message, site_status};
+pub use records::{AllEvents, Changes, Records};
 pub use responder::SiteResponder;
 pub use run::{Ran, run_site};
 
@@ -31,4 +34,20 @@ pub fn restart_goes_on()
     rb_history::read_configs_are_configured();
     rb_history::configs_are_read();
     rb_node::replays_back();
+    rb_node::asked_once();
+}
+
+/// However often a site ran and crashed, no two entries of its journal have one id: a request that is asked again and
+/// again with its id is made at most once. A line whose id an entry has is answered by the entry's reply with its
+/// messages, once more, or, if it is another request, by refusal 25, and nothing is recorded. And but for such lines a
+/// site that is asked with ids answers as one that is asked without them, and has the same entries.
+pub fn asked_again()
+    ensures once { AskedOnce }
+    ensures same { SameAnswer }
+    ensures serving { AskingIsServing }
+{
+    rb_history::read_configs_are_configured();
+    rb_history::configs_are_read();
+    rb_node::replays_back();
+    rb_node::asked_once();
 }

@@ -5,7 +5,7 @@ ghost use Rattle.std.specs.Prelude.{IfSome};
 ghost use Rattle.std.specs.Prelude.{MatchResult};
 ghost use Rattle.std.specs.Io.KnownBytes.{IsAtEnd};
 ghost use Rattle.rb_journal.specs.Lines.{recovered};
-ghost use Rattle.rb_site.specs.Seen.{first_seen};
+ghost use Rattle.rb_node.specs.Asked.{first_asked};
 ghost use Rattle.rb_history.specs.Configurations.{config_on};
 ghost use Rattle.rb_lines.specs.Buffers.{Counts};
 ghost use Rattle.rb_lines.specs.declared.limits.TheConstants.{MOST_READS};
@@ -18,6 +18,7 @@ ghost use Rattle.rb_run_site.specs.declared.fault.SiteFault.TheVariants.{Read as
 use crate::entries::entries_in;
 use crate::fault::SiteFault;
 use crate::first_line::first_line;
+use crate::records::Records;
 use crate::replay::{count_lines, replay_all};
 use crate::responder::SiteResponder;
 use rb_history::lines_are_single;
@@ -27,15 +28,15 @@ use rb_node::{Node, NodeFault};
 use std::alloc::Global;
 
 /// A site before its first event line.
-pub struct Opened {
-    pub responder: SiteResponder,
+pub struct Opened<M: Records> {
+    pub responder: SiteResponder<M>,
     /// The configuration's line with its line feed, if the journal doesn't have it yet; else nothing.
     pub first: Vec<u8>,
     /// The lines of what is sent again.
     pub sends: Vec<u8>,
 }
 
-impl Opened {
+impl<M: Records> Opened<M> {
     /// Closes the site.
     pub fn close(self) {
         let Opened {
@@ -50,7 +51,7 @@ impl Opened {
 /// The site of the configuration on a line, before any event.
 fn open_node(alloc: Global, line: &[u8], number: u64, me: u8) -> Result<Node, SiteFault>
     ensures { MatchResult result
-        (λ node. IsOf line.now me node.site × (node.site ≡ first_seen node.site.settings me))
+        (λ node. IsOf line.now me node.site × (node.site ≡ first_asked node.site.settings me))
         (EndsNode line.now number me) }
 {
     match Node::open(alloc, line, me) {
@@ -69,7 +70,7 @@ fn replay_file(
     resend: usize,
     sends: &mut Vec<u8>,
 ) -> Result<Vec<u8>, SiteFault>
-    requires first { node.old.site ≡ first_seen node.old.site.settings node.old.site.me }
+    requires first { node.old.site ≡ first_asked node.old.site.settings node.old.site.me }
     requires none { sends.old.items ≡ [] }
     ensures { MatchResult result
         (λ first. OpensFile node.old.site node.new.site bytes.now first.items sends.new.items resend)
@@ -96,14 +97,14 @@ fn replay_file(
 /// Reads the configuration, and opens site `me` of it with the history that the file has.
 ///
 /// The number of the line behind the configuration's comes with it.
-pub fn open_site<S: Source>(
+pub fn open_site<S: Source, M: Records>(
     alloc: Global,
     buffers: &mut Buffers,
     reader: &mut S,
     bytes: &[u8],
     me: u8,
     resend: usize,
-) -> Result<(Opened, u64), SiteFault>
+) -> Result<(Opened<M>, u64), SiteFault>
     requires unread { S.calls reader.old ≡ 0 }
     requires pending { buffers.old.pending ≡ [] }
     requires buffered { buffers.old.buffered.items ≡ [] }

@@ -2,46 +2,54 @@
 ghost use Rattle.std.specs.Prelude.{◌≡◌};
 
 use crate::bad_line::{append_bad_line, append_long_line};
-use rb_history::lines_are_single;
+use crate::records::Records;
+use rb_history::{lines_are_single, read_events_fit};
 use rb_journal::{JournaledResponder, LineBatch};
 use rb_node::{Node, NodeFault};
 use std::alloc::{AllocError, Global};
+use std::marker::PhantomData;
 
-/// A site whose history is in a journal.
-pub struct SiteResponder {
+/// A site whose history is in a journal, with the choice of the events that it records.
+pub struct SiteResponder<M: Records> {
     pub node: Node,
     entries: Vec<u8>,
+    records: PhantomData<M>,
 }
 
-impl SiteResponder {
+impl<M: Records> SiteResponder<M> {
     /// The site, as the responder of its journal. This takes no memory.
-    pub fn new(alloc: Global, node: Node) -> SiteResponder
+    pub fn new(alloc: Global, node: Node) -> SiteResponder<M>
         ensures { result.node ≡ node }
     {
         SiteResponder {
             node,
             entries: Vec::new(alloc),
+            records: PhantomData,
         }
     }
 
     /// Closes the site.
     pub fn close(self) {
-        let SiteResponder { node, entries: _ } = self;
+        let SiteResponder {
+            node,
+            entries: _,
+            records: _,
+        } = self;
         node.close();
     }
 }
 
-impl JournaledResponder for SiteResponder {
-    ghost use Rattle.rb_site.specs.Seen.{SeenSite};
+impl<M: Records> JournaledResponder for SiteResponder<M> {
+    ghost use Rattle.rb_node.specs.Asked.{SeenAsked};
     ghost use Rattle.rb_run_site.specs.Journals.{SiteAnswers, journal_of};
 
-    ghost State = { SeenSite };
+    ghost State = { SeenAsked };
 
     ghost state = { λ m. m.node.site };
 
     ghost lines = { journal_of };
 
-    ghost answers = { SiteAnswers };
+    ghost answers = { SiteAnswers M.ALL };
 
     fn answer_line(
         &mut self,
@@ -50,13 +58,14 @@ impl JournaledResponder for SiteResponder {
         batch: &mut LineBatch,
         text: &mut Vec<u8>,
     ) -> Result<(), AllocError> {
-        // For a fact alone: lines of entries are lines.
+        // For a fact alone: lines of entries are lines if the id that was read is one.
         lines_are_single();
+        read_events_fit();
         // For a fact alone: the settings are those of a configuration.
         let _sites = self.node.config().sites();
         let before = text.len();
         self.entries.clear();
-        match self.node.answer(line, text, &mut self.entries) {
+        match self.node.answer(line, M::ALL, text, &mut self.entries) {
             Ok(()) => {}
             Err(NodeFault::BadLine) => return append_bad_line(text, number),
             Err(_) => return Err(AllocError),

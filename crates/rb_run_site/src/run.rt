@@ -22,6 +22,7 @@ ghost use Rattle.rb_run_site.specs.declared.fault.SiteFault.TheVariants.{Write a
 
 use crate::fault::SiteFault;
 use crate::opening::{Opened, open_site};
+use crate::records::Records;
 use rb_history::lines_are_single;
 use rb_journal::{Host, Journal, ServeFault, serve};
 use rb_lines::{Buffers, Source};
@@ -35,9 +36,9 @@ pub struct Ran<H: Host> {
 
 /// Adds the configuration's line to a journal that doesn't have it yet, puts out what is sent again, and answers the
 /// lines.
-fn go_on<S: Source, H: Host>(
+fn go_on<S: Source, H: Host, M: Records>(
     alloc: Global,
-    opened: &mut Opened,
+    opened: &mut Opened<M>,
     number: u64,
     journal: &mut Journal<H>,
     buffers: &mut Buffers,
@@ -52,16 +53,17 @@ fn go_on<S: Source, H: Host>(
     requires buffered { buffers.old.buffered.items ≡ [] }
     requires number { number + length buffers.old.pending < 2 ^ 63 }
     ensures settled { EndsAtRest result → IsSettled H.is_usable H.content H.may_leave journal.new }
-    ensures text { EndsAtRest result → AnswersAll opened.old.responder.node.site opened.old.sends.items number
+    ensures text { EndsAtRest result → AnswersAll M.ALL opened.old.responder.node.site opened.old.sends.items number
         (served_input buffers.old.pending (S.remaining reader.old)) (S.remaining reader.new)
         (H.output journal.old.host) (recovered (H.content journal.new.host)) (H.output journal.new.host) result }
     ensures any_moment { LeavesOnly H.moment H.left_since journal.old.host journal.new.host
-        (IsNewOrAnswered (recovered (H.content journal.old.host)) opened.old.responder.node.site opened.old.sends.items
-        number (served_input buffers.old.pending (S.remaining reader.old)) (H.output journal.old.host)) }
+        (IsNewOrAnswered M.ALL (recovered (H.content journal.old.host)) opened.old.responder.node.site
+        opened.old.sends.items number (served_input buffers.old.pending (S.remaining reader.old))
+        (H.output journal.old.host)) }
     ensures read { result ≡ Err ReadStopped → (S.failed reader.new ≡ true) ⊎ (S.calls reader.new ≡ MOST_READS) }
     ensures write { result ≡ Err WriteStopped → H.faults journal.old.host < H.faults journal.new.host }
     ensures journal { result ≡ Err JournalStopped → (H.faults journal.old.host < H.faults journal.new.host)
-        ⊎ IsFull SiteAnswers number (served_input buffers.old.pending (S.remaining reader.old))
+        ⊎ IsFull (SiteAnswers M.ALL) number (served_input buffers.old.pending (S.remaining reader.old))
         opened.old.responder.node.site (journal_of opened.old.responder.node.site) }
     ensures calls { S.calls reader.new ≤ MOST_READS }
 {
@@ -83,9 +85,9 @@ fn go_on<S: Source, H: Host>(
 }
 
 /// Runs an opened site over a file, whose bytes these are. They are given back before the first read of events.
-fn run_opened<S: Source, H: Host>(
+fn run_opened<S: Source, H: Host, M: Records>(
     alloc: Global,
-    mut opened: Opened,
+    mut opened: Opened<M>,
     number: u64,
     buffers: &mut Buffers,
     reader: &mut S,
@@ -103,18 +105,18 @@ fn run_opened<S: Source, H: Host>(
     requires buffered { buffers.old.buffered.items ≡ [] }
     requires number { number + length buffers.old.pending < 2 ^ 63 }
     ensures ended { RunsTo
-        (λ end. AnswersAll opened.responder.node.site opened.sends.items number
+        (λ end. AnswersAll M.ALL opened.responder.node.site opened.sends.items number
         (served_input buffers.old.pending (S.remaining reader.old)) (S.remaining reader.new) (H.output host)
         (recovered (H.content result.host)) (H.output result.host) end
         × IsAtRest (H.content result.host) (H.may_leave result.host))
         (λ _. ⊥) result.ended }
     ensures any_moment { LeavesOnly H.moment H.left_since host result.host
-        (IsNewOrAnswered (recovered bytes.items) opened.responder.node.site opened.sends.items number
+        (IsNewOrAnswered M.ALL (recovered bytes.items) opened.responder.node.site opened.sends.items number
         (served_input buffers.old.pending (S.remaining reader.old)) (H.output host)) }
     ensures read { result.ended ≡ Err NotRead → (S.failed reader.new ≡ true) ⊎ (S.calls reader.new ≡ MOST_READS) }
     ensures write { result.ended ≡ Err NotWritten → H.faults host < H.faults result.host }
     ensures journal { result.ended ≡ Err DiskFailed → (H.faults host < H.faults result.host)
-        ⊎ IsFull SiteAnswers number (served_input buffers.old.pending (S.remaining reader.old))
+        ⊎ IsFull (SiteAnswers M.ALL) number (served_input buffers.old.pending (S.remaining reader.old))
         opened.responder.node.site (journal_of opened.responder.node.site) }
     ensures calls { S.calls reader.new ≤ MOST_READS }
 {
@@ -147,9 +149,10 @@ fn run_opened<S: Source, H: Host>(
 
 /// Runs site `me` (0 to 15) of the configuration that the reader's first line has, over the file of the host, whose
 /// bytes these are. What the last `resend` entries of its journal sent is put out again; then each line of the reader
-/// is an event, and is answered by a line. The bytes and what is put out again are given back before the first event is
-/// read, so a site that runs holds its history and what one read brings.
-pub fn run_site<S: Source, H: Host>(
+/// is an event, and is answered by a line. `M` says which events are recorded: all, or those that change the site. The
+/// bytes and what is put out again are given back before the first event is read, so a site that runs holds its history
+/// and what one read brings.
+pub fn run_site<S: Source, H: Host, M: Records>(
     alloc: Global,
     reader: &mut S,
     host: H,
@@ -167,7 +170,7 @@ pub fn run_site<S: Source, H: Host>(
     // and then the file is whole lines and a closed gate, all of it on the disk. Or the run stopped in the opening: the
     // host is as it was, and the fault comes only for its cause, by the input's first line and the file's lines.
     ensures ended { RunsTo
-        (λ end. AnswersBehind me resend (S.remaining reader.old) (S.remaining reader.new)
+        (λ end. AnswersBehind M.ALL me resend (S.remaining reader.old) (S.remaining reader.new)
         (recovered bytes.items) (H.output host) (recovered (H.content result.host)) (H.output result.host) end
         × IsAtRest (H.content result.host) (H.may_leave result.host))
         (λ fault. (result.host ≡ host)
@@ -177,22 +180,22 @@ pub fn run_site<S: Source, H: Host>(
     // A crash at any moment leaves a journal that some first lines of the input have, and nothing was put out that it
     // takes back. It is the file as it was, or one that isn't damaged.
     ensures any_moment { LeavesOnly H.moment H.left_since host result.host
-        (IsSiteRun me resend (S.remaining reader.old) bytes.items (H.output host)) }
+        (IsSiteRun M.ALL me resend (S.remaining reader.old) bytes.items (H.output host)) }
 
     // And that is a run of steps of a site with a disk, as the laws of worlds whose sites crash have them.
     ensures steps { LeavesOnly H.moment H.left_since host result.host
-        (IsRunOfSteps me resend (S.remaining reader.old) bytes.items (H.output host)) }
+        (IsRunOfSteps M.ALL me resend (S.remaining reader.old) bytes.items (H.output host)) }
 
     // A failed read, a failed write and a failed journal are reported only for their causes, and at most `MOST_READS`
     // are made.
     ensures read { result.ended ≡ Err NotRead → (S.failed reader.new ≡ true) ⊎ (S.calls reader.new ≡ MOST_READS) }
     ensures write { result.ended ≡ Err NotWritten → H.faults host < H.faults result.host }
     ensures journal { result.ended ≡ Err DiskFailed → (H.faults host < H.faults result.host)
-        ⊎ IsFullBehind me (S.remaining reader.old) (recovered bytes.items) }
+        ⊎ IsFullBehind M.ALL me (S.remaining reader.old) (recovered bytes.items) }
     ensures calls { S.calls reader.new ≤ MOST_READS }
 {
     let mut buffers = Buffers::new(alloc);
-    match open_site(alloc, &mut buffers, reader, &bytes, me, resend) {
+    match open_site::<S, M>(alloc, &mut buffers, reader, &bytes, me, resend) {
         Ok((opened, number)) => run_opened(
             alloc,
             opened,

@@ -6,6 +6,7 @@ returns-clause-site c = goes_on (record {
   configs = c.configs_are_read.ensures;
   configured = c.read_configs_are_configured.ensures;
   replays = c.replays_back.ensures;
+  ids = c.asked_once.ensures.once;
 })
 
 pub returns-clause-run : goal.returns-clause-run
@@ -13,6 +14,7 @@ returns-clause-run c = one_run (record {
   configs = c.configs_are_read.ensures;
   configured = c.read_configs_are_configured.ensures;
   replays = c.replays_back.ensures;
+  ids = c.asked_once.ensures.once;
 })
 
 pub returns-clause-taken : goal.returns-clause-taken
@@ -20,6 +22,7 @@ returns-clause-taken c = is_taken (record {
   configs = c.configs_are_read.ensures;
   configured = c.read_configs_are_configured.ensures;
   replays = c.replays_back.ensures;
+  ids = c.asked_once.ensures.once;
 })
 
 pub returns-clause-new : goal.returns-clause-new

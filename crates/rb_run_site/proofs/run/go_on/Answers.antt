@@ -38,10 +38,10 @@ returns-in_err-commit_and_put_out-clause-any_moment g c =
     let begin : IsToBegin lines x first = subst (λ f. IsToBegin lines x f) (sym c.deref.ensures.value) c.requires.begins in
     weaker host.moment host.left_since was mid
     (λ f d. IsDurable lines (recovered first) output c.deref-2.result.now f d × (IsAppended lines first f × IsIntact f))
-    (IsNewOrAnswered lines x sends c.args.number input output)
+    (IsNewOrAnswered g.M.Records.ALL lines x sends c.args.number input output)
     (both host.moment host.left_since was mid (IsDurable lines (recovered first) output c.deref-2.result.now)
     (λ f d. IsAppended lines first f × IsIntact f) c.commit_and_put_out.ensures.any_moment c.commit_and_put_out.ensures.appended)
-    (λ f d at. begun lines x first sends c.deref-2.result.now c.args.number input output f d is begin c.deref-2.ensures.value at.0 at.1.0 at.1.1)
+    (λ f d at. begun g.M.Records.ALL lines x first sends c.deref-2.result.now c.args.number input output f d is begin c.deref-2.ensures.value at.0 at.1.0 at.1.1)
 
 pub serve-requires-clause-same : goal.serve-requires-clause-same
 serve-requires-clause-same g c =
@@ -65,7 +65,7 @@ returns-clause-text g c = λ at_rest.
     let input = served_input c.args.buffers.now.pending (g.S.Source.remaining c.args.reader.now) in
     let is = begins c.lines_are_single.ensures.configs lines x first (subst IsConfigured c.config.ensures c.sites-sites.ensures.configured)
     c.requires.journal (subst (λ f. IsToBegin lines x f) (sym c.deref.ensures.value) c.requires.begins) in
-    all_answered x sends c.args.number input (g.S.Source.remaining new.reader) (host.output was)
+    all_answered g.M.Records.ALL x sends c.args.number input (g.S.Source.remaining new.reader) (host.output was)
     (recovered (host.content new.journal.host)) (host.output new.journal.host) (recovered (host.content mid)) (host.output mid)
     c.serve.result (sym (c.in_ok-commit_and_put_out.ensures.lines ∙ is.whole))
     (c.in_ok-commit_and_put_out.ensures.output ∙ ap (λ l. host.output was ++ l) c.deref-2.ensures.value)
@@ -88,15 +88,15 @@ returns-clause-any_moment g c =
     let begin : IsToBegin lines x first = subst (λ f. IsToBegin lines x f) (sym c.deref.ensures.value) c.requires.begins in
     let so_far = weaker host.moment host.left_since was mid
     (λ f d. IsDurable lines (recovered first) output c.deref-2.result.now f d × (IsAppended lines first f × IsIntact f))
-    (IsNewOrAnswered lines x sends c.args.number input output)
+    (IsNewOrAnswered g.M.Records.ALL lines x sends c.args.number input output)
     (both host.moment host.left_since was mid (IsDurable lines (recovered first) output c.deref-2.result.now)
     (λ f d. IsAppended lines first f × IsIntact f) c.commit_and_put_out.ensures.any_moment c.commit_and_put_out.ensures.appended)
-    (λ f d at. begun lines x first sends c.deref-2.result.now c.args.number input output f d is begin c.deref-2.ensures.value at.0 at.1.0 at.1.1) in
-    runs_on host.moment host.left_since was mid new.journal.host (IsNewOrAnswered lines x sends c.args.number input output)
-    (λ f d. IsRunOfTurns SiteAnswers c.args.number input x (recovered (host.content mid)) (host.output mid) f d × IsIntact f) so_far
-    (both host.moment host.left_since mid new.journal.host (IsRunOfTurns SiteAnswers c.args.number input x (recovered (host.content mid)) (host.output mid))
+    (λ f d at. begun g.M.Records.ALL lines x first sends c.deref-2.result.now c.args.number input output f d is begin c.deref-2.ensures.value at.0 at.1.0 at.1.1) in
+    runs_on host.moment host.left_since was mid new.journal.host (IsNewOrAnswered g.M.Records.ALL lines x sends c.args.number input output)
+    (λ f d. IsRunOfTurns (SiteAnswers g.M.Records.ALL) c.args.number input x (recovered (host.content mid)) (host.output mid) f d × IsIntact f) so_far
+    (both host.moment host.left_since mid new.journal.host (IsRunOfTurns (SiteAnswers g.M.Records.ALL) c.args.number input x (recovered (host.content mid)) (host.output mid))
     (λ f d. IsIntact f) c.serve.ensures.any_moment c.serve.ensures.intact)
-    (λ f d run. answered lines x sends c.args.number input output (recovered (host.content mid)) (host.output mid) f d
+    (λ f d run. answered g.M.Records.ALL lines x sends c.args.number input output (recovered (host.content mid)) (host.output mid) f d
     (sym (c.in_ok-commit_and_put_out.ensures.lines ∙ is.whole))
     (c.in_ok-commit_and_put_out.ensures.output ∙ ap (λ l. host.output was ++ l) c.deref-2.ensures.value) run.0 run.1)
 
@@ -114,5 +114,5 @@ returns-clause-journal g c = λ failed.
     c.requires.journal (subst (λ f. IsToBegin lines x f) (sym c.deref.ensures.value) c.requires.begins) in
     let same : recovered (host.content mid) ≡ journal_of x = c.in_ok-commit_and_put_out.ensures.lines ∙ is.whole in
     ⊎_elim (λ (more : host.faults mid < host.faults new). inl (omega (arith, more, c.commit_and_put_out.ensures.later)))
-    (λ (full : IsFull SiteAnswers c.args.number input x (recovered (host.content mid))). inr (subst (λ ls. IsFull SiteAnswers c.args.number input x ls) same full))
+    (λ (full : IsFull (SiteAnswers g.M.Records.ALL) c.args.number input x (recovered (host.content mid))). inr (subst (λ ls. IsFull (SiteAnswers g.M.Records.ALL) c.args.number input x ls) same full))
     (c.serve.ensures.journal failed)

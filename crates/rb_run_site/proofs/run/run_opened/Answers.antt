@@ -22,7 +22,7 @@ use Rattle.rb_run_site.proofs.run.run_opened.Goals as goal
 
 -- while the file is opened, a crash leaves a new journal, or the site's
 over_file : (g : Over) (c : After-go_on-ended g) → LeavesOnly g.H.Host.moment g.H.Host.left_since c.args.host c.in-Ok.journal.host
-    (IsNewOrAnswered (recovered c.args.bytes.items) c.args.opened.responder.node.site c.args.opened.sends.items
+    (IsNewOrAnswered g.M.Records.ALL (recovered c.args.bytes.items) c.args.opened.responder.node.site c.args.opened.sends.items
     c.args.number (served_input c.args.buffers.now.pending (g.S.Source.remaining c.args.reader.now)) (g.H.Host.output c.args.host))
 over_file g c =
     let host = g.H.Host in
@@ -32,18 +32,18 @@ over_file g c =
     (λ e d. IsLeftAs (recovered f) (host.output was) e d × (IsRepaired f e × (IsIntact f → IsIntact e)))) c.deref.ensures.value
     (two host.moment host.left_since was c.in-Ok.journal.host _ _ c.in-Ok.ensures.any_moment c.in-Ok.ensures.repaired) in
     weaker host.moment host.left_since was c.in-Ok.journal.host _ _ both
-    (λ e d at. opened file c.args.opened.responder.node.site c.args.opened.first.items c.args.opened.sends.items _ _ (host.output was) e d
+    (λ e d at. opened g.M.Records.ALL file c.args.opened.responder.node.site c.args.opened.first.items c.args.opened.sends.items _ _ (host.output was) e d
     c.requires.begins c.requires.undamaged at.0 at.1.0 at.1.1)
 
 -- a crash leaves a new journal, or the site's with some of the lines answered
 run : (g : Over) (c : After-go_on-ended g) → LeavesOnly g.H.Host.moment g.H.Host.left_since c.args.host
     c.go_on-ended.new.journal.host
-    (IsNewOrAnswered (recovered c.args.bytes.items) c.args.opened.responder.node.site c.args.opened.sends.items
+    (IsNewOrAnswered g.M.Records.ALL (recovered c.args.bytes.items) c.args.opened.responder.node.site c.args.opened.sends.items
     c.args.number (served_input c.args.buffers.now.pending (g.S.Source.remaining c.args.reader.now)) (g.H.Host.output c.args.host))
 run g c =
     let host = g.H.Host in
     runs_on host.moment host.left_since _ c.in-Ok.journal.host _ _ _ (over_file g c) c.go_on-ended.ensures.any_moment
-    (λ f d run. from_same _ _ _ _ _ _ _ _ f d (c.in-Ok.ensures.lines ∙ ap recovered c.deref.ensures.value) c.in-Ok.ensures.output run)
+    (λ f d run. from_same g.M.Records.ALL _ _ _ _ _ _ _ _ f d (c.in-Ok.ensures.lines ∙ ap recovered c.deref.ensures.value) c.in-Ok.ensures.output run)
 
 -- why the file can't be opened is passed on
 passed : (g : Over) (c : After-from-in-Err-2 g) → c.from-in-Err-2.result ≡ fault_of_serve (fault_of_host c.in-Err.error)
@@ -68,7 +68,7 @@ returns-in-Err-ended-clause-journal g c = λ failed.
     let passed : c.from.result ≡ DiskFailed = cc failed in
     let is : fault ≡ JournalStopped = only_journal fault (sym same ∙ passed) in
     ⊎_elim (λ (more : host.faults mid < host.faults new). inl (omega (arith, more, c.in-Ok.ensures.later)))
-    (λ (full : IsFull SiteAnswers c.args.number input x (journal_of x)). inr full)
+    (λ (full : IsFull (SiteAnswers g.M.Records.ALL) c.args.number input x (journal_of x)). inr full)
     (c.in-Err-ended.ensures.journal (ap Err is))
 
 pub go_on-ended-requires-clause-begins : goal.go_on-ended-requires-clause-begins
@@ -91,7 +91,7 @@ returns-in-Err-ended-clause-ended g c =
     let fault = c.in-Err-ended.fault in
     let text = rw c.in-Ok.ensures.output at c.in-Err-ended.ensures.text in
     let settled = c.in-Err-ended.ensures.settled in
-    stopped (λ ended. AnswersAll opened.responder.node.site opened.sends.items c.args.number input
+    stopped (λ ended. AnswersAll g.M.Records.ALL opened.responder.node.site opened.sends.items c.args.number input
     (g.S.Source.remaining c.go_on-ended.new.reader) (host.output c.args.host) (recovered (host.content new)) (host.output new) ended
     × IsAtRest (host.content new) (host.may_leave new)) fault c.from.result c.from.ensures
     (λ at. (text at, ((settled at).file, (settled at).durable)))
@@ -102,7 +102,7 @@ returns-in-Err-clause-ended g c =
     let new = c.in-Err.host in
     let opened = c.args.opened in
     let left = g.S.Source.remaining c.args.reader.now in
-    not_begun (λ ended. AnswersAll opened.responder.node.site opened.sends.items c.args.number
+    not_begun (λ ended. AnswersAll g.M.Records.ALL opened.responder.node.site opened.sends.items c.args.number
     (served_input c.args.buffers.now.pending left) left (host.output c.args.host) (recovered (host.content new)) (host.output new) ended
     × IsAtRest (host.content new) (host.may_leave new)) c.in-Err.error c.from-in-Err-2.result
     (passed g (goal.at.returns-in-Err-clause-ended g c).After-from-in-Err-2)
@@ -118,8 +118,8 @@ returns-in-Err-clause-any_moment g c =
     (λ e d. IsLeftAs (recovered f) (host.output was) e d × (IsRepaired f e × (IsIntact f → IsIntact e)))) c.deref.ensures.value
     (two host.moment host.left_since was c.in-Err.host _ _ c.in-Err.ensures.any_moment_err c.in-Err.ensures.repaired_err) in
     weaker host.moment host.left_since was c.in-Err.host _
-    (IsNewOrAnswered (recovered file) of.responder.node.site of.sends.items c.args.number input (host.output was)) both
-    (λ e d at. opened file of.responder.node.site of.first.items of.sends.items c.args.number input (host.output was) e d
+    (IsNewOrAnswered g.M.Records.ALL (recovered file) of.responder.node.site of.sends.items c.args.number input (host.output was)) both
+    (λ e d at. opened g.M.Records.ALL file of.responder.node.site of.first.items of.sends.items c.args.number input (host.output was) e d
     c.requires.begins c.requires.undamaged at.0 at.1.0 at.1.1)
 
 pub returns-in-Err-clause-read : goal.returns-in-Err-clause-read

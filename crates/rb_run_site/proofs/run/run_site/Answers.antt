@@ -27,11 +27,11 @@ opens g c =
 -- a crash while the opened site runs leaves a run of it
 run : (g : Over) (c : After-run_opened g) → LeavesOnly g.H.Host.moment g.H.Host.left_since c.args.host
     c.run_opened.result.host
-    (IsSiteRun c.args.me c.args.resend (g.S.Source.remaining c.args.reader.now) c.args.bytes.items (g.H.Host.output c.args.host))
+    (IsSiteRun g.M.Records.ALL c.args.me c.args.resend (g.S.Source.remaining c.args.reader.now) c.args.bytes.items (g.H.Host.output c.args.host))
 run g c =
     let is = c.in-Ok.ensures.opened in
     weaker g.H.Host.moment g.H.Host.left_since _ _ _ _ c.run_opened.ensures.any_moment
-    (λ f d run. run_behind _ _ c.in-Ok.number _ (g.S.Source.remaining c.open_site.new.reader) c.args.bytes.items is.0
+    (λ f d run. run_behind g.M.Records.ALL _ _ c.in-Ok.number _ (g.S.Source.remaining c.open_site.new.reader) c.args.bytes.items is.0
     c.open_site.new.buffers.pending c.in-Ok.opened.responder.node.site c.in-Ok.opened.first.items
     c.in-Ok.opened.sends.items (opens g c) is.2 _ f d run)
 
@@ -60,11 +60,11 @@ returns-in-Ok-clause-ended g c =
     let said = host.output new in
     let file = c.args.bytes.items in
     let rest = IsAtRest (host.content new) (host.may_leave new) in
-    ran (λ e. AnswersAll x sends c.in-Ok.number (served_input mid.buffers.pending left) still output now said e × rest)
-    (λ e. AnswersBehind c.args.me c.args.resend input still (recovered file) output now said e × rest)
+    ran (λ e. AnswersAll g.M.Records.ALL x sends c.in-Ok.number (served_input mid.buffers.pending left) still output now said e × rest)
+    (λ e. AnswersBehind g.M.Records.ALL c.args.me c.args.resend input still (recovered file) output now said e × rest)
     (λ why. (new ≡ c.args.host) × IsOpeningCause c.args.me input still file why) c.run_opened.result.ended
     (λ e all. (
-      ends_behind c.args.me c.args.resend c.in-Ok.number input left file is.0 mid.buffers.pending x first sends
+      ends_behind g.M.Records.ALL c.args.me c.args.resend c.in-Ok.number input left file is.0 mid.buffers.pending x first sends
           (opens g (goal.at.returns-in-Ok-clause-ended g c).After-run_opened) is.2
           output still now said e all.0,
       all.1,
@@ -79,8 +79,8 @@ returns-in-Ok-clause-steps g c =
     let host = g.H.Host in
     let input = g.S.Source.remaining c.args.reader.now in
     weaker host.moment host.left_since c.args.host c.run_opened.result.host _
-    (IsRunOfSteps c.args.me c.args.resend input c.args.bytes.items (host.output c.args.host))
-    (run g (goal.at.returns-in-Ok-clause-steps g c).After-run_opened) (stepped_run c.args.me c.args.resend input _ _)
+    (IsRunOfSteps g.M.Records.ALL c.args.me c.args.resend input c.args.bytes.items (host.output c.args.host))
+    (run g (goal.at.returns-in-Ok-clause-steps g c).After-run_opened) (stepped_run g.M.Records.ALL c.args.me c.args.resend input _ _)
 
 pub returns-in-Ok-clause-journal : goal.returns-in-Ok-clause-journal
 returns-in-Ok-clause-journal g c = λ failed.
@@ -90,8 +90,8 @@ returns-in-Ok-clause-journal g c = λ failed.
     let left = g.S.Source.remaining mid.reader in
     let x = c.in-Ok.opened.responder.node.site in
     ⊎_elim (λ (more : host.faults c.args.host < host.faults c.run_opened.result.host). inl more)
-    (λ (full : IsFull SiteAnswers c.in-Ok.number (served_input mid.buffers.pending left) x (journal_of x)). inr
-    (full_behind c.args.me c.args.resend c.in-Ok.number (g.S.Source.remaining c.args.reader.now) left c.args.bytes.items is.0
+    (λ (full : IsFull (SiteAnswers g.M.Records.ALL) c.in-Ok.number (served_input mid.buffers.pending left) x (journal_of x)). inr
+    (full_behind g.M.Records.ALL c.args.me c.args.resend c.in-Ok.number (g.S.Source.remaining c.args.reader.now) left c.args.bytes.items is.0
     mid.buffers.pending x c.in-Ok.opened.first.items c.in-Ok.opened.sends.items
     (opens g (goal.at.returns-in-Ok-clause-journal g c).After-run_opened) is.2 full))
     (c.run_opened.ensures.journal failed)
@@ -103,7 +103,7 @@ returns-in-Err-clause-ended g c =
     let input = g.S.Source.remaining c.args.reader.now in
     let left = g.S.Source.remaining c.open_site.new.reader in
     let file = c.args.bytes.items in
-    stopped_there (λ e. AnswersBehind c.args.me c.args.resend input left (recovered file) (host.output was)
+    stopped_there (λ e. AnswersBehind g.M.Records.ALL c.args.me c.args.resend input left (recovered file) (host.output was)
     (recovered (host.content was)) (host.output was) e × IsAtRest (host.content was) (host.may_leave was))
     (λ why. (was ≡ was) × IsOpeningCause c.args.me input left file why) c.in-Err.fault c.in-Err.ensures.only
     (refl, subst (λ f. IsOpeningCause c.args.me input left f c.in-Err.fault) c.deref.ensures.value c.in-Err.ensures.cause)
@@ -113,7 +113,7 @@ returns-in-Err-clause-any_moment g c =
     let host = g.H.Host in
     let input = g.S.Source.remaining c.args.reader.now in
     started host.moment host.left_since c.args.host
-    (IsSiteRun c.args.me c.args.resend input c.args.bytes.items (host.output c.args.host))
+    (IsSiteRun g.M.Records.ALL c.args.me c.args.resend input c.args.bytes.items (host.output c.args.host))
     (λ f d left. inl (inl (still g (goal.at.returns-in-Err-clause-any_moment g c).After-open_site f d left)))
 
 pub returns-in-Err-clause-steps : goal.returns-in-Err-clause-steps
@@ -121,5 +121,5 @@ returns-in-Err-clause-steps g c =
     let host = g.H.Host in
     let input = g.S.Source.remaining c.args.reader.now in
     started host.moment host.left_since c.args.host
-    (IsRunOfSteps c.args.me c.args.resend input c.args.bytes.items (host.output c.args.host))
+    (IsRunOfSteps g.M.Records.ALL c.args.me c.args.resend input c.args.bytes.items (host.output c.args.host))
     (λ f d left. inl (inl (still g (goal.at.returns-in-Err-clause-steps g c).After-open_site f d left)))
