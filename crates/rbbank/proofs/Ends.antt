@@ -48,8 +48,8 @@ any_end n (Histories ran) input left site e = histories_end n ran e
 any_end n (Audit ran) input left site e = audit_end n ran e
 any_end n (Migrate ran) input left site e = script_end n ran e
 any_end n (Threads ran) input left site e = histories_end n ran e
-any_end n (SiteAsked me journal is_new resend) input left (Some ran) e = site_end n ran.ended e.1
-any_end n (SiteAsked me journal is_new resend) input left None e = absurd e
+any_end n (SiteAsked me journal is_new resend recorded) input left (Some ran) e = site_end n ran.ended e.1
+any_end n (SiteAsked me journal is_new resend recorded) input left None e = absurd e
 
 shown_end : (n : ℕ) → (n ≡ 0) ⊎ IsReportedStatus (status_of Write) n → IsEnd n
 shown_end n (inl e) = inl e

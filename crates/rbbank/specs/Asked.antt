@@ -21,6 +21,7 @@ DoesAsAsked Histories (HistoriesRan r) bytes left text = (r ≢ Err Gather) × I
 DoesAsAsked Audit (AuditRan r) bytes left text = (r ≢ Err Gather) × IfSome bytes (λ input. AuditEndsAs r input left text)
 DoesAsAsked Migrate (MigrationRan r) bytes left text = (r ≢ Err Gather) × IfSome bytes (λ input. MigrationEndsAs r input left text)
 DoesAsAsked (Threads sites tellers seed) (TellersRan r) bytes left text = ThreadsEndAs r sites tellers seed text × (left ≡ bytes)
-DoesAsAsked (Site me journal is_new resend) (SiteAsked me' journal' is_new' resend') bytes left text =
-    (me' ≡ me) × (journal' ≡ journal) × (is_new' ≡ is_new) × (resend' ≡ resend) × (text ≡ []) × (left ≡ bytes)
+DoesAsAsked (Site me journal is_new resend recorded) (SiteAsked me' journal' is_new' resend' recorded') bytes left text =
+    (me' ≡ me) × (journal' ≡ journal) × (is_new' ≡ is_new) × (resend' ≡ resend) × (recorded' ≡ recorded) × (text ≡ [])
+    × (left ≡ bytes)
 DoesAsAsked _ _ bytes left text = ⊥

@@ -16,6 +16,8 @@ use Rattle.rb_run_site.specs.Faults.{site_message_of}
 use Rattle.rb_run_site.specs.Openings.{IsOpeningCause}
 use Rattle.rb_run_site.specs.Runs.{IsSiteRun}
 use Rattle.rb_run_site.specs.Steps.{IsRunOfSteps}
+use Rattle.rb_cli.specs.declared.recorded.Record.{Record}
+use Rattle.rb_cli.specs.declared.recorded.Record.TheVariants.{Changes, All}
 use Rattle.rb_run_site.specs.declared.fault.SiteFault.{SiteFault}
 use Rattle.rb_run_site.specs.declared.fault.SiteFault.TheVariants.{NoJournal, JournalThere, InUse, Journal, OutOfMemory, Write}
 
@@ -23,6 +25,11 @@ use Rattle.rb_run_site.specs.declared.fault.SiteFault.TheVariants.{NoJournal, Jo
 abbrev pub most_of : Option ℕ → ℕ
 most_of (Some n) = n
 most_of None = 2 ^ 64 - 1
+
+-- all events are recorded, and not only those that change the site
+abbrev pub records_all : Record → Bool
+records_all Changes = false
+records_all All = true
 
 -- the fault of a file that isn't opened, by the kind of the system's error
 abbrev pub fault_of_system : ErrorKind → SiteFault
@@ -68,26 +75,29 @@ module _ {R P : Type 0} where
     pub output : output_of (disk_log disk) ≡ []
     pub durable : Only (file_of disk) (leaves (disk_log disk))
 
-  -- site `me` ran over the file of this name: it answered the lines behind the configuration, or stopped in the opening,
-  -- as the promises of a site's run have it
-  pub record HasRunOn (me most : ℕ) (name : List ℕ) (is_new : Bool) (input left : Option (List ℕ)) (disk : Disk R P)
-      (ended : Result ℕ SiteFault) : Type 0 where
+  -- site `me`, which records all events or those that change it, ran over the file of this name: it answered the lines
+  -- behind the configuration, or stopped in the opening, as the promises of a site's run have it
+  pub record HasRunOn (all : Bool) (me most : ℕ) (name : List ℕ) (is_new : Bool) (input left : Option (List ℕ))
+      (disk : Disk R P) (ended : Result ℕ SiteFault) : Type 0 where
     pub start : Disk R P
     pub opened : IsOpened name is_new start
     pub ended_as : RunsTo
-        (λ end. AnswersBehind me most input left (recovered (file_of start)) [] (recovered (file_of disk)) (output_of (disk_log disk)) end
+        (λ end. AnswersBehind all me most input left (recovered (file_of start)) [] (recovered (file_of disk))
+        (output_of (disk_log disk)) end
         × IsAtRest (file_of disk) (leaves (disk_log disk)))
         (λ fault. (disk ≡ start) × IsOpeningCause me input left (file_of start) fault) ended
-    pub any_moment : LeavesOnly moment_of crash_left_of start disk (IsSiteRun me most input (file_of start) [])
-    pub steps : LeavesOnly moment_of crash_left_of start disk (IsRunOfSteps me most input (file_of start) [])
+    pub any_moment : LeavesOnly moment_of crash_left_of start disk (IsSiteRun all me most input (file_of start) [])
+    pub steps : LeavesOnly moment_of crash_left_of start disk (IsRunOfSteps all me most input (file_of start) [])
     pub write : ended ≡ Err Write → faults_of (disk_log start) < faults_of (disk_log disk)
     pub journal : ended ≡ Err Journal → (faults_of (disk_log start) < faults_of (disk_log disk))
-        ⊎ IsFullBehind me input (recovered (file_of start))
+        ⊎ IsFullBehind all me input (recovered (file_of start))
 
   -- the file wasn't opened, and nothing was read; or the site ran over it
-  abbrev pub IsRunOn : ℕ → List ℕ → Bool → Option ℕ → Option (List ℕ) → Option (List ℕ) → Option (Disk R P) → Result ℕ SiteFault → Type 0
-  IsRunOn me name is_new resend input left None ended = (left ≡ input) × IsUnopened is_new ended
-  IsRunOn me name is_new resend input left (Some disk) ended = HasRunOn me (most_of resend) name is_new input left disk ended
+  abbrev pub IsRunOn : Bool → ℕ → List ℕ → Bool → Option ℕ → Option (List ℕ) → Option (List ℕ) → Option (Disk R P)
+      → Result ℕ SiteFault → Type 0
+  IsRunOn all me name is_new resend input left None ended = (left ≡ input) × IsUnopened is_new ended
+  IsRunOn all me name is_new resend input left (Some disk) ended =
+      HasRunOn all me (most_of resend) name is_new input left disk ended
 
 -- what is said of a journal that failed: it begins with the fault and the file's name, and the system's reason is behind
 -- them

@@ -9,7 +9,7 @@ use Rattle.rb_lines.specs.declared.fault.ScriptFault.TheVariants.{Write}
 use Rattle.rb_lines.specs.Messages.{status_of}
 use Rattle.rb_run_site.specs.declared.fault.SiteFault.{SiteFault}
 use Rattle.rb_run_site.specs.Faults.{site_status_of}
-use Rattle.rbbank.specs.OnDisk.{IsRunOn}
+use Rattle.rbbank.specs.OnDisk.{IsRunOn, records_all}
 use Rattle.rbbank.specs.declared.on_disk.RanOnDisk.{RanOnDisk}
 use Rattle.rbbank.specs.declared.on_streams.Streamed.{Streamed}
 use Rattle.rbbank.specs.declared.on_streams.Streamed.TheVariants.{Script, Histories, Audit, Migrate, Threads, SiteAsked}
@@ -63,9 +63,9 @@ IsEndOf (Histories ran) input left site n = IsEndOfHistories ran n
 IsEndOf (Audit ran) input left site n = IsEndOfAudit ran n
 IsEndOf (Migrate ran) input left site n = IsEndOfScript ran n
 IsEndOf (Threads ran) input left site n = IsEndOfHistories ran n
-IsEndOf (SiteAsked me journal is_new resend) input left (Some ran) n =
-    IsRunOn me journal.now is_new resend input left ran.disk ran.ended × IsEndOfSite ran.ended n
-IsEndOf (SiteAsked me journal is_new resend) input left None n = ⊥
+IsEndOf (SiteAsked me journal is_new resend recorded) input left (Some ran) n =
+    IsRunOn (records_all recorded) me journal.now is_new resend input left ran.disk ran.ended × IsEndOfSite ran.ended n
+IsEndOf (SiteAsked me journal is_new resend recorded) input left None n = ⊥
 
 -- 0, 1, or the status of a fault
 abbrev pub IsEnd : ℕ → Type 0
@@ -73,5 +73,5 @@ IsEnd n = (n ≡ 0) ⊎ ((n ≡ 1) ⊎ (((fault : ScriptFault) × (n ≡ status_
 
 -- a site is to run
 abbrev pub IsSiteAsked : Streamed → Type 0
-IsSiteAsked (SiteAsked me journal is_new resend) = Unit {0}
+IsSiteAsked (SiteAsked me journal is_new resend recorded) = Unit {0}
 IsSiteAsked _ = ⊥

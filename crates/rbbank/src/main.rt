@@ -162,8 +162,9 @@ fn end<S: Source>(rt: &HostRuntime, reader: &mut S, streamed: Streamed) -> Ended
             journal,
             is_new,
             resend,
+            record,
         } => {
-            let ran = run_on_disk(rt, reader, me, journal, is_new, resend);
+            let ran = run_on_disk(rt, reader, me, journal, is_new, resend, record);
             let code = ran.code;
             let site = Some(ran);
             Ended { code, site }

@@ -3,13 +3,16 @@ ghost use Rattle.std.specs.Prelude.{◌≡◌, ◌⊎◌, ◌≤◌, Err, IfOk, 
 ghost use Rattle.std.specs.Process.{exit_status};
 ghost use Rattle.rb_lines.specs.declared.limits.TheConstants.{MOST_READS};
 ghost use Rattle.rb_run_site.specs.declared.fault.SiteFault.TheVariants.{Read as NotRead};
-ghost use Rattle.rbbank.specs.OnDisk.{IsJournalMessage, IsRunOn, fault_of_open, most_of};
+ghost use Rattle.rbbank.specs.OnDisk.{IsJournalMessage, IsRunOn, fault_of_open, most_of, records_all};
 ghost use Rattle.rbbank.specs.Statuses.{IsEndOfSite};
 
 use crate::print_line;
+use rb_cli::Record;
 use rb_journal::{Disk, OpenError, open_disk};
 use rb_lines::Source;
-use rb_run_site::{Ran, SiteFault, run_site, site_message, site_status};
+use rb_run_site::{
+    AllEvents, Changes, Ran, Records, SiteFault, run_site, site_message, site_status,
+};
 use std::alloc::{AllocError, Global};
 use std::io;
 use std::io::Stdout;
@@ -100,9 +103,8 @@ fn most_resent(resend: Option<u32>) -> usize
     }
 }
 
-/// Runs a site from this reader to standard output, over its journal on the disk, which is made if it is a new one.
-/// What the last `resend` entries of it sent is put out again, or what all of them sent.
-pub fn run_on_disk<S: Source>(
+/// Runs a site that records the events of `M`, as `run_on_disk` does.
+fn run_recording<S: Source, M: Records>(
     rt: &HostRuntime,
     reader: &mut S,
     me: u8,
@@ -111,8 +113,8 @@ pub fn run_on_disk<S: Source>(
     resend: Option<u32>,
 ) -> RanOnDisk
     requires { S.calls reader.old ≡ 0 }
-    ensures ran { IsRunOn me journal.now is_new resend (S.remaining reader.old) (S.remaining reader.new)
-        result.disk result.ended }
+    ensures ran { IsRunOn M.ALL me journal.now is_new resend (S.remaining reader.old)
+        (S.remaining reader.new) result.disk result.ended }
     ensures unread { result.disk ≡ None → reader.new ≡ reader.old }
     ensures status { IsEndOfSite result.ended (exit_status result.code) }
     ensures read { result.ended ≡ Err NotRead → (S.failed reader.new ≡ true) ⊎ (S.calls reader.new ≡ MOST_READS) }
@@ -120,7 +122,7 @@ pub fn run_on_disk<S: Source>(
 {
     match open_disk(rt, journal, is_new, rt.stdout()) {
         Ok((disk, bytes)) => {
-            let Ran { host, ended } = run_site(
+            let Ran { host, ended } = run_site::<S, Disk<HostRuntime, Stdout>, M>(
                 rt.alloc(),
                 reader,
                 disk,
@@ -144,5 +146,31 @@ pub fn run_on_disk<S: Source>(
                 code,
             }
         }
+    }
+}
+
+/// Runs a site from this reader to standard output, over its journal on the disk, which is made if it is a new one.
+/// What the last `resend` entries of it sent is put out again, or what all of them sent. All events are recorded, or
+/// those that change the site.
+pub fn run_on_disk<S: Source>(
+    rt: &HostRuntime,
+    reader: &mut S,
+    me: u8,
+    journal: &str,
+    is_new: bool,
+    resend: Option<u32>,
+    recorded: Record,
+) -> RanOnDisk
+    requires { S.calls reader.old ≡ 0 }
+    ensures ran { IsRunOn (records_all recorded) me journal.now is_new resend (S.remaining reader.old)
+        (S.remaining reader.new) result.disk result.ended }
+    ensures unread { result.disk ≡ None → reader.new ≡ reader.old }
+    ensures status { IsEndOfSite result.ended (exit_status result.code) }
+    ensures read { result.ended ≡ Err NotRead → (S.failed reader.new ≡ true) ⊎ (S.calls reader.new ≡ MOST_READS) }
+    ensures calls { S.calls reader.new ≤ MOST_READS }
+{
+    match recorded {
+        Record::Changes => run_recording::<S, Changes>(rt, reader, me, journal, is_new, resend),
+        Record::All => run_recording::<S, AllEvents>(rt, reader, me, journal, is_new, resend),
     }
 }

@@ -1,16 +1,16 @@
 //! What the words ask for, done between any reader and any writer, as far as these suffice.
 ghost use Rattle.std.specs.Prelude.{◌≡◌, ◌+◌, ◌≤◌, ℕ, List, false, map, IfOk, IfErr, OnErr};
 ghost use Rattle.std.specs.Io.KnownBytes.{Appends};
-ghost use Rattle.clap.specs.Words.{FailsBy, fault_of, kind_of};
+ghost use Rattle.clap.specs.Words.{kind_of};
 ghost use Rattle.clap.specs.declared.error.kind.ErrorKind.TheVariants.{OutOfMemory};
 ghost use Rattle.rb_lines.specs.declared.limits.TheConstants.{MOST_READS};
 ghost use Rattle.rb_cli.specs.declared.words.Words.{Words as TheWords};
-ghost use Rattle.rb_cli.specs.Words.{Ask, IsAsUsual, AreReadAs, command_line};
+ghost use Rattle.rb_cli.specs.Words.{AreReadAs, Ask, FailsByWords, IsAsUsual};
 ghost use Rattle.rbbank.specs.Asked.{DoesAsAsked};
 ghost use Rattle.rbbank.specs.Statuses.{IsSiteAsked};
 
 use rb_branch::NoGate;
-use rb_cli::{Words, read_words};
+use rb_cli::{Record, Words, read_words};
 use rb_lines::{ScriptFault, Sink, Source};
 use rb_run_threads::run_threads;
 use rb_runs::{run_audit, run_histories, run_migrate, run_script};
@@ -37,6 +37,7 @@ pub enum Streamed<'a> {
         journal: &'a str,
         is_new: bool,
         resend: Option<u32>,
+        record: Record,
     },
 }
 
@@ -61,7 +62,7 @@ pub fn run_on_streams<'a, H: Threads + Wait + Sync, S: Source, W: Sink>(
         (λ e. (asked : TheWords) → Ask (map (λ word. word.now) words.entry.now) asked → kind_of e ≡ OutOfMemory) }
     // Something is done only for words that the command line takes. The error is one of those that these words may end
     // in, so help is answered only if they ask for it.
-    ensures kinds { FailsBy (fault_of command_line (map (λ word. word.now) words.entry.now)) result }
+    ensures kinds { FailsByWords (map (λ word. word.now) words.entry.now) result }
     ensures untouched { OnErr result ((reader.new ≡ reader.old) × (writer.new ≡ writer.old)) }
     ensures asked { IfOk result
         (λ ran. IsSiteAsked ran → (reader.new ≡ reader.old) × (writer.new ≡ writer.old)) }
@@ -88,12 +89,14 @@ pub fn run_on_streams<'a, H: Threads + Wait + Sync, S: Source, W: Sink>(
                 journal,
                 is_new,
                 resend,
+                record,
             },
         ) => Ok(Streamed::SiteAsked {
             me,
             journal,
             is_new,
             resend,
+            record,
         }),
         Err(error) => Err(error),
     }

@@ -3,7 +3,7 @@ use Rattle.std.proofs.Common.{◌∙◌, subst, sym}
 use Rattle.rb_journal.specs.Calls.{leaves}
 use Rattle.rb_journal.specs.Disk.{disk_log}
 use Rattle.rb_journal.specs.Host.{Only}
-use Rattle.rbbank.proofs.on_disk.run_on_disk.Goals as goal
+use Rattle.rbbank.proofs.on_disk.run_recording.Goals as goal
 
 -- what the run says of the bytes that were read, it says of the file
 pub returns-in-Ok-clause-ran : goal.returns-in-Ok-clause-ran

@@ -1,0 +1,66 @@
+-- The words are read as what was done.
+use Rattle.std.proofs.Common.{ℕ, List, [], Option, Some, None, append-nil, map, refl, subst, sym}
+use Rattle.std.specs.Io.KnownBytes.{Appends}
+use Rattle.rb_cli.specs.Words.{AreReadAs, IsAsUsual}
+use Rattle.rb_cli.specs.declared.words.Words.{Words}
+use Rattle.rb_cli.specs.declared.words.Words.TheVariants.{Script, Histories, Audit, Migrate, Threads, Site}
+use Rattle.clap.specs.Words.{Text}
+use Rattle.rbbank.proofs.on_streams.run_on_streams.Goals as goal
+
+-- words are read as this, and as usual
+abbrev AreAsked : List Text → Words → Type 0
+AreAsked words asked = AreReadAs words asked × IsAsUsual words asked
+
+-- known bytes grow by nothing
+appends_nothing : (bytes : Option (List ℕ)) → Appends bytes bytes []
+appends_nothing None = tt
+appends_nothing (Some xs) = sym (append-nil xs)
+
+pub returns-in-Ok-Script-clause-done : goal.returns-in-Ok-Script-clause-done
+returns-in-Ok-Script-clause-done g c =
+    let words = map (λ word. word.now) c.args.words.now in
+    let read = c.in-Ok-Script.ensures in
+    let asked = subst (AreAsked words) c.in-Ok-Script.field-0-is (read.ok, read.usual) in
+    let ran = c.run_script.ensures in
+    (Script, asked.0, asked.1, ran.written.0, ran.written.1, (ran.gather, ran.written.2))
+
+pub returns-in-Ok-Histories-clause-done : goal.returns-in-Ok-Histories-clause-done
+returns-in-Ok-Histories-clause-done g c =
+    let words = map (λ word. word.now) c.args.words.now in
+    let read = c.in-Ok-Histories.ensures in
+    let asked = subst (AreAsked words) c.in-Ok-Histories.field-0-is (read.ok, read.usual) in
+    let ran = c.run_histories.ensures in
+    (Histories, asked.0, asked.1, ran.written.0, ran.written.1, (ran.gather, ran.written.2))
+
+pub returns-in-Ok-Audit-clause-done : goal.returns-in-Ok-Audit-clause-done
+returns-in-Ok-Audit-clause-done g c =
+    let words = map (λ word. word.now) c.args.words.now in
+    let read = c.in-Ok-Audit.ensures in
+    let asked = subst (AreAsked words) c.in-Ok-Audit.field-0-is (read.ok, read.usual) in
+    let ran = c.run_audit.ensures in
+    (Audit, asked.0, asked.1, ran.written.0, ran.written.1, (ran.gather, ran.written.2))
+
+pub returns-in-Ok-Migrate-clause-done : goal.returns-in-Ok-Migrate-clause-done
+returns-in-Ok-Migrate-clause-done g c =
+    let words = map (λ word. word.now) c.args.words.now in
+    let read = c.in-Ok-Migrate.ensures in
+    let asked = subst (AreAsked words) c.in-Ok-Migrate.field-0-is (read.ok, read.usual) in
+    let ran = c.run_migrate.ensures in
+    (Migrate, asked.0, asked.1, ran.written.0, ran.written.1, (ran.gather, ran.written.2))
+
+pub returns-in-Ok-Threads-clause-done : goal.returns-in-Ok-Threads-clause-done
+returns-in-Ok-Threads-clause-done g c =
+    let words = map (λ word. word.now) c.args.words.now in
+    let read = c.in-Ok-Threads.ensures in
+    let asked = subst (AreAsked words) c.in-Ok-Threads.field-0-is (read.ok, read.usual) in
+    let ran = c.run_threads-ran.ensures in
+    let run = Threads c.in-Ok-Threads.sites c.in-Ok-Threads.tellers c.in-Ok-Threads.seed in
+    (run, asked.0, asked.1, ran.written.0, ran.written.1, (ran.written.2, refl))
+
+pub returns-in-Ok-Site-clause-done : goal.returns-in-Ok-Site-clause-done
+returns-in-Ok-Site-clause-done g c =
+    let words = map (λ word. word.now) c.args.words.now in
+    let met = c.in-Ok-Site in
+    let asked = subst (AreAsked words) met.field-0-is (met.ensures.ok, met.ensures.usual) in
+    let run = Site met.me met.journal met.is_new met.resend met.record in
+    (run, asked.0, asked.1, [], appends_nothing _, (refl, refl, refl, refl, refl, refl, refl))
