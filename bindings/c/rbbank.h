@@ -72,6 +72,10 @@ int32_t rbbank_site_open(struct rbbank_site *site, uint8_t me, const uint8_t *co
  * answer {"reply":..,"sends":[..],"then":[..]} is kept, and so are its entries; 1; 2 (no event, and no question):
  * nothing has changed, what was kept before neither; 4.
  * Write the entries where they last before anyone sees the answer: then a crash takes back nothing that was seen.
+ * A request or a batch may have a further key "id", 1 to 64 characters of A-Z a-z 0-9 . _ : -, which its answer and
+ * its entry have too. Once it is made, the same line gets {"again":true,"id":..}, with the same reply and messages, and
+ * another request of the id gets {"refused":25}. Neither changes anything or has entries: so a client may ask again
+ * until it has a reply.
  * A question changes nothing and has no entries: {"about":"site"}, or {"resend":N}, N 0 to 100,000,000, whose answer
  * has a line {"sends":[..]} before its last for each of the last N entries that sent any message. */
 int32_t rbbank_site_answer(struct rbbank_site *site, const uint8_t *line, size_t length);
@@ -81,12 +85,13 @@ int32_t rbbank_site_answer(struct rbbank_site *site, const uint8_t *line, size_t
 size_t rbbank_site_reply(struct rbbank_site *site, size_t from, uint8_t *out, size_t length);
 
 /* Copies the lines that the kept answer adds to the journal, each with its line feed, as rbbank_reply does; none if
- * the history is full, and none after a replay. After an open it is the configuration's line, with all eight keys. */
+ * it recorded nothing, and none after a replay. After an open it is the configuration's line, with all eight keys. */
 size_t rbbank_site_entries(struct rbbank_site *site, size_t from, uint8_t *out, size_t length);
 
-/* Gives a site that was opened again the next line of its journal, behind the first. 0; 1; 2 (no entry of this site):
- * nothing has changed; 3 (the site gives another reply than the entry has, or its history is full): the handle is
- * closed; 4. The entry may be spelled in any way, but the program takes a journal's line only as it writes it. */
+/* Gives a site that was opened again the next line of its journal, behind the first; it may have an id. 0; 1; 2 (no
+ * entry of this site, or the id of an entry before): nothing has changed; 3 (the site gives another reply than the
+ * entry has, or its history is full): the handle is closed; 4. The entry may be spelled in any way, but the program
+ * takes a journal's line only as it writes it. */
 int32_t rbbank_site_replay(struct rbbank_site *site, const uint8_t *line, size_t length);
 
 /* Ends the site, and gives its memory back. The handle is zeroed, and may be opened again. */

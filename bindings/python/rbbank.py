@@ -200,6 +200,10 @@ class Site(_Handle):
     begins with its entries (else it is another bank's, and might be replayed all the same), and give it each line of
     the journal behind the first by `replay`.
 
+    A request or a batch may have a further key `"id"`, 1 to 64 characters of `A-Z a-z 0-9 . _ : -`. Once it is made,
+    the same line is answered by `{"again":true,"id":..}` with the same reply and messages, and another request of the
+    id by `{"refused":25}`. Neither changes anything or has entries.
+
     A question changes nothing and has no entries: `{"about":"site"}`, or `{"resend":N}`, N 0 to 100,000,000, whose
     answer has a line `{"sends":[..]}` before its last for each of the last N entries that sent any message.
     """
@@ -216,7 +220,7 @@ class Site(_Handle):
 
     def entries(self) -> bytes:
         """The lines for the journal, each with its line feed: of the configuration after the opening, and of the last
-        answer's entries, none if the history is full, and none after a replay."""
+        answer's entries, none if it recorded nothing, and none after a replay."""
         with self._lock:
             return self._kept(_call("rbbank_site_entries"))
 
@@ -224,8 +228,8 @@ class Site(_Handle):
         """Gives it the next line of its journal, in any spelling, and returns the line `{"sends":[..]}` of what the
         entry sent, or nothing if it sent nothing.
 
-        Raises BadLine if it is no entry of this site, after which all is as it was; WrongReply, after which it is
-        closed; Closed; MemoryError, after which it is closed.
+        Raises BadLine if it is no entry of this site, or has the id of an entry before, after which all is as it was;
+        WrongReply, after which it is closed; Closed; MemoryError, after which it is closed.
         """
         data = _bytes(entry)
         with self._lock:

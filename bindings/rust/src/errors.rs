@@ -27,7 +27,7 @@ pub enum AnswerError {
 /// Why a line of a journal wasn't replayed.
 #[derive(Clone, Copy, Debug, PartialEq, Eq)]
 pub enum ReplayError {
-    /// The line is no entry of this site. Nothing has changed.
+    /// The line is no entry of this site, or has the id of an entry before. Nothing has changed.
     BadLine,
     /// The site gives another reply than the entry has, or its history is full: nothing more can be asked of it.
     WrongReply,

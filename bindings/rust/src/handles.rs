@@ -160,6 +160,11 @@ impl Site {
     /// Answers an event's line: any command but `deliver`, without its site, or a message of another site. The answer
     /// is the line `{"reply":..,"sends":[..],"then":[..]}`, without its line feed.
     ///
+    /// A request or a batch may have a further key `"id"`, 1 to 64 characters of `A-Z a-z 0-9 . _ : -`, which the
+    /// answer and the entry have too. Once it is made, the same line is answered by `{"again":true,"id":..}` with the
+    /// same reply and messages, and another request of the id by `{"refused":25}`. Neither changes anything or has
+    /// entries.
+    ///
     /// A question changes nothing and has no entries: `{"about":"site"}`, or `{"resend":N}`, N 0 to 100,000,000, whose
     /// answer has a line `{"sends":[..]}` before its last for each of the last N entries that sent any message.
     ///
@@ -176,7 +181,7 @@ impl Site {
         )))
     }
 
-    /// The lines that the last answer adds to the journal, each with its line feed, none if the history is full;
+    /// The lines that the last answer adds to the journal, each with its line feed, none if it recorded nothing;
     /// after the opening the configuration's line, which is the journal's first.
     pub fn entries(&mut self) -> &str {
         copy(&mut self.handle, c::rbbank_site_entries, &mut self.text)

@@ -2,7 +2,7 @@
 ghost use Rattle.std.specs.Prelude.{◌≡◌, ◌<◌, ◌≤◌, [], Some, None, IfOk, Err, MatchResult, OnOk};
 ghost use Rattle.rb_money.specs.Settings.{Settings};
 ghost use Rattle.rb_history.specs.Configurations.{config_on};
-ghost use Rattle.rb_node.specs.Answers.{event_on};
+ghost use Rattle.rb_node.specs.Answers.{asked_event_on};
 ghost use Rattle.rb_node.specs.LineAnswers.{question_on};
 ghost use Rattle.rb_capi.specs.Sites.{AnswersSiteLine, IsNoEntryLine, IsWrongEntry, ReplaysEntryLine, first_kept};
 
@@ -71,16 +71,18 @@ impl KeptSite {
         })
     }
 
-    /// Answers the line of an event or of a question, and keeps the answer's lines and the lines of its entries.
+    /// Answers the line of an event or of a question, and keeps the answer's lines and the lines of its entries. Each
+    /// event is recorded, but for one whose id is known, and for one that changes nothing and whose entry's line would
+    /// be longer than a line may be.
     ///
     /// Errors: `BadLine` if the line is none, and nothing has changed then; `OutOfMemory`.
     pub fn answer_line(&mut self, line: &[u8]) -> Result<(), NodeFault>
         ensures answered { OnOk result (AnswersSiteLine self.old self.new line.now) }
-        ensures bad { result ≡ Err NodeFault.BadLine → (event_on self.old.site.settings line.now ≡ None)
+        ensures bad { result ≡ Err NodeFault.BadLine → (asked_event_on self.old.site.settings line.now ≡ None)
             × (question_on line.now ≡ None) × (self.new ≡ self.old) }
     {
         self.node
-            .answer(line, &mut self.next_answer, &mut self.next_entries)?;
+            .answer(line, true, &mut self.next_answer, &mut self.next_entries)?;
         swap(&mut self.answer, &mut self.next_answer);
         swap(&mut self.entries, &mut self.next_entries);
         self.next_answer.clear();
@@ -90,8 +92,8 @@ impl KeptSite {
 
     /// Replays the line of the site's next entry, and keeps the line of what the entry sent, for it to be sent again.
     ///
-    /// Errors: `BadLine` if the line is no entry of this site, and nothing has changed then; `WrongReply` if the
-    /// site gives another reply, or its history is full; `OutOfMemory`.
+    /// Errors: `BadLine` if the line is no entry of this site, or has the id of an entry before, and nothing has
+    /// changed then; `WrongReply` if the site gives another reply, or its history is full; `OutOfMemory`.
     pub fn replay_line(&mut self, line: &[u8]) -> Result<(), NodeFault>
         ensures replayed { OnOk result (ReplaysEntryLine self.old self.new line.now) }
         ensures bad { result ≡ Err NodeFault.BadLine

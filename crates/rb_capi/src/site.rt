@@ -2,7 +2,7 @@
 ghost use Rattle.std.specs.Prelude.{◌≡◌, ◌≢◌, ◌<◌, ◌≤◌, ◌⊎◌, ◌↔◌, None, Some, pos};
 ghost use Rattle.rb_money.specs.Settings.{Settings};
 ghost use Rattle.rb_history.specs.Configurations.{config_on};
-ghost use Rattle.rb_node.specs.Answers.{event_on};
+ghost use Rattle.rb_node.specs.Answers.{asked_event_on};
 ghost use Rattle.rb_node.specs.LineAnswers.{question_on};
 ghost use Rattle.rb_capi.specs.Copies.{Copies};
 ghost use Rattle.rb_capi.specs.Sites.{AnswersSiteLine, IsNoEntryLine, IsWrongEntry, ReplaysEntryLine, SeenKept};
@@ -50,9 +50,14 @@ pub extern "C" fn rbbank_site_open(
 }
 
 /// Answers the line of an event, and keeps the answer's line, with its line feed, and the lines of the entries that the
-/// site recorded: these belong into its journal before anyone sees the answer. A question, `{"about":"site"}` or
+/// site recorded: these belong into its journal before anyone sees the answer. Each event is recorded, but for one that
+/// changes nothing and whose entry's line would be longer than a line may be. A question, `{"about":"site"}` or
 /// `{"resend":N}` (N 0 to 100,000,000), is answered too: it changes nothing and records nothing, and the answer to
 /// `resend` has a line before its last for each of the last N entries that sent any message.
+///
+/// A request or a batch may have an id: 1 to 64 bytes of `A-Z a-z 0-9 . _ : -`, as the member `"id"`. Answer and entry
+/// have it too. It is known once the request is made; then the same request is answered by its reply and its messages
+/// once more, `{"again":true,"id":..}`, and another one of the id by refusal 25. Neither changes or records anything.
 ///
 /// Statuses: 0; 1 if there is no site; 2 if the line is no event and no question, and then nothing has changed, the
 /// kept texts included; 4 for want of memory, which ends the site.
@@ -62,7 +67,7 @@ pub extern "C" fn rbbank_site_answer(alloc: Global, site: &mut SiteHandle, line:
         × (site.new.value ≡ Some new) × AnswersSiteLine old new line.now }
     ensures none { (result ≡ pos 1) ↔ (site.old.value ≡ None) }
     ensures bad { result ≡ pos 2 → (old : SeenKept) × (site.old.value ≡ Some old)
-        × (event_on old.site.settings line.now ≡ None) × (question_on line.now ≡ None)
+        × (asked_event_on old.site.settings line.now ≡ None) × (question_on line.now ≡ None)
         × (site.new.value ≡ site.old.value) }
     ensures ended { result ≡ pos 4 → site.new.value ≡ None }
     ensures still_none { site.old.value ≡ None → site.new.value ≡ None }
@@ -86,11 +91,12 @@ pub extern "C" fn rbbank_site_answer(alloc: Global, site: &mut SiteHandle, line:
 
 /// Replays the line of the site's next entry, as a restart does with each line of the journal behind the first. The
 /// kept answer is then the line `{"sends":[..]}` of what the entry sent, with its line feed, to be sent again, or empty
-/// if it sent nothing; and there are no kept entries.
+/// if it sent nothing; and there are no kept entries. The line of a request or a batch that was made may have its id,
+/// which is known then; a second entry of one id is a bad line.
 ///
-/// Statuses: 0; 1 if there is no site; 2 if the line is no entry of this site, and then nothing has changed; 3
-/// if the site gives another reply than the entry has, or its history is full, and 4 for want of memory, each of
-/// which ends the site.
+/// Statuses: 0; 1 if there is no site; 2 if the line is no entry of this site, or has the id of an entry before, and
+/// then nothing has changed; 3 if the site gives another reply than the entry has, or its history is full, and 4 for
+/// want of memory, each of which ends the site.
 #[unsafe(no_mangle)]
 pub extern "C" fn rbbank_site_replay(alloc: Global, site: &mut SiteHandle, line: &[u8]) -> i32
     ensures replayed { result ≡ pos 0 → (old : SeenKept) × (new : SeenKept) × (site.old.value ≡ Some old)
