@@ -1,10 +1,10 @@
 #!/usr/bin/env python3
-"""Refuses each allocation in turn: of the program on four scripts, a migration and a run of one teller, and of five
+"""Refuses each allocation in turn: of the program on four scripts, a migration and a run of one teller, and of six
 tests.
 
 usage: refuse.py PROGRAM TESTS RUNS     (what `rt run` built in crates/rbbank/out, and `rt test` in crates/rb_tests/out
                                          and crates/rb_tests_runs/out)
-       refuse.py --gate TESTS RUNS      (as `rt ci` leaves them there: four of the tests alone, and nothing is printed
+       refuse.py --gate TESTS RUNS      (as `rt ci` leaves them there: five of the tests alone, and nothing is printed
                                          if all is well)
 
 A test can't have an allocator of its own, so a small library (refuse_nth.c) is loaded before the C library. A process
@@ -16,7 +16,7 @@ if a run does otherwise, and if no run of an input was stopped on the way, or no
 A run of one teller writes nothing before it ends in status 4. Its threads take memory in an order that differs from
 run to run. If it was a link that was refused memory, one message is lost, and the other site goes on without it.
 
-The tests (crates/rb_tests/src/refused.rt, money.rt; crates/rb_tests_runs/src/scripts.rt, seats.rt):
+The tests (crates/rb_tests/src/refused.rt, money.rt; crates/rb_tests_runs/src/scripts.rt, seats.rt, asked.rt):
   refuse_each                 four rows by World::run: the world is that of the events before, and answers the rest as
                               the row says; some refusals fall inside a batch
   refuse_script               a row by run_script: what is written is a prefix of the row's replies
@@ -26,6 +26,8 @@ The tests (crates/rb_tests/src/refused.rt, money.rt; crates/rb_tests_runs/src/sc
                               made, or answered by out of memory
   refuse_seats                a row through seats: after a refusal the seat has no receipt more, and the same call is
                               answered as if it were the first
+  refuse_asked                rows of a site that is asked by lines: after a refusal it is opened again with the entries
+                              by then, and the line is answered as if it were asked for the first time
 """
 import itertools
 import os
@@ -164,7 +166,10 @@ def gate_tests(refuser, say, tests, runs):
     calls, stops = test(refuser, say, runs, "seats::refuse_seats")
     if not stops:
         sys.exit("refuse: no call of a seat was refused")
-    return each + text + room + calls
+    asked, stops = test(refuser, say, runs, "asked::refuse_asked")
+    if not stops:
+        sys.exit("refuse: no line of a site was stopped")
+    return each + text + room + calls + asked
 
 
 def main():

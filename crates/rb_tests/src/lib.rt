@@ -11,6 +11,8 @@ mod clock;
 #[cfg(test)]
 mod common;
 #[cfg(test)]
+mod counting;
+#[cfg(test)]
 mod forged;
 #[cfg(test)]
 mod forged_texts;
@@ -18,6 +20,8 @@ mod forged_texts;
 mod inbox;
 #[cfg(test)]
 mod journal;
+#[cfg(test)]
+mod journal_loop;
 #[cfg(test)]
 mod ledger;
 #[cfg(test)]

@@ -3,6 +3,10 @@
 #![tactic(auto)]
 
 #[cfg(test)]
+mod asked;
+#[cfg(test)]
+mod asked_rows;
+#[cfg(test)]
 mod audited;
 #[cfg(test)]
 mod auditor;
@@ -24,6 +28,8 @@ mod flags;
 mod gates;
 #[cfg(test)]
 mod histories;
+#[cfg(test)]
+mod ids;
 #[cfg(test)]
 mod links;
 #[cfg(test)]

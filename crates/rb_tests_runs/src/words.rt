@@ -2,7 +2,7 @@
 //! tests/cases.
 
 use crate::checks::{equal, holds};
-use rb_cli::{MOST_TELLERS, Words, read_words};
+use rb_cli::{MOST_TELLERS, Record, Words, read_words};
 use rb_money::MOST_SITES;
 use std::alloc::Global;
 use std::process::Abort;
@@ -47,19 +47,40 @@ fn numbers_are_read(rt: HostRuntime) {
 }
 
 /// A site's file is named by the text of its option, which may begin with a hyphen behind `=`, or be a hyphen alone. It
-/// is a new one if that is said, in any place.
+/// is a new one if that is said, in any place. Changes alone are recorded unless all events are asked for.
 #[test]
 fn journals_are_read(rt: HostRuntime) {
-    for (line, journal, is_new, resend) in [
-        ("site --me 15 --journal j", "j", false, None),
-        ("site --resend=0 --journal=-j --me=15", "-j", false, Some(0)),
-        ("site --me 15 --journal j --new", "j", true, None),
-        ("site --new --me=15 --journal=new", "new", true, None),
+    let changes = Record::Changes;
+    for (line, journal, is_new, resend, record) in [
+        ("site --me 15 --journal j", "j", false, None, changes),
         (
-            "site --journal - --resend 100000000 --new --me 15",
+            "site --resend=0 --journal=-j --me=15",
+            "-j",
+            false,
+            Some(0),
+            changes,
+        ),
+        ("site --me 15 --journal j --new", "j", true, None, changes),
+        (
+            "site --new --me=15 --journal=new --record changes",
+            "new",
+            true,
+            None,
+            changes,
+        ),
+        (
+            "site --record=all --me=15 --journal j",
+            "j",
+            false,
+            None,
+            Record::All,
+        ),
+        (
+            "site --journal - --resend 100000000 --new --me 15 --record all",
             "-",
             true,
             Some(100_000_000),
+            Record::All,
         ),
     ] {
         let wanted = Words::Site {
@@ -67,6 +88,7 @@ fn journals_are_read(rt: HostRuntime) {
             journal,
             is_new,
             resend,
+            record,
         };
         are_read(&rt, rt.alloc(), line, wanted);
     }
