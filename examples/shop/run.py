@@ -56,7 +56,8 @@ class Shop:
 
     def __init__(self, folder, seed):
         self.folder, self.seed, self.ports = folder, seed, free_ports(len(STORES))
-        self.processes, self.answered, self.unknown, self.lock = {}, [], 0, threading.Lock()
+        self.processes, self.answered, self.lock = {}, [], threading.Lock()
+        self.count, self.again = 0, 0  # requests, and how often one of them was asked again
 
     def journal(self, name):
         return os.path.join(self.folder, name + ".journal")
@@ -80,16 +81,17 @@ class Shop:
         return (post(self.port(name), f"/stock/{article}/{at}") or {}).get("balance")
 
     def ask(self, name, path):
-        """A client's request. Whether one without an answer was recorded is not known; the client waits then."""
-        reply = post(self.port(name), path)
+        """A client's request, by an id of its own: it is asked again, at the same store, until it is answered."""
         with self.lock:
-            if reply is None:
-                self.unknown += 1
-            else:
-                self.answered.append((name, path, reply))
-        if reply is None:
+            self.count += 1
+            asked = f"{name}-{self.count}"
+        while (reply := post(self.port(name), f"{path}?id={asked}")) is None:
             until(f"{name} is back", lambda: self.stock(name, "tea", name) is not None)
-        return reply or {}
+            with self.lock:
+                self.again += 1
+        with self.lock:
+            self.answered.append((name, path, asked, reply))
+        return reply
 
     def client(self, name, requests):
         """Buys, gives back, moves and restocks at a store."""
@@ -117,7 +119,7 @@ class Shop:
             each.start()
         for part, name in enumerate(STORES, 1):
             wanted = part * requests * len(STORES) // (len(STORES) + 1)
-            until("clients get on", lambda: len(self.answered) + self.unknown >= wanted)
+            until("clients get on", lambda: len(self.answered) >= wanted)
             self.end(name, signal.SIGKILL)
             time.sleep(0.2)
             self.start(name)
@@ -150,14 +152,16 @@ def in_order(journals):
 
 
 def is_kept(shop, entries):
-    """What each client was answered is in its store's journal."""
-    kept = collections.Counter(json.dumps([entry["site"], entry["event"], entry["reply"]]) for entry in entries)
-    for name, path, reply in shop.answered:
+    """What each client was answered is in its store's journal: one entry if it was made, else none of its id."""
+    kept = collections.defaultdict(list)
+    for entry in entries:
+        kept[entry["site"], entry.get("id")].append([entry["event"], entry["reply"]])
+    for name, path, asked, reply in shop.answered:
         word, *more = path.strip("/").split("/")
-        key = json.dumps([STORES.index(name), store.EVENTS[word](name, *more), reply])
-        if kept[key] == 0:
-            raise Failed(f"{name} answered {path} by {reply}, which its journal hasn't")
-        kept[key] -= 1
+        made = [] if "refused" in reply else [[store.EVENTS[word](name, *more), reply]]
+        found = kept[STORES.index(name), asked]
+        if found != made:
+            raise Failed(f"{name} answered {path} by {reply}, and its journal has {found}")
 
 
 def counted(entries):
@@ -214,7 +218,7 @@ def main():
     if made < len(STORES) * len(ARTICLES) or len(shop.answered) < asked.requests or cancelled == 0:
         raise Failed(f"only {made} operations by {len(shop.answered)} requests, {cancelled} taken back")
     if not asked.quiet:
-        print(f"{len(shop.answered)} requests answered, {shop.unknown} not; each store was killed once")
+        print(f"{len(shop.answered)} requests answered, asked again {shop.again} times; each store was killed once")
         print(f"{len(entries)} entries in one order: {made} sales, moves and restocks, {cancelled} of them taken back")
         print("  ".join(f"{account} {count}" for account, count in zip(accounts, known)))
     return 0

@@ -9,7 +9,8 @@ usage: store.py NAME --ports NORTH,SOUTH,WEST --journal FILE
     POST /move/tea/2/south     2 go to the store south
     GET  /stock/tea/north      how many north has, as far as this store knows
 
-Each is answered by the bank's reply. An article in a store is an account, and a piece is a cent.
+Each is answered by the bank's reply. An article in a store is an account, and a piece is a cent. A request may have an
+id of its own, as in /sell/tea/2?id=order-7: asked again by it, it is made once.
 """
 import argparse
 import http.server
@@ -108,7 +109,8 @@ class Store:
                 time.sleep(0.05)
 
     def ask(self, event):
-        """Answers a client. If that takes the token, the other stores are asked for it."""
+        """Answers a client. If that takes the token, the other stores are asked for it, and the event is given again:
+        by the same id, if it has one, since a refusal leaves none."""
         until = time.monotonic() + PATIENCE
         while True:
             reply = self.answer(json.dumps(event))
@@ -118,12 +120,12 @@ class Store:
                 post(self.ports[to], f"/token/{self.me}")
             time.sleep(0.05)
 
-    def request(self, body, word, *more):
+    def request(self, body, asked, word, *more):
         if word == "message":
             return self.answer(body)
         if word == "token":
             return self.answer(json.dumps({"pass": int(more[0])})) if time.monotonic() > self.taken + HOLD else None
-        return self.ask(EVENTS[word](self.name, *more))
+        return self.ask(EVENTS[word](self.name, *more) | ({"id": asked} if asked else {}))
 
 
 class Handler(http.server.BaseHTTPRequestHandler):
@@ -131,8 +133,9 @@ class Handler(http.server.BaseHTTPRequestHandler):
 
     def do_POST(self):
         body = self.rfile.read(int(self.headers.get("Content-Length", 0)))
+        path, _, asked = self.path.partition("?id=")
         try:
-            status, reply = 200, self.server.store.request(body, *self.path.strip("/").split("/"))
+            status, reply = 200, self.server.store.request(body, asked, *path.strip("/").split("/"))
         except (KeyError, TypeError, ValueError):
             status, reply = 400, None
         try:

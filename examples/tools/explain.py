@@ -101,7 +101,8 @@ def of_step(found, step):
     balances = saying.balances(step, found.config).replace("\u00a0", " ")
     if balances and len(found.config["accounts"]) == 1:
         balances = f"{found.config['accounts'][0][0]} {balances}"
-    return f"site {step.site}: {asked(found, step)} -> {answered(step)}{f' [{balances}]' if balances else ''}"
+    what = asked(found, step) + (f", by the id {step.id}," if step.id else "")
+    return f"site {step.site}: {what} -> {answered(step)}{f' [{balances}]' if balances else ''}"
 
 
 def of_script(found, data):
