@@ -112,7 +112,7 @@ bench: build
 
 # Sites ended at random moments and started again: three, four and five of them.
 crash: build
-	@for sites in 3 4 5; do tests/crash.py crates/rbbank/out/rbbank --kills 300 --sites $$sites || exit 1; done
+	@for sites in 3 4 5; do tests/crash.py crates/rbbank/out/rbbank --kills 200 --sites $$sites || exit 1; done
 
 # Each call of a site on its file, its input and its output at fault in turn (docs/CHANGING.md, "Beside the gate").
 disk: build

@@ -2,12 +2,15 @@
 """Ends the sites of a bank at random moments, over and over, and looks whether anything that was reported is lost.
 
 Three to five sites run as processes over pipes. Between them a router delays, reorders, repeats and loses messages;
-clients ask for everything. Processes are ended by SIGKILL at random moments, also while they start, and by a limit on
-the file's size in the middle of a write, and are started again on their journals. After each end the journal has to be
-what it was before, then the entry of each event that was answered, with that very answer, and then a first part of
-those that were given and not answered. What a site sends again as it starts has to be what its journal says it sent.
-At the end all messages are sent again and delivered: all sites then have the same balances and the same operations,
-and an audit orders the journals.
+clients ask for everything, each request by an id of its own, and ask it again at the same site until it is answered, at
+times once more. Processes are ended by SIGKILL at random moments, also while they start, and by a limit on the file's
+size in the middle of a write, and are started again on their journals. After each end the journal has to be what it was
+before, then the entry of each event that was answered and changed the site, with that very answer, and then those of a
+first part of the events that were given and not answered. What a site sends again as it starts has to be what its
+journal says it sent.
+At the end all messages are sent again and delivered: all sites then have the same balances and the same operations, an
+audit orders the journals, each request that was made has one entry at its site and no other one has any, and the bank
+has exactly the sum that the clients were told of.
 
 It prints its seed and what happened. The same seed makes the same choices, but no two runs end a process at the same
 moment. The journals stay where --folder says, or where the run fails.
@@ -31,6 +34,8 @@ LONGEST = 300  # messages on their way to a site, beyond which the router loses 
 MOST_BYTES = 40_000  # of the lines that are given at once, so that a pipe takes them
 LIMITED = 0.15  # of the starts, how many have a limit on the file's size
 AT_THE_START = 0.1  # of the ends, how many come while a site starts
+ONCE_MORE = 0.03  # of the events of clients, how many are requests that were answered before
+STARTS = 1000  # cents of each account
 ACCOUNTS = ("ann", "bob", "eve")
 
 
@@ -52,6 +57,9 @@ class Clients:
 
     def __init__(self, pick, sites):
         self.pick, self.sites, self.names, self.holder = pick, sites, [], 0
+        self.count = 0
+        self.answers = [{} for _ in range(sites)]  # of each site: the last answer to each request, by its id
+        self.operations = {}    # what requests made, by the operations' names, as their answers have them
 
     def request(self, site):
         pick, account = self.pick, self.pick.choice(ACCOUNTS)
@@ -67,13 +75,20 @@ class Clients:
             return {"interest": [account, pick.randrange(30)]}
         return {"deposit": [account, 1 + pick.randrange(900)]}
 
+    def asked(self, request):
+        """A request with an id that no other has."""
+        self.count += 1
+        return request | {"id": f"c-{self.count}"}
+
     def event(self, site):
         pick, account = self.pick, self.pick.choice(ACCOUNTS)
         other = pick.random()
+        if self.answers[site] and pick.random() < ONCE_MORE:
+            return pick.choice(list(self.answers[site].values())[-200:])[0]
         if other < 0.7:
-            return self.request(site)
+            return self.asked(self.request(site))
         if other < 0.8:
-            return {"batch": [self.request(site) for _ in range(pick.randrange(5))]}
+            return self.asked({"batch": [self.request(site) for _ in range(pick.randrange(5))]})
         if other < (0.88 if site == self.holder else 0.81):
             return {"pass": pick.randrange(self.sites)}
         if other < 0.94:
@@ -81,6 +96,19 @@ class Clients:
         if other < 0.96:
             return {"asof": [account, pick.randrange(60)]}
         return {"apply": f"B0.{1 + pick.randrange(99)}"} if other < 0.99 else {"statement": account}
+
+    def told(self, site, event, answer):
+        """Notes the answer to a request, and the operations that it made."""
+        self.answers[site][event["id"]] = (event, answer["reply"])
+        for message in answer["sends"]:
+            self.operations[message["shadow"]["name"]] = message["shadow"]
+
+    def sum(self):
+        """The cents that all accounts have together, if just these operations were made, each once."""
+        cancelled = {it.get("target") for it in self.operations.values()}
+        signs = {"deposit": 1, "interest": 1, "withdraw": -1}
+        return STARTS * len(ACCOUNTS) + sum(signs.get(it["kind"], 0) * it["amount"]
+                                            for name, it in self.operations.items() if name not in cancelled)
 
     def hear(self, site, reply):
         """Notes which operations there are to cancel, and where the token is."""
@@ -97,7 +125,7 @@ class Bank:
         self.pick = random.Random(asked.seed)
         self.sites = asked.sites or 3 + self.pick.randrange(3)
         inbox, version = self.pick.choice([40, 4096]), self.pick.choice([1, 2])
-        config = {"accounts": [[name, 1000] for name in ACCOUNTS], "inbox": inbox, "sites": self.sites,
+        config = {"accounts": [[name, STARTS] for name in ACCOUNTS], "inbox": inbox, "sites": self.sites,
                   "version": version}
         self.config = compact(config)
         self.written = compact({"blue": 10**6, "epoch": 4 * 10**9, "history": 10**8, "red": 10**6} | config)
@@ -124,14 +152,21 @@ class Bank:
         wire[at], wire[-1] = wire[-1], wire[at]
         return wire.pop()
 
+    def event(self, site):
+        """An event of the router; or of a client, which asks first what got no answer."""
+        wire = self.wires[site.number]
+        if wire and self.pick.random() < (0.5 if len(wire) < 60 else 0.95):
+            return self.arrives(wire)
+        if site.unanswered and self.pick.random() < 0.5:
+            return site.unanswered.pop(0)
+        return self.clients.event(site.number)
+
     def events(self, site):
         """One event, some, or many, that are given to a site at once: of clients and of the router."""
         number = self.pick.choice([1, 1, 1 + self.pick.randrange(8), 1 + self.pick.randrange(120)])
         given, size = [], 0
         while len(given) < number and size < MOST_BYTES:
-            wire = self.wires[site.number]
-            comes = wire and self.pick.random() < (0.5 if len(wire) < 60 else 0.95)
-            given.append(self.arrives(wire) if comes else self.clients.event(site.number))
+            given.append(self.event(site))
             size += len(compact(given[-1])) + 1
         return given
 
@@ -179,9 +214,12 @@ class Bank:
         self.lossy, self.wires = False, [[] for _ in range(self.sites)]
         for site in self.all:
             site.start()
-            site.ask([{"balance": "ann"}])
-            if not site.wait():
-                raise Failed(f"site {site.number} ended by itself: {site.ended()}")
+            left, site.unanswered = site.unanswered + [{"balance": "ann"}], []
+            while left:
+                part, left = left[:100], left[100:]
+                site.ask(part)
+                if not site.wait():
+                    raise Failed(f"site {site.number} ended by itself: {site.ended()}")
         kept = [list(wire) for wire in self.wires]
         for _ in range(200):
             if not self.deliver(kept):
@@ -210,7 +248,7 @@ class Bank:
             site.ask(asked)
             if not site.wait():
                 raise Failed(f"site {site.number} ended by itself")
-            answers.append([json.loads(line)["reply"] for line in site.wanted[-len(asked):]])
+            answers.append(site.replies[-len(asked):])
             site.close()
         if any(each != answers[0] for each in answers):
             raise Failed(f"the sites have different balances: {compact(answers)}")
@@ -219,6 +257,19 @@ class Bank:
         if any(each != operations[0] for each in operations):
             raise Failed("the sites applied different operations")
         return answers[0], len(operations[0])
+
+    def once(self, balances):
+        """Each request that was made has one entry, at its site, and no other one has any; and the sum is right."""
+        for site, answers in zip(self.all, self.clients.answers):
+            found = Counter(json.loads(line).get("id") for line in site.entries)
+            found.pop(None, None)
+            made = Counter(asked for asked, (_, reply) in answers.items() if "refused" not in reply)
+            if found != made:
+                differ = compact((found - made) + (made - found))
+                raise Failed(f"entries and answers differ at site {site.number}: {differ}")
+        total, wanted = sum(reply["balance"] for reply in balances), self.clients.sum()
+        if total != wanted:
+            raise Failed(f"the bank has {total} cents, and its clients were told of {wanted}")
 
     def audit(self):
         """Has an audit order the journals: one after another, all but the first without its first line."""
@@ -250,6 +301,7 @@ def run(asked, folder):
             bank.turn()
         bank.settle()
         balances, operations = bank.compare()
+        bank.once(balances)
         entries = bank.audit()
     finally:
         bank.stop()
@@ -257,15 +309,15 @@ def run(asked, folder):
     cents = ", ".join(f"{name} {reply['balance']}" for name, reply in zip(ACCOUNTS, balances))
     return (f"seed {asked.seed}: {bank.sites} sites, {count['events']:,} events answered, {count['kills']} kills "
             f"({count['in a write']} in a write), {count['torn']} torn ends,\n"
-            f"  {count['unreported']:,} entries recorded and not reported, {count['lost']:,} messages lost, "
-            f"{count['repeats']:,} repeats.\n"
+            f"  {count['unreported']:,} entries recorded and not reported, {count['again']:,} requests answered again, "
+            f"{count['lost']:,} messages lost, {count['repeats']:,} repeats.\n"
             f"  All sites have {cents} after {operations:,} operations; the audit orders {entries:,} entries.")
 
 
 def options():
     reader = argparse.ArgumentParser(description=__doc__, formatter_class=argparse.RawDescriptionHelpFormatter)
     reader.add_argument("program", metavar="PROGRAM", help="a built rbbank")
-    reader.add_argument("--kills", metavar="N", type=int, default=300, help="how many ends of a process, 300")
+    reader.add_argument("--kills", metavar="N", type=int, default=200, help="how many ends of a process, 200")
     reader.add_argument("--sites", metavar="N", type=int, choices=range(2, 9), help="2 to 8; else 3 to 5 by the seed")
     reader.add_argument("--seed", metavar="N", type=int, help="another seed makes other choices; else by the clock")
     reader.add_argument("--quiet", action="store_true", help="print only what failed")

@@ -188,7 +188,7 @@ class Program:
             words = {"LD_PRELOAD": self.library, "FAULT_FOLDER": folder, "FAULT_TRACE": trace, "FAULT_NTH": nth,
                      "FAULT_DONE": fault.done, "FAULT_ERRNO": fault.error, "FAULT_STAYS": fault.stays,
                      "FAULT_KILL": fault.kill}
-            process = subprocess.Popen(words_of_start(self.path, me, journal, resend), stdin=subprocess.PIPE,
+            process = subprocess.Popen(words_of_start(self.path, me, journal, resend, "all"), stdin=subprocess.PIPE,
                                        stdout=subprocess.PIPE, stderr=subprocess.PIPE, bufsize=0,
                                        env={**os.environ, **{name: str(word) for name, word in words.items()}})
             out, errors, status = talk(process, parts)
@@ -413,11 +413,12 @@ def used_twice(program):
     """A second process on a journal is refused, and changes nothing; the first goes on."""
     with tempfile.TemporaryDirectory() as folder:
         journal, config = os.path.join(folder, "journal"), (compact(BANK) + "\n").encode()
-        first = subprocess.Popen(words_of_start(program.path, 0, journal), stdin=subprocess.PIPE,
+        first = subprocess.Popen(words_of_start(program.path, 0, journal, record="all"), stdin=subprocess.PIPE,
                                  stdout=subprocess.PIPE, bufsize=0)
         first.stdin.write(config + b'{"deposit":["ann",500]}\n')
         line, before = first.stdout.readline(), read(journal)
-        second = subprocess.run(words_of_start(program.path, 0, journal), input=config, capture_output=True)
+        words = words_of_start(program.path, 0, journal, record="all")
+        second = subprocess.run(words, input=config, capture_output=True)
         same = read(journal) == before
         rest, _ = first.communicate(b'{"balance":"ann"}\n')
         fine = (second.stdout, second.stderr, second.returncode) == (b"", b"rbbank: journal is in use\n", 2)

@@ -28,10 +28,11 @@ def has_word_for_new(program):
     return b"--new" in subprocess.run([program, "site", "--help"], capture_output=True).stdout
 
 
-def words_of_start(program, me, journal, resend=None):
+def words_of_start(program, me, journal, resend=None, record=None):
     """The words that start a site on a journal, which may not be there yet."""
     words = [program, "site", "--me", str(me), "--journal", journal]
     words += [] if resend is None else ["--resend", str(resend)]
+    words += [] if record is None else ["--record", record]
     return words + (["--new"] if not os.path.exists(journal) and has_word_for_new(program) else [])
 
 
@@ -79,6 +80,21 @@ def names_of(reply):
     return [reply["applied"]] if "applied" in reply else reply.get("names", [])
 
 
+def is_recorded(event, reply):
+    """Whether an event of this reply changed the site, so that it is an entry: a refusal is, of what was held alone."""
+    if "refused" in reply:
+        return "apply" in event and reply["refused"] not in (14, 15, 23)
+    return not {"balance", "already", "stale"} & reply.keys()
+
+
+def entry(event, reply, number):
+    """The line of an entry of a site. It has the id of a request that was made."""
+    event = dict(event)
+    asked = event.pop("id", None)
+    made = {"id": asked} if asked is not None and "refused" not in reply else {}
+    return compact({"event": event, "reply": reply, "site": number} | made)
+
+
 def sent_by(reply):
     """The names of the messages that an event of this reply sent."""
     if "passed" in reply:
@@ -94,7 +110,9 @@ class Site:
         self.journal = os.path.join(bank.folder, f"{number}.journal")
         self.entries = []       # the lines behind the configuration, as the journal was last found
         self.sent = {}          # each message that it ever sent, by its name
-        self.asked, self.wanted, self.again, self.buffered = [], [], [], b""
+        self.made = {}          # the reply to each request that was made by an id
+        self.unanswered = []    # the requests with an id that got no answer
+        self.asked, self.wanted, self.replies, self.again, self.buffered = [], [], [], [], b""
 
     # ---- the process
 
@@ -108,7 +126,7 @@ class Site:
         self.process = subprocess.Popen(words, stdin=subprocess.PIPE, stdout=subprocess.PIPE, stderr=subprocess.PIPE,
                                         bufsize=0, preexec_fn=bounds, restore_signals=not ignored)
         self.limit = limit
-        self.asked, self.wanted, self.buffered = [], [], b""
+        self.asked, self.wanted, self.replies, self.buffered = [], [], [], b""
         last = self.entries if resend is None else self.entries[len(self.entries) - min(resend, len(self.entries)):]
         sent = (sent_by(json.loads(line)["reply"]) for line in last)
         self.again = [names for names in sent if names]
@@ -137,8 +155,8 @@ class Site:
                 raise Failed(f"site {self.number} wrote a line that isn't compact: {line[:200]!r}")
             if value.keys() == {"sends"} and self.again:
                 self.sends(value["sends"], self.again.pop(0))
-            elif value.keys() == {"reply", "sends", "then"} and self.asked and not self.again:
-                self.answered(value)
+            elif value.keys() - {"again", "id"} == {"reply", "sends", "then"} and self.asked and not self.again:
+                self.answered(value, json.loads(self.asked.pop(0)))
             else:
                 raise Failed(f"site {self.number} wrote {line[:200]!r}, and has to send {self.again[:1]} again")
 
@@ -151,17 +169,37 @@ class Site:
                 raise Failed(f"site {self.number} sent two messages of one name: {compact(message)}")
         self.bank.route(self.number, messages)
 
-    def answered(self, answer):
-        """An answer to the first event without one: its entry, and those of the applications, have to be there."""
-        self.wanted.append(f'{{"event":{self.asked.pop(0)},"reply":{compact(answer["reply"])},"site":{self.number}}}')
-        for reply in answer["then"]:
-            if "applied" not in reply:
-                raise Failed(f"site {self.number} refused what it held: {compact(reply)}")
-            event = compact({"apply": reply["applied"]})
-            self.wanted.append(f'{{"event":{event},"reply":{compact(reply)},"site":{self.number}}}')
+    def answered(self, answer, event):
+        """An answer to an event: its entry, if it has one, and those of the applications have to be there."""
+        reply, asked = answer["reply"], event.get("id")
+        if answer.get("id") != asked:
+            raise Failed(f"site {self.number} answered {compact(event)} by {compact(answer)[:200]}")
+        self.replies.append(reply)
+        if "again" in answer:
+            self.answered_again(answer, asked)
+        elif asked in self.made:
+            raise Failed(f"site {self.number} made {compact(event)} twice: {compact(answer)[:200]}")
+        elif is_recorded(event, reply):
+            self.wanted.append(entry(event, reply, self.number))
+        for later in answer["then"]:
+            if "applied" not in later:
+                raise Failed(f"site {self.number} refused what it held: {compact(later)}")
+            self.wanted.append(entry({"apply": later["applied"]}, later, self.number))
+        if asked is not None:
+            self.bank.clients.told(self.number, event, answer)
+        if asked is not None and "refused" not in reply:
+            self.made[asked] = reply
         self.bank.count["events"] += 1
-        self.bank.clients.hear(self.number, answer["reply"])
-        self.sends(answer["sends"], sent_by(answer["reply"]))
+        self.bank.clients.hear(self.number, reply)
+        self.sends(answer["sends"], sent_by(reply))
+
+    def answered_again(self, answer, asked):
+        """A request of this id was made before. Its reply is the first one, if that is known."""
+        self.bank.count["again"] += 1
+        if self.made.setdefault(asked, answer["reply"]) != answer["reply"]:
+            raise Failed(f"site {self.number} gave another reply to {asked}: {compact(answer)[:200]}")
+        if answer["then"] or "refused" in answer["reply"]:
+            raise Failed(f"site {self.number} answered {compact(answer)[:200]}")
 
     def wait(self):
         """Waits until all is answered. False where the process ended before."""
@@ -195,6 +233,7 @@ class Site:
         self.process.stdout.close()
         self.process.stderr.close()
         self.process = None
+        self.unanswered += [event for event in map(json.loads, self.asked) if "id" in event]
         errors = without_notes(errors)
         known = [(0, ""), (-signal.SIGKILL, "")]
         if self.limit is not None:
@@ -226,12 +265,13 @@ class Site:
         return data in (lines + b" ", b"")
 
     def look_behind(self, lines):
-        """What is behind the answered events has to be a first part of the others, with what was applied after each."""
-        waiting = iter(self.asked)
+        """What is behind the answered events has to be of a first part of the others, in their order, with what was
+        applied after each."""
+        waiting = map(json.loads, self.asked)
         for line in lines:
-            entry = json.loads(line)
-            if "applied" in entry["reply"]:
+            found = json.loads(line)
+            if "applied" in found["reply"]:
                 continue
-            if compact(entry["event"]) != next(waiting, None):
+            if all(entry(event, found["reply"], self.number) != line for event in waiting):
                 raise Failed(f"the journal of site {self.number} has an entry of no event: {line[:300]}")
             self.bank.count["unreported"] += 1

@@ -70,10 +70,12 @@ class Sites:
     def __init__(self, program):
         self.program = os.path.abspath(program)
 
-    def words(self, journal, me=0, resend=None, new=None):
-        """The words of a site. A new journal is asked for where none is there, unless `new` says otherwise."""
+    def words(self, journal, me=0, resend=None, new=None, record="all"):
+        """The words of a site. A new journal is asked for where none is there, unless `new` says otherwise. All events
+        are recorded, unless `record` says otherwise: so each line shows in the journal."""
         new = not os.path.exists(journal) if new is None else new
         more = (["--new"] if new else []) + ([] if resend is None else ["--resend", str(resend)])
+        more += [] if record is None else ["--record", record]
         return [self.program, "site", "--me", str(me), "--journal", journal, *more]
 
     def run(self, given, before=None, limit=None, signals=True, output=subprocess.PIPE, **words):
@@ -326,7 +328,8 @@ def asked_for(sites):
         yield f"a new journal over {name}", sites.run(given, before, new=True) == (b"", there, 2, before)
     with tempfile.TemporaryDirectory() as folder:
         name = os.path.join(folder, "journal")
-        for words in itertools.permutations([["--me", "0"], ["--journal", name], ["--new"], ["--resend", "7"]]):
+        asked = [["--me", "0"], ["--journal", name], ["--new"], ["--resend", "7"], ["--record", "all"]]
+        for words in itertools.permutations(asked):
             run = subprocess.run([sites.program, "site", *sum(words, [])], input=given, capture_output=True)
             yield f"words: site {' '.join(sum(words, []))}", (run.stdout, run.stderr, read(name)) == (out, b"", journal)
             os.remove(name)
