@@ -1,6 +1,7 @@
 #!/usr/bin/env python3
 """Measures `rbbank site`: events a second by lines a read, on a disk and in memory; bytes of the journal; how long a
-start takes beside an audit of the same journal; and instructions an event beside the same commands in a script.
+start takes beside an audit of the same journal; instructions an event beside the same commands in a script; and the
+memory of an id.
 
 README.md says what each number is.
 """
@@ -24,10 +25,11 @@ RECEIVED = (
 KINDS = {
     "balance": lambda n: '{"balance":"a0"}\n',
     "deposit": lambda n: '{"deposit":["a0",5]}\n',
+    "deposit-by-id": lambda n: f'{{"deposit":["a0",5],"id":"order-{n:07}"}}\n',
     "receive": lambda n: RECEIVED.format(before=n - 1, n=n),
 }
 # How many lines a client gives at once before it waits for their answers, and how many in all. None: all at once.
-READS = [(1, 2_000), (100, 50_000), (None, 200_000)]
+READS = [(1, 2_000), (64, 50_000), (1_000, 100_000), (None, 200_000)]
 COUNTED = 2_000  # events whose instructions are counted
 
 
@@ -38,6 +40,8 @@ def events(kind, count):
 
 def script(kind, count):
     """The lines of a script that has the same done at site 0. What is received has to be made first, at site 1."""
+    if kind == "deposit-by-id":
+        return script("deposit", count)
     if kind != "receive":
         return [line.replace("}\n", ',"site":0}\n') for line in events(kind, count)]
     comes = [f'{{"deliver":{n},"site":0}}\n{{"apply":"B1.{n}","site":0}}\n' for n in range(1, count + 1)]
@@ -181,19 +185,35 @@ def costs(asked):
 
 
 def restarts(asked):
-    """A row: a journal of that number of entries, a balance after each deposit, started again and audited."""
-    half = asked.entries // 2
-    pairs = [line for pair in zip(events("deposit", half), events("balance", half)) for line in pair]
-    with tempfile.TemporaryDirectory(dir=asked.memory) as folder:
-        journal = os.path.join(folder, "journal")
-        from_file(asked.program, journal, pairs, folder)
-        nothing = written(folder, [BANK])
-        # By turns, so that other work on the machine meets all of them.
-        start = words(asked.program, journal)
-        runs = [(start, nothing), (start[:-2], nothing), ([asked.program, "audit"], journal)]
-        rounds = [[seconds(*each) for each in runs] for _ in range(asked.runs)]
-        best = [min(each) for each in zip(*rounds)]
-    yield [f"{len(pairs):,}", *(f"{each:.2f}" for each in [*best, best[0] / best[2]])]
+    """A row for deposits without ids and one with: a journal of that number of entries, started again and audited."""
+    for kind in ("deposit", "deposit-by-id"):
+        with tempfile.TemporaryDirectory(dir=asked.memory) as folder:
+            journal = os.path.join(folder, "journal")
+            from_file(asked.program, journal, events(kind, asked.entries), folder)
+            nothing = written(folder, [BANK])
+            # By turns, so that other work on the machine meets all of them.
+            start = words(asked.program, journal)
+            runs = [(start, nothing), (start[:-2], nothing), ([asked.program, "audit"], journal)]
+            rounds = [[seconds(*each) for each in runs] for _ in range(asked.runs)]
+            best = [min(each) for each in zip(*rounds)]
+        yield [kind, f"{asked.entries:,}", *(f"{each:.2f}" for each in [*best, best[0] / best[2]])]
+
+
+def most_memory(command, path):
+    """The most bytes that a command has in memory at once."""
+    with open(path, "rb") as given:
+        process = subprocess.Popen(command, stdin=given, stdout=subprocess.DEVNULL)
+        return os.wait4(process.pid, 0)[2].ru_maxrss * 1024
+
+
+def memory(asked):
+    """A row: bytes of memory an event without an id and with one, and bytes an id, its text of 13 bytes too."""
+    count, taken = 200_000, []
+    for kind in ("deposit", "deposit-by-id"):
+        with tempfile.TemporaryDirectory(dir=asked.memory) as folder:
+            path = written(folder, [BANK, *events(kind, count)])
+            taken.append(most_memory(words(asked.program, os.path.join(folder, "journal")), path) / count)
+    yield [f"{count:,}", f"{taken[0]:.0f}", f"{taken[1]:.0f}", f"{taken[1] - taken[0]:.0f}"]
 
 
 def options():
@@ -221,8 +241,9 @@ def main():
     asked = options()
     table(["Kind", "Lines a read", "Events a second, disk", "Events a second, memory"], rates(asked))
     table(["Kind", "Journal's bytes an event", "Instructions an event", "In a script", "More"], costs(asked))
-    head = ["Entries", "Start, s", "Start that sends all again, s", "Audit, s", "Start by audit"]
+    head = ["Kind", "Entries", "Start, s", "Start that sends all again, s", "Audit, s", "Start by audit"]
     table(head, restarts(asked))
+    table(["Events", "Bytes of memory an event", "By an id", "An id"], memory(asked))
 
 
 if __name__ == "__main__":
