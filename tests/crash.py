@@ -10,7 +10,7 @@ first part of the events that were given and not answered. What a site sends aga
 journal says it sent.
 At the end all messages are sent again and delivered: all sites then have the same balances and the same operations, an
 audit orders the journals, each request that was made has one entry at its site and no other one has any, and the bank
-has exactly the sum that the clients were told of.
+has exactly the sum that the answers to its clients come to.
 
 It prints its seed and what happened. The same seed makes the same choices, but no two runs end a process at the same
 moment. The journals stay where --folder says, or where the run fails.
@@ -97,7 +97,7 @@ class Clients:
             return {"asof": [account, pick.randrange(60)]}
         return {"apply": f"B0.{1 + pick.randrange(99)}"} if other < 0.99 else {"statement": account}
 
-    def told(self, site, event, answer):
+    def answered(self, site, event, answer):
         """Notes the answer to a request, and the operations that it made."""
         self.answers[site][event["id"]] = (event, answer["reply"])
         for message in answer["sends"]:
@@ -269,7 +269,7 @@ class Bank:
                 raise Failed(f"entries and answers differ at site {site.number}: {differ}")
         total, wanted = sum(reply["balance"] for reply in balances), self.clients.sum()
         if total != wanted:
-            raise Failed(f"the bank has {total} cents, and its clients were told of {wanted}")
+            raise Failed(f"the bank has {total} cents, and the answers to its clients come to {wanted}")
 
     def audit(self):
         """Has an audit order the journals: one after another, all but the first without its first line."""

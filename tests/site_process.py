@@ -186,7 +186,7 @@ class Site:
                 raise Failed(f"site {self.number} refused what it held: {compact(later)}")
             self.wanted.append(entry({"apply": later["applied"]}, later, self.number))
         if asked is not None:
-            self.bank.clients.told(self.number, event, answer)
+            self.bank.clients.answered(self.number, event, answer)
         if asked is not None and "refused" not in reply:
             self.made[asked] = reply
         self.bank.count["events"] += 1
