@@ -130,10 +130,10 @@ class Answers:
                 file.write(journal.encode())
             words = [*self.program.words, "site", "--me", str(site), "--journal", path]
             run = subprocess.run(words, input=given.encode(), capture_output=True, cwd=self.program.folder)
-        told = run.stderr.decode("utf-8", "replace").replace(path, f"{site}.journal").strip()
+        errors = run.stderr.decode("utf-8", "replace").replace(path, f"{site}.journal").strip()
         if run.returncode:
-            raise bank.Stop(told or f"the site ended in {run.returncode}")
-        return [json.loads(line) for line in run.stdout.decode().splitlines()], told
+            raise bank.Stop(errors or f"the site ended in {run.returncode}")
+        return [json.loads(line) for line in run.stdout.decode().splitlines()], errors
 
     def close_books(self, data: bytes) -> str:
         """The next bank's configuration, or why the books can't be closed: the audit's line, or what is open."""

@@ -91,15 +91,15 @@ class Check:
         has = {site: dict(config["accounts"]) for site in range(config["sites"])}
         for step in found["steps"]:
             has.get(step["site"], {}).update({account: balance for account, balance, _ in step["has"]})
-        told = self.balances(config, lines, wanted)
-        same(name, "balances", has, told)
-        self.made(name, text, config, told)
+        balances = self.balances(config, lines, wanted)
+        same(name, "balances", has, balances)
+        self.made(name, text, config, balances)
 
     def made(self, name: str, text: str, config: dict[str, Any], balances: dict[int, dict[str, int]]) -> None:
         """What else is made of a script: histories, sites that start from journals, the next bank, a picture."""
         data = text.encode()
-        told = "\n".join([*self.program.run("histories", data).replies, ""])
-        same(name, "its histories", self.asked.written("histories", data), told)
+        histories = "\n".join([*self.program.run("histories", data).replies, ""])
+        same(name, "its histories", self.asked.written("histories", data), histories)
         for site in range(config["sites"]):
             again = json.loads(self.asked.crash(site, data))
             same(name, f"site {site} after a crash", dict(again["has"]), balances[site])

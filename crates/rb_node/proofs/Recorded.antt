@@ -368,8 +368,8 @@ pub still-unchanging : (all recorded : Bool) (old mid : SeenAsked) (id : List �
     → false ≡ (all && is_full old.settings (asked_state old)) → mid ≡ with_more old (map (with_id id) xs)
     → without_ids mid ≡ next_if_changes (without_ids old) e → reply ≡ reply_if_changes old.settings (asked_state old) e
     → recorded ≡ false → all ≡ true → IsUnchanging mid (entry e reply)
-still-unchanging all recorded old mid id e reply xs told spare is next given out each =
-    let here = unchanged old mid id e reply xs (sym told ∙ out) (not-full all (is_full old.settings (asked_state old)) spare each) is next given in
+still-unchanging all recorded old mid id e reply xs changed spare is next given out each =
+    let here = unchanged old mid id e reply xs (sym changed ∙ out) (not-full all (is_full old.settings (asked_state old)) spare each) is next given in
     subst (λ y. IsUnchanging y (entry e reply)) (sym here.same) here.unchanging
 
 -- a step, from what follows its event
@@ -379,16 +379,16 @@ pub stepped-by : (all recorded : Bool) (old mid new : SeenAsked) (id : List ℕ)
     → false ≡ (all && is_full old.settings (asked_state old)) → mid ≡ with_more old (map (with_id id) xs)
     → without_ids mid ≡ next_if_changes (without_ids old) e → reply ≡ reply_if_changes old.settings (asked_state old) e
     → Notes recorded all mid new id (entry e reply) entries after → StepsKept all old new id e reply entries after
-stepped-by all true old mid new id e reply xs entries after told spare is next given noted =
+stepped-by all true old mid new id e reply xs entries after changed spare is next given noted =
     subst (λ y. StepsKept all old y id e reply entries after) (sym noted.0)
-    (step-changed all old mid id e reply xs mid.settings mid.me entries after (sym told) is next given
+    (step-changed all old mid id e reply xs mid.settings mid.me entries after (sym changed) is next given
     (ap (λ (y : SeenAsked). y.settings) is) (ap (λ (y : SeenAsked). y.me) is) noted.1)
-stepped-by true false old mid new id e reply xs entries after told spare is next given short =
-    step-unchanging old mid new id e reply entries after (unchanged old mid id e reply xs (sym told) (sym spare) is next given) short
-stepped-by false false old mid new id e reply xs entries after told spare is next given noted =
+stepped-by true false old mid new id e reply xs entries after changed spare is next given short =
+    step-unchanging old mid new id e reply entries after (unchanged old mid id e reply xs (sym changed) (sym spare) is next given) short
+stepped-by false false old mid new id e reply xs entries after changed spare is next given noted =
     subst (λ y. StepsKept false old y id e reply entries after) (sym noted.0)
     (subst (λ l. StepsKept false old mid id e reply entries l) (sym noted.1)
-    (step-left-out old mid id e reply xs entries (sym told) is next given))
+    (step-left-out old mid id e reply xs entries (sym changed) is next given))
 
 -- where all are recorded and the history is full, each is refused
 pub refused-by : (all : Bool) (old : SeenAsked) (id : List ℕ) (e : Event) (entries : List ℕ)

@@ -99,34 +99,34 @@ shown_batch : (s : Settings) (t : ModelSite) (q : Result (List Shadow) Refusal) 
 shown_batch s t (Ok vs) = refl
 shown_batch s t (Err why) = shown_refused s t why
 
--- an event's reply and the number of those held tell whether it changes the site
-pub told : (s : Settings) (t : ModelSite) (e : Event) → IsShown s t (outcome_of s t e)
+-- an event's reply and the number of those held show whether it changes the site
+pub shown_outcome : (s : Settings) (t : ModelSite) (e : Event) → IsShown s t (outcome_of s t e)
 unfolding outcome_of
-told s t (Submit r) = shown_made s t (made_of s t.me t.ops t.token r)
-told s t (Batch rs) = shown_if s t (not (nat_le 1 (length rs) && nat_le (length rs) MOST_REQUESTS)) BadBatch _
+shown_outcome s t (Submit r) = shown_made s t (made_of s t.me t.ops t.token r)
+shown_outcome s t (Batch rs) = shown_if s t (not (nat_le 1 (length rs) && nat_le (length rs) MOST_REQUESTS)) BadBatch _
     (shown_batch s t (batch_of s t.me t.ops t.token 0 rs))
-told s t (Receive (ShadowMessage v)) =
+shown_outcome s t (Receive (ShadowMessage v)) =
     shown_first s t BadMessage (fault_of s v) _ (shown_known s t v (find_in t.ops v.name) _
     (shown_if s t (v.home == t.me) Conflict _ (shown_known s t v (find_in t.held v.name) _
     (shown_if s t (nat_le s.limits.inbox (length t.held) && not (is_eligible t.ops v)) InboxFull (Holds v) refl))))
-told s t (Receive (TokenOnItsWay m)) = shown_first s t (λ why. why) (refusal_of_token s.limits t.me m) _ (by (nat_le m.epoch t.token.epoch))
+shown_outcome s t (Receive (TokenOnItsWay m)) = shown_first s t (λ why. why) (refusal_of_token s.limits t.me m) _ (by (nat_le m.epoch t.token.epoch))
   where
     by : (b : Bool) → IsShown s t (cond b (Answers (Stale m.epoch)) (Takes m))
     by true = refl
     by false = refl
-told s t (Apply x) = by (find_in t.held x) refl
+shown_outcome s t (Apply x) = by (find_in t.held x) refl
   where
     by : (o : Option Shadow) → find_in t.held x ≡ o → IsShown s t (unless (λ v. cond (not (is_eligible t.ops v)) (Refuses NotReady)
         (outcome_of_check v (refusal_of_sound s t.ops v))) o (Refuses NotHeld))
     by None e = shown_refused s t NotHeld
     by (Some v) e = shown_if s t (not (is_eligible t.ops v)) NotReady _ (shown_check s t v (refusal_of_sound s t.ops v)
         (subst (λ y. find_in t.held y ≡ Some v) (sym (Lookups.found t.held x v e).1) e))
-told s t (Pass to) = shown_first s t (λ why. why) (refusal_of_pass s.sites s.limits t.me t.token to)
+shown_outcome s t (Pass to) = shown_first s t (λ why. why) (refusal_of_pass s.sites s.limits t.me t.token to)
     (Passes (pass_message t.token to (red_count t.ops))) refl
-told s t (Balance a) = shown_if s t (not (is_account s a)) UnknownAccount (Answers (BalanceIs (cents (bal s t.ops a)))) refl
-told s t (AsOf a n) = shown_if s t (not (is_account s a)) UnknownAccount _
+shown_outcome s t (Balance a) = shown_if s t (not (is_account s a)) UnknownAccount (Answers (BalanceIs (cents (bal s t.ops a)))) refl
+shown_outcome s t (AsOf a n) = shown_if s t (not (is_account s a)) UnknownAccount _
     (shown_if s t (nat_lt (length t.ops) n) PositionBeyond (Answers (BalanceIs (cents (bal s (take n t.ops) a)))) refl)
-told s t (AskStatement a) = shown_if s t (not (is_account s a)) UnknownAccount (Shows a) refl
+shown_outcome s t (AskStatement a) = shown_if s t (not (is_account s a)) UnknownAccount (Shows a) refl
 
 -- what follows an event's outcome shows whether it changes the site
 pub shown_by : (keeps : Bool) (old now : SiteState) (before after : List Message) (e : Event) (a : NotedReply) (later held : ℕ) (is : Bool) →
@@ -137,4 +137,4 @@ shown_by keeps old now before after e a later held is follows then first seen =
     ∙ ap (λ n. shows_change (nat_lt n held) a.reply) (then ∙ ap (λ (z : SiteState). length z.site.held) follows.0)
     ∙ ap (λ n. shows_change (nat_lt (length (changed old.site (outcome_of old.settings old.site e)).held) n) a.reply) first
     ∙ ap (shows_change (fewer_after old.site (outcome_of old.settings old.site e))) follows.1.0
-    ∙ told old.settings old.site e
+    ∙ shown_outcome old.settings old.site e

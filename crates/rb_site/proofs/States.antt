@@ -132,10 +132,10 @@ stays keeps old now before after o a none follows = follows.0 ∙ ap (λ t. reco
 -- whether an event changes the site is whether it changes the state that the history leads to
 pub changes_seen : (x y : SeenSite) (old : SiteState) (e : Event) (is b : Bool) → x ≡ y → IsStanding x old →
     is ≡ changes (outcome_of old.settings old.site e) → is ≡ b → changes_site y.settings (state_of y) e ≡ b
-changes_seen x y old e is b same standing told h =
+changes_seen x y old e is b same standing shown h =
     ap (λ (z : SeenSite). changes_site z.settings (state_of z) e) (sym same)
     ∙ sym (ap changes (comes_alike x old e standing))
-    ∙ sym told ∙ h
+    ∙ sym shown ∙ h
 
 -- the site after an event that changes it
 pub next_changed : (x : SeenSite) (e : Event) → changes_site x.settings (state_of x) e ≡ true → next_if_changes x e ≡ next_site x e

@@ -9,9 +9,9 @@ use std::test::Fail;
 
 /// Answers each line, and adds none to the journal.
 #[derive(Drop)]
-struct Telling;
+struct Answering;
 
-impl JournaledResponder for Telling {
+impl JournaledResponder for Answering {
     ghost use Rattle.std.specs.Prelude.{◌≡◌, [], codes};
 
     ghost State = { Unit {0} };
@@ -20,7 +20,7 @@ impl JournaledResponder for Telling {
 
     ghost lines = { λ _. [] };
 
-    ghost answers = { λ _ _ _ added text _. (added ≡ []) × (text ≡ codes "told\n") };
+    ghost answers = { λ _ _ _ added text _. (added ≡ []) × (text ≡ codes "answered\n") };
 
     fn answer_line(
         &mut self,
@@ -29,16 +29,16 @@ impl JournaledResponder for Telling {
         _batch: &mut LineBatch,
         text: &mut Vec<u8>,
     ) -> Result<(), AllocError> {
-        text.extend_from_slice(b"told\n")
+        text.extend_from_slice(b"answered\n")
     }
 
     fn answer_long(&mut self, _number: u64, text: &mut Vec<u8>) -> Result<(), AllocError> {
-        text.extend_from_slice(b"told\n")
+        text.extend_from_slice(b"answered\n")
     }
 }
 
 /// Answers these lines over an empty journal. How often its file was written and synced before, and the journal then.
-fn told(alloc: Global, lines: &[u8]) -> Result<((u32, u32), Journal<Counting<Memory>>), Fail> {
+fn served(alloc: Global, lines: &[u8]) -> Result<((u32, u32), Journal<Counting<Memory>>), Fail> {
     let host = Counting {
         host: Memory::new(alloc, Vec::new(alloc)),
         writes: 0,
@@ -51,7 +51,7 @@ fn told(alloc: Global, lines: &[u8]) -> Result<((u32, u32), Journal<Counting<Mem
             let mut reader = FromBytes::new(lines);
             serve(
                 alloc,
-                &mut Telling,
+                &mut Answering,
                 &mut journal,
                 &mut buffers,
                 1,
@@ -65,12 +65,12 @@ fn told(alloc: Global, lines: &[u8]) -> Result<((u32, u32), Journal<Counting<Mem
 
 #[test]
 fn lines_that_add_nothing_wait_for_no_disk(rt: HostRuntime) -> Result<(), Fail> {
-    let (before, journal) = told(rt.alloc(), b"one\ntwo\nthree\n")?;
+    let (before, journal) = served(rt.alloc(), b"one\ntwo\nthree\n")?;
     equal(&rt, (journal.host.writes, journal.host.syncs), before);
     equal(
         &rt,
         journal.host.host.output(),
-        b"told\ntold\ntold\n".as_slice(),
+        b"answered\nanswered\nanswered\n".as_slice(),
     );
     Ok(())
 }

@@ -241,7 +241,7 @@ fn parse_object<'a>(
 }
 
 /// An event, as the one member of an object, in its place, and what follows it. It may be any where there is none. The
-/// first letter and the fourth of its key tell a message that comes from an event of the site's own.
+/// first letter and the fourth of its key distinguish a message that comes from an event of the site's own.
 pub fn parse_event<'a>(
     alloc: Global,
     config: &Config,
@@ -326,7 +326,7 @@ fn parse_no_more(rest: &str) -> Option<&str>
 }
 
 /// The event of a line as it is written, in its place, and its id: no text if it has none. The first letter and the
-/// fourth of the first key tell a message that comes, and an id, from an event of the site's own.
+/// fourth of the first key distinguish a message that comes, and an id, from an event of the site's own.
 pub fn parse_asked_line<'a>(
     alloc: Global,
     config: &Config,

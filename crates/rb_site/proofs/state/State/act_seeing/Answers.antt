@@ -1,4 +1,4 @@
--- The reply and the number of those held tell whether the event changed the state.
+-- The reply and the number of those held show whether the event changed the state.
 use Rattle.std.proofs.Common.{◌∙◌, ap, length}
 use Rattle.rb_site.specs.States.{SiteState, noting}
 use Rattle.rb_site.proofs.ShownChange.{shown_by}
