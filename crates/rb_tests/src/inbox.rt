@@ -216,3 +216,26 @@ fn ready_by_home_and_colour(rt: HostRuntime) {
     take_first(&rt, &mut inbox, &mut clock, deposit(2, 1));
     equal(&rt, inbox.ready(&clock), None);
 }
+
+/// What `check` answers is what `put` would, and nothing is held by it. A shadow that is ready is welcome though the
+/// inbox is full.
+#[test]
+fn checked_as_it_would_be_put(rt: HostRuntime) {
+    let mut inbox = Inbox::open(rt.alloc(), 1);
+    let clock = Clock::zero();
+    let waits = deposit(1, 2);
+    equal(&rt, inbox.check(&waits, &clock), Ok(PutAnswer::Held));
+    equal(&rt, inbox.len(), 0);
+    put_new(&rt, &mut inbox, waits);
+    equal(&rt, inbox.check(&waits, &clock), Ok(PutAnswer::Already));
+    let other = Shadow { amount: 6, ..waits };
+    equal(&rt, inbox.check(&other, &clock), Err(Refusal::Conflict));
+    let more = inbox.check(&deposit(2, 2), &clock);
+    equal(&rt, more, Err(Refusal::InboxFull));
+    equal(
+        &rt,
+        inbox.check(&deposit(1, 1), &clock),
+        Ok(PutAnswer::Held),
+    );
+    equal(&rt, inbox.len(), 1);
+}
