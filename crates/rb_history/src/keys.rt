@@ -88,6 +88,9 @@ macro_rules! word {
     (fault [$($done:literal)*] $($rest:tt)*) => { $crate::keys::spell!(@ [$($done)* "fault"] $($rest)*) };
     (next [$($done:literal)*] $($rest:tt)*) => { $crate::keys::spell!(@ [$($done)* "next"] $($rest)*) };
     (stuck [$($done:literal)*] $($rest:tt)*) => { $crate::keys::spell!(@ [$($done)* "stuck"] $($rest)*) };
+    (open [$($done:literal)*] $($rest:tt)*) => { $crate::keys::spell!(@ [$($done)* "open"] $($rest)*) };
+    (lacks [$($done:literal)*] $($rest:tt)*) => { $crate::keys::spell!(@ [$($done)* "lacks"] $($rest)*) };
+    (limit [$($done:literal)*] $($rest:tt)*) => { $crate::keys::spell!(@ [$($done)* "limit"] $($rest)*) };
 }
 
 pub(crate) use behind_quote;

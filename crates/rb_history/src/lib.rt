@@ -1,5 +1,5 @@
 //! Lines as JSON: of scripts, their configuration, commands and replies; of histories, their entries; and the verdicts
-//! of an audit.
+//! of an audit, or of closing the books.
 //!
 //! They are written in [`write`]. There are two readers: `fast` reads in one pass what is spelled as programs spell it,
 //! and `read` the JSON value of any line. In `lines` a line is given to the first, and then to the second.
@@ -42,7 +42,7 @@ pub use write::entry::{append_asked_line, append_line, write_line};
 pub use write::event::append_event;
 pub use write::reply::{append_reply, append_value, write_reply};
 pub use write::shadow::append_deps;
-pub use write::verdict::{order_line, stuck_line, wrong_reply_line};
+pub use write::verdict::{limit_line, open_line, order_line, stuck_line, wrong_reply_line};
 
 /// Each command is read from its JSON object.
 pub fn commands_are_read()

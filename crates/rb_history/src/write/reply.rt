@@ -22,7 +22,7 @@ const LISTED: usize = 18;
 
 /// A name, behind a comma where it is wanted.
 #[inline(always)]
-fn append_listed(out: &mut Vec<u8>, comma: bool, name: OpName) -> Result<(), AllocError>
+pub fn append_listed(out: &mut Vec<u8>, comma: bool, name: OpName) -> Result<(), AllocError>
     ensures { Adds result out.old.items out.new.items (cond comma (codes ",") [] ++ compact_text (name_json name)) }
 {
     let at = out.len();
