@@ -1,3 +1,4 @@
 -- What other crates cite.
 pub mod Lines
 pub mod Moments
+pub mod Seals

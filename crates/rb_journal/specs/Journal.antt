@@ -2,7 +2,7 @@
 use Rattle.std.specs.Prelude.{◌≡◌, ◌⊎◌, ◌≤◌, ℕ, List, [], ◌∷◌, ◌++◌, length}
 use Rattle.std.specs.List.{concat}
 use Rattle.rb_journal.specs.Host.{Only, AddsPrefix, Cut}
-use Rattle.rb_journal.specs.Lines.{recovered, at_rest}
+use Rattle.rb_journal.specs.Lines.{recovered, at_rest, sealed}
 use Rattle.rb_journal.specs.declared.journal.Journal.{Journal}
 
 -- the file is whole lines and a closed gate, all of it on the disk, and no call has failed
@@ -39,3 +39,7 @@ IsAppended lines batch c = HasClosedGate lines (length batch) c ⊎ (c ≡ at_re
 abbrev pub IsRepaired : List ℕ → List ℕ → Type 0
 IsRepaired file c = Cut (length (concat (recovered file))) file c
     ⊎ (c ≡ concat (recovered file) ++ 32 ∷ []) ⊎ (c ≡ concat (recovered file) ++ 0 ∷ [])
+
+-- the file is as it was, or its lines are sealed, and this was put out
+abbrev pub IsSealedOrNot : List ℕ → List ℕ → List ℕ → List ℕ → Type 0
+IsSealedOrNot file output c d = ((c ≡ file) ⊎ (c ≡ sealed (recovered file))) × (d ≡ output)

@@ -62,6 +62,14 @@ IsBatch bytes = concat (recovered bytes) ≡ bytes
 abbrev pub at_rest : List (List ℕ) → List ℕ
 at_rest lines = concat lines ++ 32 ∷ []
 
+-- the lines, and then, in the place of the gate, the seal, a TAB (9)
+abbrev pub sealed : List (List ℕ) → List ℕ
+sealed lines = concat lines ++ 9 ∷ []
+
+-- a file is sealed: it has a line, and it is its lines and the seal, and nothing else
+abbrev pub IsSealed : List ℕ → Type 0
+IsSealed file = (recovered file ≢ []) × (file ≡ sealed (recovered file))
+
 -- a line without its LF: it begins with `{`, and no byte of it is an LF
 pub record IsLine (line : List ℕ) : Type 0 where
   pub begins : slice_index line 0 ≡ 123

@@ -39,6 +39,7 @@ impl<H: Host> Journal<H> {
         ensures settled { IfOk result (λ journal. IsSettled H.is_usable H.content H.may_leave journal) }
         ensures lines { IfOk result (λ journal. recovered (H.content journal.host) ≡ recovered bytes.now) }
         ensures output { IfOk result (λ journal. H.output journal.host ≡ H.output host) }
+        ensures output_err { IfErr result (λ e. H.output e.1 ≡ H.output host) }
 
         // The bytes that are cut off are kept before, unless they are a bare gate.
         ensures kept { IfOk result (λ journal. H.kept journal.host ≡ H.kept host ++ what_is_cut bytes.now) }

@@ -7,7 +7,9 @@
 //! [`serve`] answers the lines of a reader by a [`JournaledResponder`], whose state is the run of a journal's lines:
 //! what a read brings is answered, its entries go to the disk together, and then the answers are put out. So nothing
 //! is put out that a crash takes back.
-//! Tests: rb_tests, journal.rt; tests/sites.py, tests/crash.py.
+//!
+//! A journal can be sealed ([`is_sealed`]): it is then never written again.
+//! Tests: rb_tests, journal.rt, journal_seal.rt; tests/sites.py, tests/crash.py.
 #![tactic(auto)]
 
 mod batch;
@@ -26,6 +28,7 @@ mod open_error;
 mod read_on;
 mod responder;
 mod run;
+mod seal;
 mod spare;
 mod waiting;
 mod work;
@@ -40,3 +43,4 @@ pub use memory::Memory;
 pub use open_error::OpenError;
 pub use responder::JournaledResponder;
 pub use run::serve;
+pub use seal::is_sealed;

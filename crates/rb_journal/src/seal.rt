@@ -1,0 +1,86 @@
+//! A journal that is never written again: the closed gate behind its lines becomes the seal, a TAB. It is one byte, as
+//! blank to a reader as the gate, and no crash of an append or of a repair leaves it. So a file is sealed or it isn't,
+//! and a copy from before isn't.
+ghost use Rattle.std.specs.Prelude.{◌≡◌, ◌≢◌, ◌<◌, ◌≤◌, ◌↔◌, [], ◌∷◌, length, IfErr, IfOk};
+ghost use Rattle.std.specs.Prelude.{IsErrOf, IsTrue, MatchResult, OnOk};
+ghost use Rattle.std.specs.List.{concat};
+ghost use Rattle.rb_journal.specs.Host.{LeavesOnly, Only};
+ghost use Rattle.rb_journal.specs.Lines.{recovered, at_rest, sealed, IsSealed};
+ghost use Rattle.rb_journal.specs.Journal.{IsSealedOrNot, IsSettled};
+
+use crate::{Host, HostError, Journal, end_of_lines};
+
+// Whether these bytes are the seal.
+fn is_seal(rest: &[u8]) -> bool
+    ensures { IsTrue result ↔ rest.now ≡ 9 ∷ [] }
+{
+    match rest {
+        [b] => *b == b'\t',
+        _ => false,
+    }
+}
+
+/// Whether a file of these bytes is sealed: lines, and behind them the seal and nothing else.
+pub fn is_sealed(bytes: &[u8]) -> bool
+    ensures { IsTrue result ↔ IsSealed bytes.now }
+{
+    let end = end_of_lines(bytes);
+    end > 0 && is_seal(&bytes[end..])
+}
+
+// Writes the seal in the place of the gate, and waits for the disk.
+fn write_seal<H: Host>(host: &mut H, end: usize) -> Result<(), HostError>
+    requires usable { H.is_usable host.old }
+    requires rest { H.content host.old ≡ at_rest (recovered (H.content host.old)) }
+    requires end { end ≡ length (concat (recovered (H.content host.old))) }
+    requires durable { Only (H.content host.old) (H.may_leave host.old) }
+    ensures usable { OnOk result (H.is_usable host.new) }
+    ensures sealed { OnOk result (H.content host.new ≡ sealed (recovered (H.content host.old))) }
+    ensures durable { OnOk result (Only (H.content host.new) (H.may_leave host.new)) }
+    ensures output { H.output host.new ≡ H.output host.old }
+    ensures any_moment { LeavesOnly H.moment H.left_since host.old host.new
+        (IsSealedOrNot (H.content host.old) (H.output host.old)) }
+    ensures later { H.faults host.old ≤ H.faults host.new }
+    ensures failed { IsErrOf result HostError.DiskFailed → H.faults host.old < H.faults host.new }
+    ensures no_output_fault { IsErrOf result HostError.OutputFailed → ⊥ }
+    ensures full { IsErrOf result HostError.Full → ⊥ }
+{
+    host.write_at(end, b"\t")?;
+    host.sync()?;
+    Ok(())
+}
+
+impl<H: Host> Journal<H> {
+    /// Seals a journal that has a line: `is_sealed` of its file from then on. It is one write of one byte, and one
+    /// sync. An `Err` gives the host back, whose file is sealed or isn't: open it again.
+    pub fn seal(self) -> Result<H, (HostError, H)>
+        requires settled { IsSettled H.is_usable H.content H.may_leave self }
+        requires lines { recovered (H.content self.host) ≢ [] }
+
+        ensures usable { IfOk result (λ host. H.is_usable host) }
+        ensures sealed { IfOk result (λ host. H.content host ≡ sealed (recovered (H.content self.host))) }
+        ensures is_sealed { IfOk result (λ host. IsSealed (H.content host)) }
+        ensures durable { IfOk result (λ host. Only (H.content host) (H.may_leave host)) }
+        ensures output { MatchResult result (λ host. H.output host ≡ H.output self.host)
+            (λ e. H.output e.1 ≡ H.output self.host) }
+
+        // A crash at any moment leaves the file as it was, or sealed.
+        ensures any_moment { IfOk result (λ host. LeavesOnly H.moment H.left_since self.host host
+            (IsSealedOrNot (H.content self.host) (H.output self.host))) }
+        ensures any_moment_err { IfErr result (λ e. LeavesOnly H.moment H.left_since self.host e.1
+            (IsSealedOrNot (H.content self.host) (H.output self.host))) }
+
+        // It doesn't give up by itself.
+        ensures later { MatchResult result (λ host. H.faults self.host ≤ H.faults host)
+            (λ e. H.faults self.host ≤ H.faults e.1) }
+        ensures failed { IfErr result (λ e. e.0 ≡ HostError.DiskFailed → H.faults self.host < H.faults e.1) }
+        ensures no_output_fault { IfErr result (λ e. e.0 ≡ HostError.OutputFailed → ⊥) }
+        ensures full { IfErr result (λ e. e.0 ≡ HostError.Full → ⊥) }
+    {
+        let Journal { mut host, end } = self;
+        match write_seal(&mut host, end) {
+            Ok(()) => Ok(host),
+            Err(error) => Err((error, host)),
+        }
+    }
+}
