@@ -15,7 +15,7 @@ use Rattle.rb_run_site.specs.Runs.{AreBytesBehind, HasAnswered, IsNewOrAnswered,
 use Rattle.rb_run_site.specs.Starts.{IsBehind, Starts, WaitsBehind}
 use Rattle.rb_run_site.specs.declared.fault.SiteFault.{SiteFault}
 use Rattle.rb_run_site.specs.declared.fault.SiteFault.TheVariants.{NoConfig, BadConfig, NoSite, AnotherJournal, BadEntry, WrongReply}
-use Rattle.rb_run_site.specs.declared.fault.SiteFault.TheVariants.{Damaged, NoJournal, JournalThere, InUse}
+use Rattle.rb_run_site.specs.declared.fault.SiteFault.TheVariants.{Damaged, NoJournal, JournalThere, InUse, Sealed}
 use Rattle.rb_run_site.specs.declared.fault.SiteFault.TheVariants.{LongLine, Read, Write, Journal, OutOfMemory}
 
 -- the bytes behind the configuration's line are what waits and what is still to be read
@@ -35,7 +35,7 @@ module _ (all : Bool) (me most number : ℕ) (input left : Option (List ℕ)) (f
     (x : SeenAsked) (first sends : List ℕ)
     (opens : OpensSite config me most file x first sends) (waits : IfSome input (WaitsBehind config number pending left)) where
   -- the site that was opened is the one that the input and the journal say
-  starts : Starts me input (recovered file) x
+  pub starts : Starts me input (recovered file) x
   starts = record {
     config = config;
     is_of = opens.is_of;
@@ -98,6 +98,7 @@ ran A B stops (Err AnotherJournal) so a = absurd a
 ran A B stops (Err (BadEntry k)) so a = absurd a
 ran A B stops (Err (WrongReply k)) so a = absurd a
 ran A B stops (Err (Damaged k)) so a = absurd a
+ran A B stops (Err Sealed) so a = absurd a
 ran A B stops (Err Write) so a = tt
 ran A B stops (Err Journal) so a = tt
 ran A B stops (Err OutOfMemory) so a = tt
@@ -115,6 +116,7 @@ stopped_there A stops AnotherJournal is at = at
 stopped_there A stops (BadEntry k) is at = at
 stopped_there A stops (WrongReply k) is at = at
 stopped_there A stops (Damaged k) is at = at
+stopped_there A stops Sealed is at = at
 stopped_there A stops (LongLine k) is at = at
 stopped_there A stops Read is at = inr at
 stopped_there A stops OutOfMemory is at = tt

@@ -11,7 +11,7 @@ use Rattle.rb_run_site.specs.Openings.{EndsFile, EndsNode, IsOpeningCause}
 use Rattle.rb_run_site.specs.Starts.{IsOf}
 use Rattle.rb_run_site.specs.declared.fault.SiteFault.{SiteFault}
 use Rattle.rb_run_site.specs.declared.fault.SiteFault.TheVariants.{NoConfig, BadConfig, NoSite, AnotherJournal, BadEntry, WrongReply}
-use Rattle.rb_run_site.specs.declared.fault.SiteFault.TheVariants.{Damaged, LongLine, Read, OutOfMemory}
+use Rattle.rb_run_site.specs.declared.fault.SiteFault.TheVariants.{Damaged, LongLine, Read, OutOfMemory, Sealed}
 use Rattle.rb_run_site.proofs.Configured.{next_line}
 
 -- what waits at the front is the input's first line
@@ -53,6 +53,7 @@ module _ (me : ℕ) (input left : Option (List ℕ)) (file : List ℕ) (number :
   node_cause (BadEntry n) ends = absurd ends
   node_cause (WrongReply n) ends = absurd ends
   node_cause (Damaged n) ends = absurd ends
+  node_cause Sealed ends = absurd ends
   node_cause (LongLine n) ends = absurd ends
   node_cause Read ends = absurd ends
   node_cause _ ends = tt
@@ -85,6 +86,7 @@ module _ (me : ℕ) (input left : Option (List ℕ)) (file : List ℕ) (number :
     first = first;
     holds = (old.settings, is.configured, is.within, subst (λ x. EndsFile x file (Damaged n)) begins ends);
   }
+  file_cause old is begins Sealed ends = ends
   file_cause old is begins NoConfig ends = absurd ends
   file_cause old is begins (BadConfig n) ends = absurd ends
   file_cause old is begins NoSite ends = absurd ends

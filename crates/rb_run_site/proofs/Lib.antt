@@ -6,6 +6,7 @@ mod EntryLines
 mod Going
 mod Ids
 mod NewFiles
+mod Sealing
 mod Stopped
 mod Opened
 mod Buffered

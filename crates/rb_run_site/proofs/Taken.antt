@@ -24,7 +24,8 @@ use Rattle.rb_run_site.specs.Openings.{EndsFile}
 use Rattle.rb_run_site.specs.Replays.{IsNoEntry, IsOtherwise, StopsReplay}
 use Rattle.rb_run_site.specs.Restarts.{IsFileFault}
 use Rattle.rb_run_site.specs.declared.fault.SiteFault.{SiteFault}
-use Rattle.rb_run_site.specs.declared.fault.SiteFault.TheVariants.{AnotherJournal, BadEntry, Damaged, WrongReply}
+use Rattle.rb_run_site.specs.declared.fault.SiteFault.TheVariants.{AnotherJournal, BadEntry, Damaged, Sealed, WrongReply}
+use Rattle.rb_journal.proofs.Public.Seals.{intact_unsealed}
 use Rattle.rb_run_site.proofs.EntryLines.{fed}
 use Rattle.rb_run_site.proofs.Configured.{first_replayed}
 use Rattle.rb_run_site.proofs.Ids.{unknown_before}
@@ -176,6 +177,7 @@ not_at_fault x file lines intact is read once (BadEntry n) of (entries, begins, 
     no_bad_entry x file entries n (record { lines_are = lines; replayed = is; read = read; once = once }) begins stop
 not_at_fault x file lines intact is read once (WrongReply n) of (entries, begins, stop) =
     no_wrong_reply x file entries n (record { lines_are = lines; replayed = is; read = read; once = once }) begins stop
+not_at_fault x file lines intact is read once Sealed of ends = intact_unsealed file intact ends
 not_at_fault x file lines intact is read once _ of ends = absurd of
 
 -- nor is a new journal
@@ -190,4 +192,5 @@ new_not_at_fault old file (none, inr is) (Damaged n) of (inl ends) = omega (arit
 new_not_at_fault old file (none, is) (Damaged n) of (inr ends) = absurd (cc (none, ends.lines_are))
 new_not_at_fault old file (none, is) (BadEntry n) of (entries, begins, stop) = absurd (cc (none, begins.0))
 new_not_at_fault old file (none, is) (WrongReply n) of (entries, begins, stop) = absurd (cc (none, begins.0))
+new_not_at_fault old file (none, is) Sealed of ends = ends.0 none
 new_not_at_fault old file new _ of ends = absurd of

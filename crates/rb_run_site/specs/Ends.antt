@@ -13,7 +13,7 @@ use Rattle.rb_run_site.specs.Runs.{AreBytesBehind}
 use Rattle.rb_run_site.specs.Starts.{Starts}
 use Rattle.rb_run_site.specs.declared.fault.SiteFault.{SiteFault}
 use Rattle.rb_run_site.specs.declared.fault.SiteFault.TheVariants.{NoConfig, BadConfig, NoSite, AnotherJournal, BadEntry, WrongReply}
-use Rattle.rb_run_site.specs.declared.fault.SiteFault.TheVariants.{Damaged, NoJournal, JournalThere, InUse}
+use Rattle.rb_run_site.specs.declared.fault.SiteFault.TheVariants.{Damaged, NoJournal, JournalThere, InUse, Sealed}
 use Rattle.rb_run_site.specs.declared.fault.SiteFault.TheVariants.{LongLine, Read, Write, Journal, OutOfMemory}
 
 -- these were the turns of a site, which records all events or those that change it: their entries are in the journal
@@ -66,6 +66,7 @@ RunsTo answers stops (Err AnotherJournal) = stops AnotherJournal
 RunsTo answers stops (Err (BadEntry k)) = stops (BadEntry k)
 RunsTo answers stops (Err (WrongReply k)) = stops (WrongReply k)
 RunsTo answers stops (Err (Damaged k)) = stops (Damaged k)
+RunsTo answers stops (Err Sealed) = stops Sealed
 RunsTo answers stops (Err Write) = Unit {0}
 RunsTo answers stops (Err Journal) = Unit {0}
 RunsTo answers stops (Err OutOfMemory) = Unit {0}

@@ -5,7 +5,7 @@ use Rattle.rb_journal.specs.declared.fault.ServeFault.TheVariants.{Read as NotRe
 use Rattle.rb_journal.specs.declared.fault.ServeFault.TheVariants.{Write as NotWritten, Journal as DiskFailed, OutOfMemory as NoMemory}
 use Rattle.rb_run_site.specs.declared.fault.SiteFault.{SiteFault}
 use Rattle.rb_run_site.specs.declared.fault.SiteFault.TheVariants.{NoConfig, BadConfig, NoSite, AnotherJournal, BadEntry, WrongReply}
-use Rattle.rb_run_site.specs.declared.fault.SiteFault.TheVariants.{Damaged, NoJournal, JournalThere, InUse}
+use Rattle.rb_run_site.specs.declared.fault.SiteFault.TheVariants.{Damaged, NoJournal, JournalThere, InUse, Sealed}
 use Rattle.rb_run_site.specs.declared.fault.SiteFault.TheVariants.{LongLine, Read, Write, Journal, OutOfMemory}
 
 -- a fault of a run over lines is one of a site's
@@ -25,6 +25,7 @@ IsOpeningFault AnotherJournal = Unit {0}
 IsOpeningFault (BadEntry n) = Unit {0}
 IsOpeningFault (WrongReply n) = Unit {0}
 IsOpeningFault (Damaged n) = Unit {0}
+IsOpeningFault Sealed = Unit {0}
 IsOpeningFault (LongLine n) = Unit {0}
 IsOpeningFault Read = Unit {0}
 IsOpeningFault OutOfMemory = Unit {0}
@@ -54,6 +55,7 @@ site_reason_of (Damaged n) = codes "journal line " ++ decimal n ++ codes ": dama
 site_reason_of NoJournal = codes "no journal"
 site_reason_of JournalThere = codes "there is a journal"
 site_reason_of InUse = codes "journal is in use"
+site_reason_of Sealed = codes "journal is sealed"
 site_reason_of (LongLine n) = codes "line " ++ decimal n ++ codes ": line too long"
 site_reason_of Read = codes "read failed"
 site_reason_of Write = codes "write failed"
@@ -74,6 +76,7 @@ site_status_of (Damaged n) = 2
 site_status_of NoJournal = 2
 site_status_of JournalThere = 2
 site_status_of InUse = 2
+site_status_of Sealed = 2
 site_status_of (LongLine n) = 2
 site_status_of Read = 3
 site_status_of Write = 3

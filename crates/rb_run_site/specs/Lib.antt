@@ -8,5 +8,6 @@ pub mod Openings
 pub mod Replays
 pub mod Restarts
 pub mod Runs
+pub mod Seals
 pub mod Starts
 pub mod Steps

@@ -2,7 +2,7 @@
 use Rattle.std.specs.Prelude.{◌≡◌, ◌⊎◌, ◌≤◌, ◌<◌, ◌+◌, ℕ, List, [], ◌∷◌, length, Option, Some, None, IfSome}
 use Rattle.rb_money.specs.Settings.{Settings}
 use Rattle.rb_history.specs.Configurations.{config_on}
-use Rattle.rb_journal.specs.Lines.{IsDamaged, recovered}
+use Rattle.rb_journal.specs.Lines.{IsDamaged, IsSealed, recovered}
 use Rattle.rb_lines.specs.Lines.{lines_of}
 use Rattle.rb_site.specs.Seen.{IsReplayed}
 use Rattle.rb_history.specs.Ids.{AskedEntry}
@@ -15,7 +15,7 @@ use Rattle.rb_run_site.specs.FirstLines.{HasReadBlanks, IsBehindBlanks, IsLongFi
 use Rattle.rb_run_site.specs.Replays.{EndsReplay, GoesOnBy}
 use Rattle.rb_run_site.specs.declared.fault.SiteFault.{SiteFault}
 use Rattle.rb_run_site.specs.declared.fault.SiteFault.TheVariants.{NoConfig, BadConfig, NoSite, AnotherJournal, BadEntry, WrongReply}
-use Rattle.rb_run_site.specs.declared.fault.SiteFault.TheVariants.{Damaged, LongLine, Read, OutOfMemory}
+use Rattle.rb_run_site.specs.declared.fault.SiteFault.TheVariants.{Damaged, LongLine, Read, OutOfMemory, Sealed}
 use Rattle.rb_run_site.specs.Starts.{IsJournalOf, IsOf}
 
 -- the line that a journal is still to begin with: the configuration's, if it has no line
@@ -51,8 +51,8 @@ pub record IsDamagedBehind (old : SeenAsked) (file : List ℕ) (number : ℕ) : 
   pub damaged : IsDamaged file
   pub number_is : number ≡ length (recovered file) + 1
 
--- why a file isn't replayed: it is another's; a line of its entries isn't the site's next; or it is damaged, at its
--- beginning or behind its whole lines
+-- why a file isn't replayed: it is another's; a line of its entries isn't the site's next; it is damaged, at its
+-- beginning or behind its whole lines; or it is sealed
 abbrev pub EndsFile : SeenAsked → List ℕ → SiteFault → Type 0
 EndsFile old file AnotherJournal = IsAnother file (journal_head old.settings)
 EndsFile old file (Damaged n) = ((n ≡ 1) × IsNoBeginning file (journal_head old.settings)) ⊎ IsDamagedBehind old file n
@@ -60,6 +60,7 @@ EndsFile old file (BadEntry n) = (entries : List ℕ) × BeginsWith file (journa
     × EndsReplay old (recovered entries) (BadEntry n)
 EndsFile old file (WrongReply n) = (entries : List ℕ) × BeginsWith file (journal_head old.settings) entries
     × EndsReplay old (recovered entries) (WrongReply n)
+EndsFile old file Sealed = IsSealed file
 EndsFile old file OutOfMemory = Unit {0}
 EndsFile old file _ = ⊥
 
@@ -76,8 +77,9 @@ pub record HasFirstLine (input : Option (List ℕ)) (P : ℕ → List ℕ → Ty
   pub holds : P number line
 
 -- what a fault of the opening says of the input, of what is still to be read of it, and of the file's bytes: the input
--- has only blank lines; its first line that isn't blank is at fault, or the file is; a line is too long, and only blank
--- lines are before it; or a read failed, and each whole line that was read is blank. Each other fault says nothing
+-- has only blank lines; its first line that isn't blank is at fault, or the file is; the file is sealed; a line is too
+-- long, and only blank lines are before it; or a read failed, and each whole line that was read is blank. Each other
+-- fault says nothing
 abbrev pub IsOpeningCause : ℕ → Option (List ℕ) → Option (List ℕ) → List ℕ → SiteFault → Type 0
 IsOpeningCause me input left file NoConfig = IfSome input (λ all. not_blank (lines_of all) ≡ [])
 IsOpeningCause me input left file (BadConfig n) =
@@ -87,6 +89,7 @@ IsOpeningCause me input left file AnotherJournal = HasFirstLine input (EndsOpeni
 IsOpeningCause me input left file (BadEntry n) = HasFirstLine input (EndsOpening me file (BadEntry n))
 IsOpeningCause me input left file (WrongReply n) = HasFirstLine input (EndsOpening me file (WrongReply n))
 IsOpeningCause me input left file (Damaged n) = HasFirstLine input (EndsOpening me file (Damaged n))
+IsOpeningCause me input left file Sealed = IsSealed file
 IsOpeningCause me input left file (LongLine k) = IfSome input (IsLongFirst k)
 IsOpeningCause me input left file Read = IfSome input (HasReadBlanks left)
 IsOpeningCause me input left file _ = Unit {0}

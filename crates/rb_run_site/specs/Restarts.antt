@@ -10,7 +10,7 @@ use Rattle.rb_run_site.specs.Runs.{HasBegun, HasRun}
 use Rattle.rb_run_site.specs.Starts.{Starts}
 use Rattle.rb_run_site.specs.Steps.{AreSteps}
 use Rattle.rb_run_site.specs.declared.fault.SiteFault.{SiteFault}
-use Rattle.rb_run_site.specs.declared.fault.SiteFault.TheVariants.{AnotherJournal, BadEntry, Damaged, WrongReply}
+use Rattle.rb_run_site.specs.declared.fault.SiteFault.TheVariants.{AnotherJournal, BadEntry, Damaged, Sealed, WrongReply}
 
 -- site `me` ran and crashed, any number of times: the first run started with this site, these are the turns of all runs
 -- whose entries the file has that the last crash left. A run that changed nothing left the file that it found. Each run
@@ -38,15 +38,16 @@ abbrev pub RestartedRunsAreOne : Type 0
 RestartedRunsAreOne = (me : ℕ) (start : SeenAsked) (turns : List (Turn SeenAsked)) (file : List ℕ)
     → HasRestarted me start turns file → AreTurns AnswersEither start turns × AreSteps start turns file
 
--- the fault is one of the file's lines
+-- the fault is one of the file: of its lines, or of what is behind them
 abbrev pub IsFileFault : SiteFault → Type 0
 IsFileFault AnotherJournal = Unit {0}
 IsFileFault (BadEntry n) = Unit {0}
 IsFileFault (WrongReply n) = Unit {0}
 IsFileFault (Damaged n) = Unit {0}
+IsFileFault Sealed = Unit {0}
 IsFileFault _ = ⊥
 
--- the file that the last crash left is never at fault for a run of the same number with this configuration
+-- the file that the last crash left is never at fault, so it isn't sealed, for a run of the same number with this configuration
 abbrev pub RestartsAreTaken : Type 0
 RestartsAreTaken = (me : ℕ) (start : SeenAsked) (turns : List (Turn SeenAsked)) (file : List ℕ)
     → HasRestarted me start turns file → (config : List ℕ) (number : ℕ) (fault : SiteFault)

@@ -32,6 +32,8 @@ pub enum SiteFault {
     JournalThere,
     /// Another process has the journal.
     InUse,
+    /// The journal is sealed.
+    Sealed,
     /// Before the configuration is a line with more than `LINE_LIMIT` bytes before its line feed, or it is such a line.
     LongLine { line: u64 },
     /// A read failed, or more than `MOST_READS` were needed.
@@ -63,6 +65,7 @@ impl fmt::Display for SiteFault {
             SiteFault::NoJournal => f.write_str("no journal"),
             SiteFault::JournalThere => f.write_str("there is a journal"),
             SiteFault::InUse => f.write_str("journal is in use"),
+            SiteFault::Sealed => f.write_str("journal is sealed"),
             SiteFault::LongLine { line } => write!(f, "line {line}: line too long"),
             SiteFault::Read => f.write_str("read failed"),
             SiteFault::Write => f.write_str("write failed"),
@@ -116,6 +119,7 @@ pub fn site_status(fault: SiteFault) -> u8
         SiteFault::NoJournal => 2,
         SiteFault::JournalThere => 2,
         SiteFault::InUse => 2,
+        SiteFault::Sealed => 2,
         SiteFault::LongLine { line: _ } => 2,
         SiteFault::Read => 3,
         SiteFault::Write => 3,

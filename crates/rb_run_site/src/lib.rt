@@ -12,6 +12,7 @@ mod records;
 mod replay;
 mod responder;
 mod run;
+mod seal;
 
 ghost use Rattle.rb_run_site.specs.Asking.{AskedOnce, AskingIsServing, SameAnswer};
 ghost use Rattle.rb_run_site.specs.Restarts.{NewJournalsAreTaken, RestartedRunsAreOne, RestartsAreTaken, RestartsGoOn};
@@ -20,6 +21,7 @@ pub use fault::{SiteFault, site_message, site_status};
 pub use records::{AllEvents, Changes, Records};
 pub use responder::SiteResponder;
 pub use run::{Ran, run_site};
+pub use seal::seal_site;
 
 /// However often a site ran and crashed, each run over the file that the crash before it left: the next run starts with
 /// the very site that all turns led to whose entries the file has, and all turns are one run of a site that doesn't

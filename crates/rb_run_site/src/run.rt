@@ -3,7 +3,7 @@ ghost use Rattle.std.specs.Prelude.{◌≡◌, ◌+◌, ◌<◌, ◌≤◌, ◌^
 ghost use Rattle.std.specs.Io.KnownBytes.{IsAtEnd};
 ghost use Rattle.rb_journal.specs.Host.{LeavesOnly, Only};
 ghost use Rattle.rb_journal.specs.Journal.{IsSettled};
-ghost use Rattle.rb_journal.specs.Lines.{recovered};
+ghost use Rattle.rb_journal.specs.Lines.{IsSealed, recovered};
 ghost use Rattle.rb_lines.specs.Buffers.{Counts};
 ghost use Rattle.rb_lines.specs.declared.limits.TheConstants.{MOST_READS};
 ghost use Rattle.rb_journal.specs.Ends.{EndsAtRest, IsFull};
@@ -18,13 +18,13 @@ ghost use Rattle.rb_run_site.specs.Journals.{SiteAnswers, journal_head, journal_
 ghost use Rattle.rb_run_site.specs.Steps.{IsRunOfSteps};
 ghost use Rattle.rb_run_site.specs.Starts.{IsJournalOf};
 ghost use Rattle.rb_run_site.specs.declared.fault.SiteFault.TheVariants.{Journal as DiskFailed, Read as NotRead};
-ghost use Rattle.rb_run_site.specs.declared.fault.SiteFault.TheVariants.{Write as NotWritten};
+ghost use Rattle.rb_run_site.specs.declared.fault.SiteFault.TheVariants.{Sealed, Write as NotWritten};
 
 use crate::fault::SiteFault;
 use crate::opening::{Opened, open_site};
 use crate::records::Records;
 use rb_history::lines_are_single;
-use rb_journal::{Host, Journal, ServeFault, serve};
+use rb_journal::{Host, Journal, ServeFault, is_sealed, serve};
 use rb_lines::{Buffers, Source};
 use std::alloc::Global;
 
@@ -151,7 +151,7 @@ fn run_opened<S: Source, H: Host, M: Records>(
 /// bytes these are. What the last `resend` entries of its journal sent is put out again; then each line of the reader
 /// is an event, and is answered by a line. `M` says which events are recorded: all, or those that change the site. The
 /// bytes and what is put out again are given back before the first event is read, so a site that runs holds its history
-/// and what one read brings.
+/// and what one read brings. A file that is sealed is refused before that.
 pub fn run_site<S: Source, H: Host, M: Records>(
     alloc: Global,
     reader: &mut S,
@@ -186,6 +186,10 @@ pub fn run_site<S: Source, H: Host, M: Records>(
     ensures steps { LeavesOnly H.moment H.left_since host result.host
         (IsRunOfSteps M.ALL me resend (S.remaining reader.old) bytes.items (H.output host)) }
 
+    // A site whose journal is sealed never goes on: nothing is read, and nothing is changed.
+    ensures sealed { IsSealed bytes.items → (result.ended ≡ Err Sealed) × (result.host ≡ host)
+        × (reader.new ≡ reader.old) }
+
     // A failed read, a failed write and a failed journal are reported only for their causes, and at most `MOST_READS`
     // are made.
     ensures read { result.ended ≡ Err NotRead → (S.failed reader.new ≡ true) ⊎ (S.calls reader.new ≡ MOST_READS) }
@@ -194,6 +198,12 @@ pub fn run_site<S: Source, H: Host, M: Records>(
         ⊎ IsFullBehind M.ALL me (S.remaining reader.old) (recovered bytes.items) }
     ensures calls { S.calls reader.new ≤ MOST_READS }
 {
+    if is_sealed(&bytes) {
+        return Ran {
+            host,
+            ended: Err(SiteFault::Sealed),
+        };
+    }
     let mut buffers = Buffers::new(alloc);
     match open_site::<S, M>(alloc, &mut buffers, reader, &bytes, me, resend) {
         Ok((opened, number)) => run_opened(

@@ -13,7 +13,7 @@ use Rattle.rb_run_site.proofs.Behind.{ends_behind, full_behind, ran, run_behind,
 use Rattle.rb_run_site.proofs.Stepped.{stepped_run}
 use Rattle.rb_journal.proofs.Public.Moments.{started, weaker}
 use Rattle.rb_run_site.proofs.run.run_site.Given.{Over}
-use Rattle.rb_run_site.proofs.run.run_site.Goals.{After-run_opened, After-open_site}
+use Rattle.rb_run_site.proofs.run.run_site.Goals.{After-is_sealed, After-run_opened}
 use Rattle.rb_run_site.proofs.run.run_site.Goals as goal
 
 -- the site is opened over the file's bytes
@@ -22,7 +22,7 @@ opens : (g : Over) (c : After-run_opened g) → OpensSite c.in-Ok.ensures.opened
 opens g c =
     subst (λ f. OpensSite c.in-Ok.ensures.opened.0 c.args.me c.args.resend f c.in-Ok.opened.responder.node.site
     c.in-Ok.opened.first.items c.in-Ok.opened.sends.items)
-    c.deref.ensures.value c.in-Ok.ensures.opened.1
+    c.deref-2.ensures.value c.in-Ok.ensures.opened.1
 
 -- a crash while the opened site runs leaves a run of it
 run : (g : Over) (c : After-run_opened g) → LeavesOnly g.H.Host.moment g.H.Host.left_since c.args.host
@@ -36,7 +36,7 @@ run g c =
     c.in-Ok.opened.sends.items (opens g c) is.2 _ f d run)
 
 -- a crash before the run leaves the file and the output as they were
-still : (g : Over) (c : After-open_site g) (f d : List ℕ)
+still : (g : Over) (c : After-is_sealed g) (f d : List ℕ)
     → g.H.Host.left_since c.args.host (g.H.Host.moment c.args.host) f d
     → (f ≡ c.args.bytes.items) × (d ≡ g.H.Host.output c.args.host)
 still g c f d left =
@@ -106,7 +106,7 @@ returns-in-Err-clause-ended g c =
     stopped_there (λ e. AnswersBehind g.M.Records.ALL c.args.me c.args.resend input left (recovered file) (host.output was)
     (recovered (host.content was)) (host.output was) e × IsAtRest (host.content was) (host.may_leave was))
     (λ why. (was ≡ was) × IsOpeningCause c.args.me input left file why) c.in-Err.fault c.in-Err.ensures.only
-    (refl, subst (λ f. IsOpeningCause c.args.me input left f c.in-Err.fault) c.deref.ensures.value c.in-Err.ensures.cause)
+    (refl, subst (λ f. IsOpeningCause c.args.me input left f c.in-Err.fault) c.deref-2.ensures.value c.in-Err.ensures.cause)
 
 pub returns-in-Err-clause-any_moment : goal.returns-in-Err-clause-any_moment
 returns-in-Err-clause-any_moment g c =
@@ -114,7 +114,7 @@ returns-in-Err-clause-any_moment g c =
     let input = g.S.Source.remaining c.args.reader.now in
     started host.moment host.left_since c.args.host
     (IsSiteRun g.M.Records.ALL c.args.me c.args.resend input c.args.bytes.items (host.output c.args.host))
-    (λ f d left. inl (inl (still g (goal.at.returns-in-Err-clause-any_moment g c).After-open_site f d left)))
+    (λ f d left. inl (inl (still g (goal.at.returns-in-Err-clause-any_moment g c).After-is_sealed f d left)))
 
 pub returns-in-Err-clause-steps : goal.returns-in-Err-clause-steps
 returns-in-Err-clause-steps g c =
@@ -122,4 +122,20 @@ returns-in-Err-clause-steps g c =
     let input = g.S.Source.remaining c.args.reader.now in
     started host.moment host.left_since c.args.host
     (IsRunOfSteps g.M.Records.ALL c.args.me c.args.resend input c.args.bytes.items (host.output c.args.host))
-    (λ f d left. inl (inl (still g (goal.at.returns-in-Err-clause-steps g c).After-open_site f d left)))
+    (λ f d left. inl (inl (still g (goal.at.returns-in-Err-clause-steps g c).After-is_sealed f d left)))
+
+pub returns-then-is_sealed-clause-any_moment : goal.returns-then-is_sealed-clause-any_moment
+returns-then-is_sealed-clause-any_moment g c =
+    let host = g.H.Host in
+    let input = g.S.Source.remaining c.args.reader.now in
+    started host.moment host.left_since c.args.host
+    (IsSiteRun g.M.Records.ALL c.args.me c.args.resend input c.args.bytes.items (host.output c.args.host))
+    (λ f d left. inl (inl (still g (goal.at.returns-then-is_sealed-clause-any_moment g c).After-is_sealed f d left)))
+
+pub returns-then-is_sealed-clause-steps : goal.returns-then-is_sealed-clause-steps
+returns-then-is_sealed-clause-steps g c =
+    let host = g.H.Host in
+    let input = g.S.Source.remaining c.args.reader.now in
+    started host.moment host.left_since c.args.host
+    (IsRunOfSteps g.M.Records.ALL c.args.me c.args.resend input c.args.bytes.items (host.output c.args.host))
+    (λ f d left. inl (inl (still g (goal.at.returns-then-is_sealed-clause-steps g c).After-is_sealed f d left)))
