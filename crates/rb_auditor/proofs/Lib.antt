@@ -12,6 +12,7 @@ mod Runs
 mod Takings
 mod Following
 mod Refuting
+mod Ended
 mod Listed
 mod Counting
 mod Resting

@@ -3,6 +3,7 @@ ghost use Rattle.std.specs.Prelude.{◌≡◌, ◌<◌, ◌↔◌, ◌∷◌, []
 ghost use Rattle.rb_auditor.specs.Audits.{HasMore};
 ghost use Rattle.rb_auditor.specs.Certificates.{Certifies};
 ghost use Rattle.rb_auditor.specs.Findings.{IsFound, Refutes};
+ghost use Rattle.rb_auditor.specs.Replays.{ended_sites};
 
 use crate::auditing::find;
 use crate::notes::{Notes, no_notes};
@@ -83,6 +84,23 @@ impl Auditor {
         ensures found { IfErr result (IsFound self.settings self.histories) }
         ensures refuted { IfErr result (Refutes self.settings self.histories) }
     {
+        match self.finish_with_sites() {
+            Ok((order, sites)) => {
+                close_all(sites);
+                Ok(order)
+            }
+            Err(fault) => Err(fault),
+        }
+    }
+
+    /// The same, with the sites after their histories. They are closed by `close_all`.
+    pub fn finish_with_sites(self) -> Result<(Certificate, Vec<Site<ErasedEntry>>), AuditFault>
+        ensures certified { IfOk result (λ found. Certifies self.settings self.histories found.0) }
+        ensures sites { IfOk result (λ found. found.1.items ≡ ended_sites self.settings 0 self.histories) }
+        ensures each { IfOk result (λ found. length found.1.items ≡ self.settings.sites) }
+        ensures found { IfErr result (IsFound self.settings self.histories) }
+        ensures refuted { IfErr result (Refutes self.settings self.histories) }
+    {
         let Auditor {
             alloc,
             config,
@@ -90,8 +108,13 @@ impl Auditor {
             notes,
             store,
         } = self;
-        close_all(sites);
-        find(alloc, &config, notes.as_slice(), &store.messages)
+        match find(alloc, &config, notes.as_slice(), &store.messages) {
+            Ok(order) => Ok((order, sites)),
+            Err(fault) => {
+                close_all(sites);
+                Err(fault)
+            }
+        }
     }
 
     /// Closes the auditor.

@@ -28,3 +28,4 @@ pub use auditing::audit;
 pub use auditor::Auditor;
 pub use certificate::Certificate;
 pub use checking::check::check;
+pub use sites::close_all;

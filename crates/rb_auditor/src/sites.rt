@@ -29,7 +29,7 @@ pub fn open_sites(alloc: Global, config: &Config) -> Result<Vec<Site<ErasedEntry
     Ok(sites)
 }
 
-/// Closes sites whose state nobody asks for.
+/// Closes sites whose state nobody asks for any more.
 pub fn close_all(mut sites: Vec<Site<ErasedEntry>>) {
     'sites: while let Some(site) = sites.pop() {
         let _report = site.close();
