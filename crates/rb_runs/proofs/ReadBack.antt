@@ -54,7 +54,8 @@ takes_entry : (s : Settings) (hs : List (List Entry)) (n : ℕ) (l : List ℕ) (
     → is_blank l ≡ false → entry_on s l ≡ Some x → input_after s hs n (l ∷ ls) ≡ input_after s (with_entry x.0 x.1 hs) (n + 1) ls
 takes_entry s hs n l ls x short some on = rw (short, some, on) refl
 
-on_utf8_config : (l : List ℕ) (s : Settings) → is_utf8 l ≡ true → config_at l ≡ Some s → config_on l ≡ Some s
+-- a line that is UTF-8 is a configuration if its text is read as one
+pub on_utf8_config : (l : List ℕ) (s : Settings) → is_utf8 l ≡ true → config_at l ≡ Some s → config_on l ≡ Some s
 unfolding config_on
 on_utf8_config l s utf8 read = rw utf8 read
 

@@ -1,5 +1,7 @@
 -- How an audit ends, and what was written by then.
 use Rattle.std.specs.Prelude.{◌≡◌, ◌⊎◌, ℕ, Bool, true, false, List, [], Option, Some, Result, Ok, Err}
+use Rattle.rb_auditor.specs.declared.audit_fault.AuditFault.{AuditFault}
+use Rattle.rb_auditor.specs.declared.audit_fault.AuditFault.TheVariants.{OutOfMemory, Stuck, WrongReply}
 use Rattle.rb_auditor.specs.Certificates.{Certifies}
 use Rattle.rb_auditor.specs.Findings.{IsFirstWrong, IsStuckAt}
 use Rattle.rb_site.specs.Histories.{AreOneWorlds}
@@ -29,6 +31,12 @@ pub record ReportsStuck (x : Input) (line : List ℕ) : Type 0 where
   pub next : List ℕ
   pub stuck : IsStuckAt x.settings x.histories next
   pub line_is : line ≡ verdict_line (stuck_json next)
+
+-- the line is that of the fault; out of memory has none
+abbrev pub IsFaultLine : AuditFault → List ℕ → Type 0
+IsFaultLine (WrongReply site event) line = line ≡ verdict_line (wrong_reply_json site event)
+IsFaultLine (Stuck next) line = line ≡ verdict_line (stuck_json next.items)
+IsFaultLine OutOfMemory line = ⊥
 
 -- the line that an audit of these histories answers, and whether it has an order: where it has none, no world has the
 -- histories

@@ -4,6 +4,11 @@ pub mod Inputs
 pub mod Silent
 pub mod Collects
 pub mod Audit
+pub mod Books
+pub mod JournalFiles
+pub mod AddedAccounts
+pub mod Closes
+pub mod BookLaws
 pub mod InputLaws
 pub mod Migration
 pub mod MigrationSession

@@ -5,15 +5,14 @@ ghost use Rattle.rb_auditor.specs.Audits.{Audited, HasMore};
 ghost use Rattle.rb_history.specs.Configurations.{config_on};
 ghost use Rattle.rb_site.specs.declared.entry.Entry.{Entry as TheEntry};
 ghost use Rattle.rb_history.specs.Entries.{entry_on};
-ghost use Rattle.rb_history.specs.declared.fault.LineFault.TheVariants.{Bad};
 ghost use Rattle.rb_lines.specs.declared.limits.TheConstants.{LINE_LIMIT};
 ghost use Rattle.rb_runs.specs.Collects.{InputEndsAt, Takes};
 
+use crate::entry::entry_of;
 use crate::fault::fault_at;
 use rb_auditor::Auditor;
-use rb_history::{LineFault, open_config, read_entry};
-use rb_lines::{Responder, ScriptFault, is_blank, text_on};
-use rb_money::Config;
+use rb_history::open_config;
+use rb_lines::{Responder, ScriptFault, is_blank};
 use rb_site::{Entry, Event, Reply};
 use std::alloc::Global;
 
@@ -22,20 +21,6 @@ use std::alloc::Global;
 pub struct Collected {
     pub auditor: Option<Auditor>,
     pub number: u64,
-}
-
-/// The entry on a line, in its place, and its site. It may be any if there is none.
-#[inline(always)]
-#[tactic(auto, unfolding(rb_history::specs::Entries::entry_on))]
-fn entry_of(alloc: Global, config: &Config, line: &[u8], entry: &mut Entry) -> Result<u8, LineFault>
-    ensures { MatchResult result
-        (λ site. (entry_on config.now line.now ≡ Some (site, entry.new)) × (site < config.now.sites))
-        (λ why. why ≡ Bad → entry_on config.now line.now ≡ None) }
-{
-    let Some(text) = text_on(line) else {
-        return Err(LineFault::Bad);
-    };
-    read_entry(alloc, config, text, entry)
 }
 
 impl Collected {

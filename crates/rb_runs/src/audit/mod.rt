@@ -3,4 +3,4 @@
 mod collected;
 pub mod laws;
 pub mod run;
-mod verdict;
+pub mod verdict;

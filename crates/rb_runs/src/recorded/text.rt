@@ -19,7 +19,11 @@ use std::alloc::{AllocError, Global};
 
 /// Buffers the line of a configuration.
 #[tactic(auto, unfolding(crate::specs::Texts::config_line))]
-fn buffer_config(alloc: Global, buffered: &mut Vec<u8>, config: &Config) -> Result<(), AllocError>
+pub fn buffer_config(
+    alloc: Global,
+    buffered: &mut Vec<u8>,
+    config: &Config,
+) -> Result<(), AllocError>
     ensures { OnOk result (buffered.new.items ≡ buffered.old.items ++ config_line config.now) }
 {
     let line = write_config(alloc, config)?;

@@ -1,6 +1,7 @@
-use Rattle.std.proofs.Common.{inl, inr, ap, subst, ◌∙◌}
-use Rattle.rb_history.specs.Verdicts.{order_json, stuck_json, verdict_line}
-use Rattle.rb_auditor.specs.Findings.{IsFound, Refutes}
+-- The order, or what shows that there is none.
+use Rattle.std.proofs.Common.{ap, ◌∙◌}
+use Rattle.rb_history.specs.Verdicts.{order_json, verdict_line}
+use Rattle.rb_runs.proofs.Faulted.{faulted}
 use Rattle.rb_runs.proofs.audit.verdict.answer.Goals as goal
 
 pub returns-in_ok-order_line-in-Ok : goal.returns-in_ok-order_line-in-Ok
@@ -10,32 +11,7 @@ returns-in_ok-order_line-in-Ok c = record {
   line_is = c.in_ok-order_line-in-Ok.ensures ∙ ap (λ o. verdict_line (order_json o)) c.as_slice.ensures;
 }
 
-pub returns-in_ok-wrong_reply_line-in-Err-WrongReply : goal.returns-in_ok-wrong_reply_line-in-Err-WrongReply
-returns-in_ok-wrong_reply_line-in-Err-WrongReply c =
-    let found =
-    subst (IsFound c.args.auditor.settings c.args.auditor.histories) c.in-Err-WrongReply.field-0-is
-    c.in-Err-WrongReply.ensures.found in
-    let refuted =
-    subst (Refutes c.args.auditor.settings c.args.auditor.histories) c.in-Err-WrongReply.field-0-is
-    c.in-Err-WrongReply.ensures.refuted in (
-      refuted,
-      inl (record {
-        site = c.in-Err-WrongReply.site;
-        event = c.in-Err-WrongReply.event;
-        first = found;
-        line_is = c.in_ok-wrong_reply_line-in-Err-WrongReply.ensures;
-      }),
-    )
-
-pub returns-in_ok-stuck_line-in-Err-Stuck : goal.returns-in_ok-stuck_line-in-Err-Stuck
-returns-in_ok-stuck_line-in-Err-Stuck c =
-    let found = subst (IsFound c.args.auditor.settings c.args.auditor.histories) c.in-Err-Stuck.field-0-is c.in-Err-Stuck.ensures.found in
-    let refuted =
-    subst (Refutes c.args.auditor.settings c.args.auditor.histories) c.in-Err-Stuck.field-0-is c.in-Err-Stuck.ensures.refuted in (
-      refuted,
-      inr (record {
-        next = c.in-Err-Stuck.next.items;
-        stuck = found;
-        line_is = c.in_ok-stuck_line-in-Err-Stuck.ensures ∙ ap (λ n. verdict_line (stuck_json n)) c.as_slice-in-Err-Stuck.ensures.value;
-      }),
-    )
+pub returns-in_ok-fault_line-in-Err : goal.returns-in_ok-fault_line-in-Err
+returns-in_ok-fault_line-in-Err c =
+    faulted (record { settings = c.args.auditor.settings; histories = c.args.auditor.histories }) c.in-Err.fault _ c.in-Err.ensures.found
+    c.in-Err.ensures.refuted c.in_ok-fault_line-in-Err.ensures

@@ -1,0 +1,78 @@
+-- Closed books are of a world at rest.
+use Rattle.std.proofs.Common.{◌≡◌, ◌≤◌, ℕ, List, Some, sym, ap, ◌∙◌, subst, arith}
+use Rattle.std.specs.Prelude.{slice_get}
+use Rattle.rb_money.specs.Settings.{IsConfigured, Settings}
+use Rattle.rb_shadow.specs.declared.shadow.Shadow.{Shadow}
+use Rattle.rb_shadow.specs.Operations.{Agree, Among, AreSame, clock_of, names, names_of_clock}
+use Rattle.rb_shadow.proofs.Public.Members
+use Rattle.rb_site.specs.declared.entry.Entry.{Entry}
+use Rattle.rb_site.specs.Histories.{AreOneWorlds}
+use Rattle.rb_site.specs.Worlds.{World, made_in, world_of_run}
+use Rattle.rb_world.specs.Laws.{Agreement, Always, Clocks, RedBlue}
+use Rattle.rb_runs.specs.Books.{MayBeClosed, applied_from}
+use Rattle.rb_runs.specs.BookLaws.{ClosedBalancesAgree}
+use Rattle.rb_runs.proofs.OneWorlds.{IsSiteWith, list_of, run_of, site_with}
+
+-- a bank has a site
+pub some_site : (s : Settings) → IsConfigured s → 1 ≤ s.sites
+some_site s c = let some : 2 ≤ s.sites = c.some_sites in omega arith
+
+-- a law of all runs holds of the histories' world
+pub of_world : (P : Settings → World → Type 0) → Always P → (s : Settings) (hs : List (List Entry)) → IsConfigured s →
+    (one : AreOneWorlds s hs) → P s (world_of_run s one.events)
+of_world P law s hs c one = law s one.events (some_site s c) c.few_sites one.own
+
+-- of the histories of one world, what a site has applied has the names of its clock
+pub clock_names : Always Clocks → (s : Settings) (hs : List (List Entry)) → IsConfigured s → (one : AreOneWorlds s hs) (i : ℕ)
+    (us : List Shadow) → slice_get (applied_from s 0 hs) i ≡ Some us → AreSame (names us) (names_of_clock (clock_of us))
+clock_names law s hs c one i us at =
+    let h : IsSiteWith (world_of_run s one.events) i us = site_with s hs one i us at in
+    subst (λ vs. AreSame (names vs) (names_of_clock (clock_of vs))) h.ops (of_world Clocks law s hs c one i h.site h.at)
+
+-- if the books may be closed, any two sites have applied the same names
+pub same_names : Always Clocks → (s : Settings) (hs : List (List Entry)) → IsConfigured s → (one : AreOneWorlds s hs) →
+    MayBeClosed (applied_from s 0 hs) → (i j : ℕ) (us vs : List Shadow) → slice_get (applied_from s 0 hs) i ≡ Some us →
+    slice_get (applied_from s 0 hs) j ≡ Some vs → AreSame (names us) (names vs)
+same_names law s hs c one closed i j us vs at there x =
+    clock_names law s hs c one i us at x ∙ ap (λ k. names_of_clock k x) (closed i j us vs at there)
+    ∙ sym (clock_names law s hs c one j vs there x)
+
+-- any two sites agree
+pub sites_agree : Always Clocks → Always Agreement → (s : Settings) (hs : List (List Entry)) → IsConfigured s →
+    (one : AreOneWorlds s hs) → MayBeClosed (applied_from s 0 hs) → (i j : ℕ) (us vs : List Shadow) →
+    slice_get (applied_from s 0 hs) i ≡ Some us → slice_get (applied_from s 0 hs) j ≡ Some vs → Agree s us vs
+sites_agree clocks agreement s hs c one closed i j us vs at there =
+    let h : IsSiteWith (world_of_run s one.events) i us = site_with s hs one i us at in
+    let k : IsSiteWith (world_of_run s one.events) j vs = site_with s hs one j vs there in
+    let same : AreSame (names us) (names vs) = same_names clocks s hs c one closed i j us vs at there in
+    let same' : AreSame (names h.site.ops) (names k.site.ops) = λ x. ap (λ ws. names ws x) h.ops ∙ same x ∙ ap (λ ws. names ws x) (sym k.ops) in
+    subst (λ ws. Agree s ws vs) h.ops
+    (subst (Agree s h.site.ops) k.ops (of_world Agreement agreement s hs c one i h.site h.at j k.site k.at same'))
+
+-- what a site has applied was made
+pub was_made : Always RedBlue → (s : Settings) (hs : List (List Entry)) → IsConfigured s → (one : AreOneWorlds s hs) (i : ℕ)
+    (us : List Shadow) → slice_get (applied_from s 0 hs) i ≡ Some us → (v : Shadow) → Among v us →
+    Among v (made_in (world_of_run s one.events))
+was_made law s hs c one i us at v k =
+    let h : IsSiteWith (world_of_run s one.events) i us = site_with s hs one i us at in
+    (of_world RedBlue law s hs c one).made i h.site h.at v (subst (Among v) (sym h.ops) k)
+
+-- each site has applied what was made
+every : Always Clocks → Always RedBlue → (s : Settings) (hs : List (List Entry)) → IsConfigured s → (one : AreOneWorlds s hs) →
+    MayBeClosed (applied_from s 0 hs) → (i : ℕ) (us : List Shadow) → slice_get (applied_from s 0 hs) i ≡ Some us → (v : Shadow) →
+    Among v (made_in (world_of_run s one.events)) → Among v us
+every clocks law s hs c one closed i us at v made =
+    let (j, t, there, k) = (run_of s one.events).made v made in
+    let same : names us v.name ≡ names t.ops v.name = same_names clocks s hs c one closed i j us t.ops at (list_of s hs one j t there) v.name in
+    let (u, among, named) = Members.find_named us v.name (same ∙ Members.named t.ops v k) in
+    let is : u ≡ v = Members.same_named (made_in (world_of_run s one.events)) u v (of_world RedBlue law s hs c one).lawful.unique
+    (was_made law s hs c one i us at u among) made named in
+    subst (λ w. Among w us) is among
+
+-- closed books are of a world at rest
+pub closed_agree : Always Clocks → Always Agreement → Always RedBlue → ClosedBalancesAgree
+closed_agree clocks agreement red_blue x c one closed = record {
+  agree = sites_agree clocks agreement x.settings x.histories c one closed;
+  all = every clocks red_blue x.settings x.histories c one closed;
+  no_other = was_made red_blue x.settings x.histories c one;
+}

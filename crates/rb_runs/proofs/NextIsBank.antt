@@ -1,0 +1,122 @@
+-- The next bank is a bank.
+use Rattle.std.proofs.Common.{◌≡◌, ℕ, ◌==◌, Bool, true, false, List, [], ◌∷◌, ◌++◌, length, None, Ok, codes, refl, sym, ap, ◌∙◌, subst, inr}
+use Rattle.std.proofs.Common.{map, append-nil}
+use Rattle.std.specs.Prelude.{if◌then◌else◌, replicate, zip}
+use Rattle.std.proofs.lemmas.List.FromFn.{length-map-range_with_len}
+use Rattle.serde_json.specs.Written.{compact_text}
+use Rattle.rb_money.specs.Amounts.{cents}
+use Rattle.rb_money.specs.Faults.{Account, config_fault}
+use Rattle.rb_money.specs.Settings.{IsConfigured, IsVersion, Settings, version_of}
+use Rattle.rb_money.specs.declared.limits.Limits.{Limits}
+use Rattle.rb_money.proofs.Public.Configured.{parts_configured}
+use Rattle.rb_shadow.specs.Operations.{bal}
+use Rattle.rb_site.specs.Reports.{balances_of}
+use Rattle.rb_history.specs.ConfigLines.{ConfigsAreRead, config_json}
+use Rattle.rb_history.specs.OneLine.{ConfigsAreLines}
+use Rattle.rb_lines.specs.Lines.{lines_of}
+use Rattle.rb_runs.specs.BookLaws.{IsBank, NextIsConfigured}
+use Rattle.rb_runs.specs.Books.{NextBank, next_accounts, next_settings, sites_of_next, next_version, next_with}
+use Rattle.rb_runs.specs.InputLaws.{HasShortLines, InputsAreReadBack}
+use Rattle.rb_runs.specs.Inputs.{input_of}
+use Rattle.rb_runs.specs.Texts.{config_line}
+use Rattle.rb_runs.proofs.ReadBack.{on_utf8_config}
+
+-- ---- the configuration
+
+-- the added accounts by their names, and by what they start with
+added_names : (added : List (List ℕ)) → map (λ (a : Account). a.0) (map (λ name. (name, 0)) added) ≡ added
+added_names [] = refl
+added_names (name ∷ added) = ap (λ ns. name ∷ ns) (added_names added)
+
+added_starts : (added : List (List ℕ)) → map (λ (a : Account). a.1) (map (λ name. (name, 0)) added) ≡ replicate (length added) 0
+added_starts [] = refl
+added_starts (name ∷ added) = ap (λ ns. 0 ∷ ns) (added_starts added)
+
+-- all accounts by their names, and by what they start with
+names_are : (ns : List (List ℕ)) (bs : List ℕ) (added : List (List ℕ)) → length bs ≡ length ns →
+    map (λ (a : Account). a.0) (zip ns bs ++ map (λ name. (name, 0)) added) ≡ ns ++ added
+names_are [] [] added e = added_names added
+names_are (n ∷ ns) [] added e = cc
+names_are [] (b ∷ bs) added e = cc
+names_are (n ∷ ns) (b ∷ bs) added e = ap (λ xs. n ∷ xs) (names_are ns bs added (let q : length bs ≡ length ns = cc in q))
+
+starts_are : (ns : List (List ℕ)) (bs : List ℕ) (added : List (List ℕ)) → length bs ≡ length ns →
+    map (λ (a : Account). a.1) (zip ns bs ++ map (λ name. (name, 0)) added) ≡ bs ++ replicate (length added) 0
+starts_are [] [] added e = added_starts added
+starts_are (n ∷ ns) [] added e = cc
+starts_are [] (b ∷ bs) added e = cc
+starts_are (n ∷ ns) (b ∷ bs) added e = ap (λ xs. b ∷ xs) (starts_are ns bs added (let q : length bs ≡ length ns = cc in q))
+
+-- a configuration of these parts
+abbrev parts : ℕ → List (List ℕ) → List ℕ → Limits → ℕ → Settings
+parts sites names starts limits version =
+    record { sites = sites; names = names; starts = starts; limits = limits; version = version }
+
+-- with a version that its lines may have
+in_version : (sites : ℕ) (names : List (List ℕ)) (starts : List ℕ) (limits : Limits) (v w : ℕ) →
+    IsConfigured (parts sites names starts limits v) → IsVersion w sites → IsConfigured (parts sites names starts limits w)
+in_version sites names starts limits v w c may = record {
+  some_sites = c.some_sites;
+  few_sites = c.few_sites;
+  some_accounts = c.some_accounts;
+  few_accounts = c.few_accounts;
+  starts_of_all = c.starts_of_all;
+  names = c.names;
+  unique = c.unique;
+  starts = c.starts;
+  blue = c.blue;
+  red = c.red;
+  inbox = c.inbox;
+  history = c.history;
+  epoch = c.epoch;
+  version = may;
+}
+
+-- the version of the next bank's lines is one that they may have
+next_may : (old sites : ℕ) → IsVersion (version_of sites) sites → IsVersion (if old == 2 then 2 else version_of sites) sites
+next_may old sites may = by (old == 2)
+  where
+    by : (b : Bool) → IsVersion (if b then 2 else version_of sites) sites
+    by true = inr refl
+    by false = may
+
+-- if nothing is wrong, the next bank is configured
+next_configured : (s : Settings) (balances : List ℕ) (ask : NextBank) → length balances ≡ length s.names →
+    config_fault (sites_of_next s ask.sites) (next_accounts s balances ask) s.limits ≡ None → IsConfigured (next_with s balances ask)
+next_configured s balances ask same none =
+    let sites : ℕ = sites_of_next s ask.sites in
+    let accounts : List Account = next_accounts s balances ask in
+    let c : IsConfigured (parts sites (map (λ (a : Account). a.0) accounts) (map (λ (a : Account). a.1) accounts) s.limits (version_of sites)) =
+    parts_configured sites accounts s.limits none in
+    in_version sites (s.names ++ ask.added) (balances ++ replicate (length ask.added) 0) s.limits (version_of sites)
+    (next_version s sites)
+    (subst (λ bs. IsConfigured (parts sites (s.names ++ ask.added) bs s.limits (version_of sites))) (starts_are s.names balances ask.added same)
+    (subst (λ ns. IsConfigured (parts sites ns (map (λ (a : Account). a.1) accounts) s.limits (version_of sites)))
+    (names_are s.names balances ask.added same) c))
+    (next_may s.version sites c.version)
+
+-- ---- its line
+
+line_is : (s : Settings) → (compact_text (config_json s) ++ codes "\n") ++ [] ≡ config_line s
+unfolding config_line
+line_is s = append-nil (compact_text (config_json s) ++ codes "\n")
+
+-- the line of a configuration is taken as a bank with no entry
+taken : InputsAreReadBack → (s : Settings) → IsConfigured s → HasShortLines (config_line s) →
+    input_of (lines_of (config_line s)) ≡ Ok (record { settings = s; histories = replicate s.sites [] })
+taken back s c short =
+    ap (λ bytes. input_of (lines_of bytes)) (sym (line_is s)) ∙ back s c [] tt (subst HasShortLines (sym (line_is s)) short)
+
+-- a configuration is a bank
+is_bank : ConfigsAreRead → ConfigsAreLines → InputsAreReadBack → (s : Settings) → IsConfigured s → IsBank s
+is_bank read lines back s c = record {
+  configured = c;
+  line = on_utf8_config (compact_text (config_json s)) s (lines s c).utf8 (read s c);
+  text = taken back s c;
+}
+
+-- the next bank is a bank
+pub next_bank : ConfigsAreRead → ConfigsAreLines → InputsAreReadBack → NextIsConfigured
+next_bank read lines back s us ask c none =
+    is_bank read lines back (next_settings s us ask) (next_configured s (balances_of s us) ask
+    (length-map-range_with_len (λ i. cents (bal s us (record { 0 = i }))) 0 (length s.starts) ∙ c.starts_of_all) none)

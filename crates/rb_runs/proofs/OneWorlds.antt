@@ -1,0 +1,213 @@
+-- The operations that the sites of one world have applied, by their histories.
+use Rattle.std.proofs.Common.{◌≡◌, ℕ, ◌+◌, Bool, true, false, cond, List, [], ◌∷◌, ◌++◌, Option, Some, None, refl, sym, ap, ◌∙◌, subst}
+use Rattle.std.proofs.Common.{inl, inr, arith, map, suc, ◌⊎◌}
+use Rattle.std.specs.Prelude.{option_map, slice_get, slice_set}
+use Rattle.std.proofs.lemmas.Option.{slice_get-map}
+use Rattle.rb_money.specs.Settings.{Settings}
+use Rattle.rb_shadow.specs.declared.shadow.Shadow.{Shadow}
+use Rattle.rb_shadow.specs.Operations.{Among}
+use Rattle.rb_shadow.proofs.Public.Members
+use Rattle.rb_site.specs.declared.entry.Entry.{Entry}
+use Rattle.rb_site.specs.declared.event.Event.{Event}
+use Rattle.rb_site.specs.declared.event.Event.TheVariants.{Receive}
+use Rattle.rb_site.specs.declared.message.Message.{Message}
+use Rattle.rb_site.specs.declared.message.Message.TheVariants.{Shadow as ShadowMessage, Token as TokenOnItsWay}
+use Rattle.rb_site.specs.declared.world_event.WorldEvent.{WorldEvent}
+use Rattle.rb_site.specs.declared.world_event.WorldEvent.TheVariants.{At, Deliver}
+use Rattle.rb_site.specs.Events.{Answers, Applies, Drops, Holds, Makes, MakesAll, ModelSite, Outcome, Passes, Refuses, Shows, Takes}
+use Rattle.rb_site.specs.Events.{after_event, after_events, changed, first_site, is_full, outcome_of, sent_at, sent_by}
+use Rattle.rb_site.specs.Histories.{AreOneWorlds, history_of}
+use Rattle.rb_site.specs.Seen.{state_of}
+use Rattle.rb_site.specs.Worlds.{World, first_world, made_in, message_at, shadows_in, world_after, world_after_all, world_at, world_of_run}
+use Rattle.rb_site.proofs.Public.Places.{get_set_other, get_set_same, same_number}
+use Rattle.rb_site.proofs.Public.Recorded.{me_after}
+use Rattle.rb_site.proofs.Public.Runs.{IsRunOfItsHistory, noted, run_goes_on}
+use Rattle.rb_site.proofs.Public.Seen.{events_from}
+use Rattle.rb_site.proofs.Public.Stuck.{first_sites}
+use Rattle.rb_runs.specs.Books.{applied_from}
+
+-- the site has this number and is the run of its history
+pub record IsRunAt (s : Settings) (i : ℕ) (t : ModelSite) : Type 0 where
+  pub me : t.me ≡ i
+  pub run : IsRunOfItsHistory s t
+
+-- some site of the world has applied it
+abbrev pub IsApplied : World → Shadow → Type 0
+IsApplied w v = (i : ℕ) × (t : ModelSite) × (slice_get w.sites i ≡ Some t) × Among v t.ops
+
+-- each site is the run of its history, and what was made is applied at some site
+pub record AreRuns (s : Settings) (w : World) : Type 0 where
+  pub sites : (i : ℕ) (t : ModelSite) → slice_get w.sites i ≡ Some t → IsRunAt s i t
+  pub made : (v : Shadow) → Among v (made_in w) → IsApplied w v
+
+-- ---- one event at a site
+
+-- no outcome takes back what is applied
+grows : (t : ModelSite) (o : Outcome) (v : Shadow) → Among v t.ops → Among v (changed t o).ops
+grows t (Refuses why) v h = h
+grows t (Answers r) v h = h
+grows t (Shows a) v h = h
+grows t (Drops x why) v h = h
+grows t (Makes u) v h = Members.Among-left t.ops (u ∷ []) v h
+grows t (MakesAll us) v h = Members.Among-left t.ops us v h
+grows t (Holds u) v h = h
+grows t (Applies u) v h = Members.Among-left t.ops (u ∷ []) v h
+grows t (Takes m) v h = h
+grows t (Passes m) v h = h
+
+-- the operations in the messages of a list of operations are these
+shadows_of : (us : List Shadow) → shadows_in (map ShadowMessage us) ≡ us
+shadows_of [] = refl
+shadows_of (u ∷ us) = ap (λ vs. u ∷ vs) (shadows_of us)
+
+-- a sent operation is applied at its own site
+sent_here : (t : ModelSite) (o : Outcome) (v : Shadow) → Among v (shadows_in (sent_by o)) → Among v (changed t o).ops
+sent_here t (Refuses why) v h = absurd h
+sent_here t (Answers r) v h = absurd h
+sent_here t (Shows a) v h = absurd h
+sent_here t (Drops x why) v h = absurd h
+sent_here t (Makes u) v h = Members.Among-right t.ops (u ∷ []) v h
+sent_here t (MakesAll us) v h = Members.Among-right t.ops us v (subst (Among v) (shadows_of us) h)
+sent_here t (Holds u) v h = absurd h
+sent_here t (Applies u) v h = absurd h
+sent_here t (Takes m) v h = absurd h
+sent_here t (Passes m) v h = absurd h
+
+-- the same of an event
+grows_event : (s : Settings) (t : ModelSite) (e : Event) (v : Shadow) → Among v t.ops → Among v (after_event s t e).ops
+grows_event s t e v h = by (is_full s t)
+  where
+    by : (b : Bool) → Among v (cond b t (noted s t e)).ops
+    by true = h
+    by false = grows t (outcome_of s t e) v h
+
+sent_event : (s : Settings) (t : ModelSite) (e : Event) (v : Shadow) → Among v (shadows_in (sent_at s t e)) → Among v (after_event s t e).ops
+sent_event s t e v h = by (is_full s t) h
+  where
+    by : (b : Bool) → Among v (shadows_in (cond b [] (sent_by (outcome_of s t e)))) → Among v (cond b t (noted s t e)).ops
+    by true k = absurd k
+    by false k = sent_here t (outcome_of s t e) v k
+
+-- the operations in two lists of messages are those of either
+shadows_cases : (ms ns : List Message) (v : Shadow) → Among v (shadows_in (ms ++ ns)) → Among v (shadows_in ms) ⊎ Among v (shadows_in ns)
+shadows_cases [] ns v h = inr h
+shadows_cases (ShadowMessage u ∷ ms) ns v (inl e) = inl (inl e)
+shadows_cases (ShadowMessage u ∷ ms) ns v (inr h) = elim (shadows_cases ms ns v h) [ inl k ↦ inl (inr k) | inr k ↦ inr k ]
+shadows_cases (TokenOnItsWay m ∷ ms) ns v h = shadows_cases ms ns v h
+
+some_same : {A : Type 0} (x y : A) → Some x ≡ Some y → x ≡ y
+some_same x y e = cc e
+
+run_event : (s : Settings) (i : ℕ) (t : ModelSite) (e : Event) → IsRunAt s i t → IsRunAt s i (after_event s t e)
+run_event s i t e h = record { me = me_after s t e ∙ h.me; run = run_goes_on s t e h.run }
+
+-- what was applied at some site still is
+still : (s : Settings) (w : World) (i : ℕ) (e : Event) (t : ModelSite) → slice_get w.sites i ≡ Some t → (v : Shadow) → IsApplied w v →
+    IsApplied (world_at s w i (Some e) (Some t)) v
+still s w i e t at v (j, u, there, h) = elim (same_number i j) [
+  | inl same ↦
+      (let is : u ≡ t = some_same u t (sym there ∙ ap (slice_get w.sites) same ∙ at) in
+      (i, after_event s t e, get_set_same w.sites i t (after_event s t e) at, grows_event s t e v (subst (λ (x : ModelSite). Among v x.ops) is h)))
+  | inr other ↦ (j, u, get_set_other w.sites i j (after_event s t e) other ∙ there, h)
+]
+
+at_site : (s : Settings) (w : World) (i : ℕ) (e : Event) (t : ModelSite) → slice_get w.sites i ≡ Some t → AreRuns s w →
+    AreRuns s (world_at s w i (Some e) (Some t))
+at_site s w i e t at h = record {
+  sites = λ j u there. elim (same_number i j) [
+    | inl same ↦
+        (let set : List ModelSite = slice_set w.sites i (after_event s t e) in
+        let found : slice_get set i ≡ Some (after_event s t e) = get_set_same w.sites i t (after_event s t e) at in
+        let is : u ≡ after_event s t e = some_same u (after_event s t e) (sym there ∙ (ap (slice_get set) same ∙ found)) in
+        subst (λ n. IsRunAt s n u) (sym same) (subst (IsRunAt s i) (sym is) (run_event s i t e (h.sites i t at))))
+    | inr other ↦ h.sites j u (sym (get_set_other w.sites i j (after_event s t e) other) ∙ there)
+  ];
+  made = λ v k. elim (shadows_cases w.messages (sent_at s t e) v k) [
+    | inl old ↦ still s w i e t at v (h.made v old)
+    | inr new ↦ (i, after_event s t e, get_set_same w.sites i t (after_event s t e) at, sent_event s t e v new)
+  ];
+}
+
+brought : (s : Settings) (w : World) (i : ℕ) (o : Option Event) → AreRuns s w → AreRuns s (world_at s w i o (slice_get w.sites i))
+brought s w i None h = h
+brought s w i (Some e) h = by (slice_get w.sites i) refl
+  where
+    by : (t : Option ModelSite) → slice_get w.sites i ≡ t → AreRuns s (world_at s w i (Some e) t)
+    by None at = h
+    by (Some t) at = at_site s w i e t at h
+
+-- ---- a whole run
+
+next_runs : (s : Settings) (w : World) (e : WorldEvent) → AreRuns s w → AreRuns s (world_after s w e)
+next_runs s w (At i e) h = brought s w i (Some e) h
+next_runs s w (Deliver i k) h = brought s w i (option_map Receive (message_at w.messages k)) h
+
+all_run : (s : Settings) (es : List WorldEvent) (w : World) → AreRuns s w → AreRuns s (world_after_all s w es)
+all_run s [] w h = h
+all_run s (e ∷ es) w h = all_run s es (world_after s w e) (next_runs s w e h)
+
+first_runs : (s : Settings) → AreRuns s (first_world s)
+first_runs s = record {
+  sites = λ i t at.
+      let e : t ≡ first_site i = first_sites 0 s.sites i t at ∙ ap first_site (let q : 0 + i ≡ i = omega arith in q) in
+      subst (IsRunAt s i) (sym e) (record { me = refl; run = refl });
+  made = λ v among. absurd among;
+}
+
+-- in the world of a run each site is the run of its history, and what was made is applied at some site
+pub run_of : (s : Settings) (es : List WorldEvent) → AreRuns s (world_of_run s es)
+run_of s es = all_run s es (first_world s) (first_runs s)
+
+-- ---- what the sites have applied
+
+-- the site whose history it is has applied what its history says
+state_is : (s : Settings) (i : ℕ) (t : ModelSite) → IsRunAt s i t →
+    state_of (record { settings = s; me = i; entries = history_of s t }) ≡ t
+state_is s i t h =
+    ap (after_events s (first_site i)) (events_from s (first_site t.me) t.history)
+    ∙ ap (λ n. after_events s (first_site n) t.history) (sym h.me) ∙ h.run
+
+applied_there : (s : Settings) (k : ℕ) (ts : List ModelSite) → ((i : ℕ) (t : ModelSite) → slice_get ts i ≡ Some t → IsRunAt s (k + i) t) →
+    applied_from s k (map (history_of s) ts) ≡ map (λ (t : ModelSite). t.ops) ts
+applied_there s k [] h = refl
+applied_there s k (t ∷ ts) h =
+    let here : IsRunAt s k t = subst (λ n. IsRunAt s n t) (let q : k + 0 ≡ k = omega arith in q) (h 0 t refl) in
+    ap (λ (u : ModelSite). u.ops ∷ applied_from s (k + 1) (map (history_of s) ts)) (state_is s k t here)
+    ∙ ap (λ uss. t.ops ∷ uss) (applied_there s (k + 1) ts
+    (λ i u at. subst (λ n. IsRunAt s n u) (let q : k + suc i ≡ (k + 1) + i = omega arith in q) (h (suc i) u at)))
+
+-- what the histories say is what the sites of the world have applied
+pub applied_are : (s : Settings) (hs : List (List Entry)) (one : AreOneWorlds s hs) →
+    applied_from s 0 hs ≡ map (λ (t : ModelSite). t.ops) (world_of_run s one.events).sites
+applied_are s hs one =
+    ap (applied_from s 0) (sym one.gives)
+    ∙ applied_there s 0 (world_of_run s one.events).sites
+    (λ i t at. subst (λ n. IsRunAt s n t) (let q : i ≡ 0 + i = omega arith in q) ((run_of s one.events).sites i t at))
+
+-- a site of the world that has applied these operations
+pub record IsSiteWith (w : World) (i : ℕ) (us : List Shadow) : Type 0 where
+  pub site : ModelSite
+  pub at : slice_get w.sites i ≡ Some site
+  pub ops : site.ops ≡ us
+
+-- what is applied by a history is applied by a site of the world
+pub site_with : (s : Settings) (hs : List (List Entry)) (one : AreOneWorlds s hs) (i : ℕ) (us : List Shadow) →
+    slice_get (applied_from s 0 hs) i ≡ Some us → IsSiteWith (world_of_run s one.events) i us
+site_with s hs one i us h = by (slice_get sites i) refl
+    (sym (slice_get-map (λ (t : ModelSite). t.ops) sites i) ∙ ap (λ uss. slice_get uss i) (sym (applied_are s hs one)) ∙ h)
+  where
+    sites : List ModelSite
+    sites = (world_of_run s one.events).sites
+
+    by : (o : Option ModelSite) → slice_get sites i ≡ o → option_map (λ (t : ModelSite). t.ops) o ≡ Some us →
+        IsSiteWith (world_of_run s one.events) i us
+    by None at e = cc
+    by (Some t) at e = record { site = t; at = at; ops = some_same t.ops us e }
+
+-- and what a site of the world has applied is applied by its history
+pub list_of : (s : Settings) (hs : List (List Entry)) (one : AreOneWorlds s hs) (i : ℕ) (t : ModelSite) →
+    slice_get (world_of_run s one.events).sites i ≡ Some t → slice_get (applied_from s 0 hs) i ≡ Some t.ops
+list_of s hs one i t at =
+    ap (λ uss. slice_get uss i) (applied_are s hs one)
+    ∙ slice_get-map (λ (t : ModelSite). t.ops) (world_of_run s one.events).sites i
+    ∙ ap (option_map (λ (t : ModelSite). t.ops)) at

@@ -1,0 +1,75 @@
+-- Periods, each of which goes on where the one before ends, are one bank.
+use Rattle.std.proofs.Common.{◌≡◌, ◌<◌, ℕ, List, [], ◌∷◌, length, Some, ap, ◌∙◌, arith}
+use Rattle.std.specs.Prelude.{pos, ◌+ℤ◌, slice_get}
+use Rattle.std.proofs.lemmas.Int.{ints}
+use Rattle.std.proofs.lemmas.List.{get_or_past, length-map}
+use Rattle.std.proofs.lemmas.Option.{slice_get-get_or}
+use Rattle.rb_money.specs.Settings.{IsConfigured, Settings, start_of}
+use Rattle.rb_money.specs.declared.place.Place.{Place}
+use Rattle.rb_shadow.specs.Operations.{delta, kept, total}
+use Rattle.rb_ledger.specs.Valid.{IsValid}
+use Rattle.rb_ledger.proofs.Public.Legal.{covers}
+use Rattle.rb_site.specs.Events.{ModelSite}
+use Rattle.rb_site.specs.Histories.{AreOneWorlds}
+use Rattle.rb_site.specs.Worlds.{world_of_run}
+use Rattle.rb_world.proofs.Public.{sites_of_run}
+use Rattle.rb_world.specs.Laws.{Always, ValidLists}
+use Rattle.rb_runs.specs.Books.{applied_from}
+use Rattle.rb_runs.specs.BookLaws.{AnswersArePeriods, ArePeriods, Period, PeriodsAreOne, applied_over, kept_over, period_of}
+use Rattle.rb_runs.specs.BookLaws.{settings_after, settings_behind}
+use Rattle.rb_runs.proofs.Carried.{balance_is, starts_with}
+use Rattle.rb_runs.proofs.OneWorlds.{applied_are}
+use Rattle.rb_runs.proofs.OpenLists.{get_left, valid_list}
+
+-- the site has applied what it says
+site_list : (s : Settings) (p : Period) → p.site < s.sites → AreOneWorlds s p.histories →
+    slice_get (applied_from s 0 p.histories) p.site ≡ Some (applied_over s p)
+site_list s p h one =
+    let many : length (applied_from s 0 p.histories) ≡ s.sites =
+    ap length (applied_are s p.histories one)
+    ∙ length-map (world_of_run s one.events).sites (λ (t : ModelSite). t.ops) ∙ sites_of_run s one.events in
+    slice_get-get_or (applied_from s 0 p.histories) p.site [] (omega arith)
+
+-- what an account starts with behind one period
+behind : Always ValidLists → (s : Settings) (p : Period) → IsConfigured s → p.site < s.sites → AreOneWorlds s p.histories → (a : Place) →
+    pos (start_of (settings_behind s p) a) ≡ pos (start_of s a) +ℤ total (λ u. delta u a) (kept (applied_over s p))
+behind law s p c h one a =
+    starts_with s (applied_over s p) p.ask a (valid_list law s p.histories c one p.site (applied_over s p) (site_list s p h one))
+    ∙ balance_is s (applied_over s p) a
+
+-- what an account starts with behind all periods
+after : Always ValidLists → (s : Settings) (ps : List Period) → ArePeriods s ps → (a : Place) →
+    pos (start_of (settings_after s ps) a) ≡ pos (start_of s a) +ℤ kept_over s ps a
+after law s [] h a = omega (arith, ints)
+after law s (p ∷ ps) h a =
+    let rest : pos (start_of (settings_after (settings_behind s p) ps) a) ≡ pos (start_of (settings_behind s p) a)
+    +ℤ kept_over (settings_behind s p) ps a = after law (settings_behind s p) ps h.4 a in
+    let one : pos (start_of (settings_behind s p) a) ≡ pos (start_of s a) +ℤ total (λ u. delta u a) (kept (applied_over s p)) =
+    behind law s p h.0 h.1 h.2 a in
+    omega (arith, ints)
+
+-- each account keeps its place
+same_place : (s : Settings) (ps : List Period) (i : ℕ) (name : List ℕ) → slice_get s.names i ≡ Some name →
+    slice_get (settings_after s ps).names i ≡ Some name
+same_place s [] i name at = at
+same_place s (p ∷ ps) i name at = same_place (settings_behind s p) ps i name (get_left s.names p.ask.added i name at)
+
+-- any number of periods are one bank
+pub one_bank : Always ValidLists → PeriodsAreOne
+one_bank law s ps c periods c' hs one i us at =
+    let valid : IsValid (settings_after s ps) us = valid_list law (settings_after s ps) hs c' one i us at in
+    record {
+      names = same_place s ps;
+      balances = λ a.
+          balance_is (settings_after s ps) us a
+          ∙ ap (λ z. z +ℤ total (λ u. delta u a) (kept us)) (after law s ps periods a);
+      added = λ a h. get_or_past s.starts a.0 0 (let same : length s.starts ≡ length s.names = c.starts_of_all in omega arith);
+      never_negative = λ a. covers (settings_after s ps) us a valid;
+    }
+
+-- what closing answers is the configuration behind a period
+pub answered : AnswersArePeriods
+answered x ask line c next site h = (
+  (c, h, next.one, next.closed, tt),
+  next.line_is site (applied_over x.settings (period_of x site ask)) (site_list x.settings (period_of x site ask) h next.one),
+)

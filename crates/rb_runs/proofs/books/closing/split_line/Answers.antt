@@ -1,0 +1,15 @@
+-- The line and those behind it.
+use Rattle.std.proofs.Common.{◌≡◌, ◌+◌, ◌∷◌, sym, subst, take}
+use Rattle.std.proofs.lemmas.List.{take_rest}
+use Rattle.rb_lines.specs.Lines.{lines_of}
+use Rattle.rb_runs.proofs.SplitLines.{split_there, split_all}
+use Rattle.rb_runs.proofs.books.closing.split_line.Goals as goal
+
+pub returns-in-Some-clause-split : goal.returns-in-Some-clause-split
+returns-in-Some-clause-split c =
+    let l = c.args.lines.now in
+    let n = c.in-Some.n in
+    subst (λ r. lines_of l ≡ take n l ∷ lines_of r) (sym (take_rest l (n + 1))) (split_there l n (sym c.in-Some.ensures))
+
+pub returns-in-None-clause-split : goal.returns-in-None-clause-split
+returns-in-None-clause-split c = split_all c.args.lines.now c.requires.some (sym c.in-None.ensures)

@@ -1,0 +1,5 @@
+use Rattle.rb_runs.proofs.AtRest.{closed_agree}
+use Rattle.rb_runs.proofs.books.laws.closed_balances_agree.Goals as goal
+
+pub returns : goal.returns
+returns c = closed_agree c.clocks.ensures c.agreement.ensures c.red_blue.ensures

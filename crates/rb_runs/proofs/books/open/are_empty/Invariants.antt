@@ -1,0 +1,8 @@
+-- The lists so far have no name.
+use Rattle.std.proofs.Common.{◌≡◌, ◌<◌, ℕ, List, [], Some, map, slice_get}
+use Rattle.rb_shadow.specs.declared.op_name.OpName.{OpName}
+use Rattle.rb_runs.proofs.books.open.are_empty.Given as goal
+
+abbrev pub invariant-loop-list : goal.invariant-loop-list
+invariant-loop-list l = (i : ℕ) (list : List OpName) → i < l.list-index → slice_get (map (λ list. list.items) l.lists) i ≡ Some list
+    → list ≡ []

@@ -1,0 +1,11 @@
+-- This number of journals was taken, and nothing was at fault.
+use Rattle.std.proofs.Common.{◌≡◌}
+use Rattle.rb_runs.specs.Closes.{HasTaken}
+use Rattle.rb_runs.proofs.books.run.take_all.Given as goal
+
+abbrev pub invariant-loop-site : goal.invariant-loop-site
+invariant-loop-site g l = record {
+  taken : HasTaken l.closing l.ask (g.F.JournalFiles.read l.files);
+  at : l.closing.taken ≡ l.site;
+  journals : l.closing.journals ≡ l.journals;
+}
