@@ -19,8 +19,9 @@ ROOT = os.path.dirname(os.path.dirname(os.path.dirname(os.path.abspath(__file__)
 STORED = os.path.join(ROOT, "tests", "help")
 MADE_BY = "Made by examples/tools/from_help.py from the help of the program."
 COMMAND = re.compile(r"  (\S+)(?:\s+(.*))?$")
+VALUE = re.compile(r"  <([^>]+)>(?:\.\.\.)?(?:\s\s+(.*))?$")
 OPTION = re.compile(r"\s+(?:-(\w), )?--([\w-]+)(?: <([^>]+)>)?(?:\s\s+(.*))?$")
-FILE = "FILE"  # the name of a value that is a file's
+FILES = ("FILE", "JOURNAL")  # the names of values that are files'
 
 
 class Option(NamedTuple):
@@ -33,11 +34,13 @@ class Option(NamedTuple):
 
 
 class Page(NamedTuple):
-    """A page of help: what is done, how it is used, the commands with what they do, the options, and all below."""
+    """A page of help: what is done, how it is used, the commands with what they do, the values that belong to no
+    option with what they are, the options, and all below."""
 
     about: str
     usage: str
     commands: list
+    values: list
     options: list
     rest: str
 
@@ -71,15 +74,17 @@ def parsed(text):
     if not parts or not parts[0].startswith("Usage: "):
         raise Stop("no line of clap's help begins with 'Usage: '")
     usage = parts.pop(0).removeprefix("Usage: ")
-    commands, options = [], []
-    while parts and parts[0].split("\n")[0] in ("Commands:", "Options:"):
+    commands, values, options = [], [], []
+    while parts and parts[0].split("\n")[0] in ("Commands:", "Arguments:", "Options:"):
         title, *lines = parts.pop(0).split("\n")
         if title == "Commands:":
             commands = [(name, what or "") for name, what in (matched(COMMAND, row) for row in rows_of(lines))]
+        elif title == "Arguments:":
+            values = [(name, what or "") for name, what in (matched(VALUE, row) for row in rows_of(lines))]
         else:
             options = [Option(s, name, value, what or "") for s, name, value, what in
                        (matched(OPTION, row) for row in rows_of(lines))]
-    return Page(about, usage, commands, options, "\n\n".join(parts))
+    return Page(about, usage, commands, values, options, "\n\n".join(parts))
 
 
 # ---- the manual page
@@ -122,7 +127,8 @@ def manual(name, top, pages):
         lines += [".nf", f"\\fB{roff(page.usage)}\\fR", ".fi"]
     lines += [".SH OPTIONS", *roff_options(top.options), ".SH COMMANDS"]
     for command, page in pages.items():
-        lines += [f".SS {name} {command}", f"{roff(page.about)}.", *roff_options(page.options)]
+        values = [line for value, text in page.values for line in (".TP", f"\\fI{roff(value)}\\fR", roff(text))]
+        lines += [f".SS {name} {command}", f"{roff(page.about)}.", *values, *roff_options(page.options)]
         lines += [".PP", *roff_rest(page.rest)] if page.rest else []
     return "\n".join(lines) + "\n"
 
@@ -136,8 +142,13 @@ def names_of(options):
 def with_value(pages, is_file):
     """The names of the options with a value that is a file's, or that is none."""
     found = [f"--{option.long}" for page in pages.values() for option in page.options
-             if option.value and (option.value == FILE) == is_file]
+             if option.value and (option.value in FILES) == is_file]
     return "|".join(dict.fromkeys(found))
+
+
+def takes_files(page):
+    """The command takes files behind its options."""
+    return any(value in FILES for value, _ in page.values)
 
 
 def bash(name, top, pages):
@@ -155,7 +166,13 @@ def bash(name, top, pages):
         lines.append(f"            {with_value(pages, False)}) return ;;")
     lines += ["        esac", '        case "${COMP_WORDS[1]}" in']
     for command, page in pages.items():
-        lines.append(f'            {command}) names="{" ".join(names_of(page.options))}" ;;')
+        lines.append(f'            {command}) names="{" ".join(names_of(page.options))}"')
+        if takes_files(page):
+            lines += ["                compopt -o filenames",
+                      '                mapfile -t COMPREPLY < <(compgen -f -W "$names" -- "$word")',
+                      "                return ;;"]
+        else:
+            lines[-1] += " ;;"
     lines.append(f'            help) [ "$COMP_CWORD" -gt 2 ] || names="{" ".join(commands)}" ;;')
     lines += ["        esac", "    fi", '    mapfile -t COMPREPLY < <(compgen -W "$names" -- "$word")', "}",
               f"complete -F _{name} {name}"]
@@ -170,7 +187,7 @@ def quoted(text):
 def zsh_row(option):
     """An option as _arguments takes it."""
     text = re.sub(r"([\[\]:\\])", r"\\\1", option.text)
-    action = ":" + (f"{option.value}:_files" if option.value == FILE else f"{option.value}: ") if option.value else ""
+    action = ":" + (f"{option.value}:_files" if option.value in FILES else f"{option.value}: ") if option.value else ""
     row = quoted(f"--{option.long}[{text}]{action}")
     return [quoted(f"-{option.short}[{text}]{action}"), row] if option.short else [row]
 
@@ -188,6 +205,7 @@ def zsh(name, top, pages):
               "    local command=$words[2]", "    shift words", "    (( CURRENT-- ))", "    case $command in"]
     for command, page in pages.items():
         lines += [f"        {command})", "            _arguments \\", *zsh_arguments(page.options)]
+        lines += [f"{' ' * 16}{quoted(f'*:{value}:_files')} \\" for value, _ in page.values if value in FILES]
         lines[-1] = lines[-1].removesuffix(" \\")
         lines.append("            ;;")
     lines += ["        help) _describe command commands ;;", "    esac", "}", f'_{name} "$@"']
@@ -200,7 +218,7 @@ def fish_text(text):
 
 def fish_option(name, condition, option):
     short = f" -s {option.short}" if option.short else ""
-    value = (" -r -F" if option.value == FILE else " -x") if option.value else ""
+    value = (" -r -F" if option.value in FILES else " -x") if option.value else ""
     return f"complete -c {name} -n '{condition}'{short} -l {option.long}{value} -d {fish_text(option.text)}"
 
 
@@ -211,6 +229,7 @@ def fish(name, top, pages):
     lines += [fish_option(name, first, option) for option in top.options]
     for command, page in pages.items():
         lines += [fish_option(name, f"__fish_seen_subcommand_from {command}", option) for option in page.options]
+        lines += [f"complete -c {name} -n '__fish_seen_subcommand_from {command}' -F"] if takes_files(page) else []
     names = " ".join(command for command, _ in top.commands)
     lines.append(f"complete -c {name} -n '__fish_seen_subcommand_from help' -a {fish_text(names)}")
     return "\n".join(lines) + "\n"
@@ -287,6 +306,8 @@ BASH_CASES = [
     (["rbbank", "threads", "--s"], ["--sites", "--seed"]),
     (["rbbank", "threads", "--sites", ""], []),
     (["rbbank", "site", "--journal", "thr"], ["threads.txt"]),
+    (["rbbank", "close", "--a"], ["--account"]),
+    (["rbbank", "close", "--sites", "2", "thr"], ["threads.txt"]),
     (["rbbank", "help", "mig"], ["migrate"]),
 ]
 

@@ -1,4 +1,4 @@
--- A command with three or five options added in turn.
+-- A command with options added in turn.
 use Rattle.std.proofs.Common.{◌≡◌, false, List, [], ◌∷◌, ap, subst, ◌∙◌}
 use Rattle.std.specs.Prelude.{IfOk, Result}
 use Rattle.std.proofs.lemmas.Result.{IfOk-weaker}
@@ -18,6 +18,17 @@ pub record HasRule (option : Arg) (rule : Rule) : Type 0 where
   pub rule_is : rule_of option ≡ rule
   pub local : option.global ≡ false
 
+-- the options have these rules
+abbrev pub HaveRules : List Arg → List Rule → Type 0
+HaveRules [] [] = Unit {0}
+HaveRules (a ∷ options) (r ∷ rules) = HasRule a r × HaveRules options rules
+HaveRules _ _ = ⊥
+
+-- a command with these rules added in turn
+abbrev pub with_rules : App → List Rule → App
+with_rules app [] = app
+with_rules app (r ∷ rules) = with_rules (with_rule app r) rules
+
 -- one more option
 with_one : (old new : Command) (a : Arg) (app : App) (rule : Rule) → Is old app → HasRule a rule → AddsArg old a new
     → Is new (with_rule app rule)
@@ -26,30 +37,18 @@ with_one old new a app rule is has adds = record {
   local = adds.globals ∙ cc (is.local, has.local);
 }
 
--- three more
-pub with_three : (old : Command) (a b d : Arg) (options : List Arg) (result : Result Command AllocError) (app : App) (r s t : Rule)
-    → options ≡ a ∷ b ∷ d ∷ [] → Is old app → HasRule a r → HasRule b s → HasRule d t
-    → IfOk result (AddsInTurn AddsArg old options) → IfOk result (λ new. Is new (with_rule (with_rule (with_rule app r) s) t))
-with_three old a b d options result app r s t are is has_a has_b has_d = IfOk-weaker result _ _ (λ new in_turn.
-    let all = subst (λ (xs : List Arg). AddsInTurn AddsArg old xs new) are in_turn in
-    let one = with_one _ _ a app r is has_a all.1 in
-    let two = with_one _ _ b _ s one has_b all.2.1 in
-    let three = with_one _ _ d _ t two has_d all.2.2.1 in
-    subst (λ (command : Command). Is command (with_rule (with_rule (with_rule app r) s) t)) all.2.2.2 three)
+-- all in turn
+with_all : (old new : Command) (options : List Arg) (app : App) (rules : List Rule) → Is old app → HaveRules options rules
+    → AddsInTurn AddsArg old options new → Is new (with_rules app rules)
+with_all old new [] app [] is have adds = subst (λ (command : Command). Is command app) adds is
+with_all old new (a ∷ options) app (r ∷ rules) is have adds =
+    with_all adds.0 new options (with_rule app r) rules (with_one old adds.0 a app r is have.0 adds.1) have.1 adds.2
+with_all old new [] app (r ∷ rules) is have adds = absurd have
+with_all old new (a ∷ options) app [] is have adds = absurd have
 
--- five more
-pub with_five : (old : Command) (a b d e f : Arg) (options : List Arg) (result : Result Command AllocError) (app : App)
-    (r s t u v : Rule) → options ≡ a ∷ b ∷ d ∷ e ∷ f ∷ [] → Is old app → HasRule a r → HasRule b s → HasRule d t → HasRule e u
-    → HasRule f v
-    → IfOk result (AddsInTurn AddsArg old options)
-    → IfOk result (λ new. Is new (with_rule (with_rule (with_rule (with_rule (with_rule app r) s) t) u) v))
-with_five old a b d e f options result app r s t u v are is has_a has_b has_d has_e has_f = IfOk-weaker result _ _
-    (λ new in_turn.
-    let all = subst (λ (xs : List Arg). AddsInTurn AddsArg old xs new) are in_turn in
-    let one = with_one _ _ a app r is has_a all.1 in
-    let two = with_one _ _ b _ s one has_b all.2.1 in
-    let three = with_one _ _ d _ t two has_d all.2.2.1 in
-    let four = with_one _ _ e _ u three has_e all.2.2.2.1 in
-    let five = with_one _ _ f _ v four has_f all.2.2.2.2.1 in
-    subst (λ (command : Command). Is command (with_rule (with_rule (with_rule (with_rule (with_rule app r) s) t) u) v))
-    all.2.2.2.2.2 five)
+-- a command to which options were added has their rules
+pub with_options : (old : Command) (given options : List Arg) (result : Result Command AllocError) (app : App) (rules : List Rule)
+    → given ≡ options → Is old app → HaveRules options rules
+    → IfOk result (AddsInTurn AddsArg old given) → IfOk result (λ new. Is new (with_rules app rules))
+with_options old given options result app rules are is have = IfOk-weaker result _ _ (λ new in_turn.
+    with_all old new options app rules is have (subst (λ (xs : List Arg). AddsInTurn AddsArg old xs new) are in_turn))

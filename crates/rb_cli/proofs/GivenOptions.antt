@@ -1,5 +1,5 @@
 -- A command whose options are given one after another, each name, and its value if it has one, in a word of its own.
-use Rattle.std.proofs.Common.{◌≡◌, ◌∙◌, Bool, cond, true, false, refl, sym, ap, subst, List, [], ◌∷◌, Option, Some, None}
+use Rattle.std.proofs.Common.{◌≡◌, ◌∙◌, Bool, ◌⊎◌, cond, true, false, refl, sym, ap, subst, List, [], ◌∷◌, Option, Some, None, inl, inr}
 use Rattle.std.specs.Prelude.{fold, option_and_then}
 use Rattle.std.specs.Option.{option_map_or}
 use Rattle.std.specs.Str.{bytes_eq}
@@ -8,14 +8,16 @@ use Rattle.clap.specs.Lexer.{long_of, long_of_rest, short_of, short_of_rest, str
 use Rattle.clap.specs.Facts.{unwrap_or_range}
 use Rattle.clap.specs.Kinds.{Kinds, or_else}
 use Rattle.clap.specs.Faults.{bundle_fault, check_fault, defaults_fault, flag_word_fault, level_fault, settle_fault}
-use Rattle.clap.specs.Faults.{step_fault, turn_fault, use_fault, walk_fault}
+use Rattle.clap.specs.Faults.{other_fault, step_fault, turn_fault, use_fault, walk_fault}
 use Rattle.clap.specs.Simple.{Shape}
 use Rattle.clap.specs.Takes.{value_passes}
-use Rattle.clap.specs.Walk.{Held, Row, Rule, Text, Walk, action_of, after_step, arg_by_id, has_row, idle}
+use Rattle.clap.specs.Walk.{Held, Row, Rule, Text, Waiting, Walk, action_of, after_step, arg_by_id, finished, has_row, idle}
 use Rattle.clap.specs.Walk.{long_or_other, most_values, nothing_held, option, option_word, plain_word}
-use Rattle.clap.specs.Walk.{rows_after, settled_rows, short_or_plain, trailing, used, used_by_id, walked, with_default, word_met}
-use Rattle.clap.specs.declared.builder.action.ArgAction.TheVariants.{Set}
+use Rattle.clap.specs.Walk.{rows_after, settled, settled_rows, short_or_plain, subcommand_or_other, trailing, used, used_by_id, walk}
+use Rattle.clap.specs.Walk.{walk_from, walked, with_default}
+use Rattle.clap.specs.declared.builder.action.ArgAction.TheVariants.{Append}
 use Rattle.clap.proofs.OnLiterals.{clap_on_literals}
+use Rattle.rb_cli.proofs.Passing.{TakesValues}
 
 -- of two checks that find no fault the first fault is none
 pub both_none : (a b : Kinds) → a ≡ [] → b ≡ [] → or_else a b ≡ []
@@ -46,7 +48,7 @@ pub record IsNamed (s : Shape) (word : Text) (a : Rule) : Type 0 where
   pub own : arg_by_id s.rules a.id ≡ Some a
   pub most : most_values a ≡ 1
   pub least : (unwrap_or_range a.range).start_inclusive ≡ 1
-  pub set : action_of a ≡ Set
+  pub taking : TakesValues a
 
 -- the word is a switch, which has no value
 pub record IsSwitch (s : Shape) (word : Text) (a : Rule) : Type 0 where
@@ -75,13 +77,21 @@ no_long v plain = ap (λ o. option_and_then long_of_rest (option_and_then (strip
 no_short : (v : Text) → IsPlain v → short_of v ≡ None
 no_short v plain = ap (option_and_then short_of_rest) plain
 
--- ---- a value behind its option
+-- such a word is no flag
+pub no_flag : (c : List Rule) (waiting : Waiting) (v : Text) (h : Held) → IsPlain v
+    → subcommand_or_other c None waiting 1 v h ≡ plain_word c waiting v h
+no_flag c waiting v h plain =
+    ap (λ b. cond b (h, trailing 1) (long_or_other c waiting v (long_of v) h)) (no_dashes v plain)
+    ∙ ap (λ o. long_or_other c waiting v o h) (no_long v plain) ∙ ap (λ o. short_or_plain c waiting v o h) (no_short v plain)
 
-value_word : (c : List Rule) (id : Text) (v : Text) (h : Held) → IsPlain v
-    → word_met c [] false (option id) 1 v h ≡ plain_word c (option id) v h
-value_word c id v h plain =
-    ap (λ b. cond b (h, trailing 1) (long_or_other c (option id) v (long_of v) h)) (no_dashes v plain)
-    ∙ ap (λ o. long_or_other c (option id) v o h) (no_long v plain) ∙ ap (λ o. short_or_plain c (option id) v o h) (no_short v plain)
+pub no_flag_fault : (s : Shape) (v : Text) (h : Held) → IsPlain v → other_fault s None v h ≡ []
+no_flag_fault s v h plain =
+    let again = s.args_override_self in
+    ap (λ b. cond b [] (flag_word_fault s.rules again (long_of v) v h)) (no_dashes v plain)
+    ∙ ap (λ o. flag_word_fault s.rules again o v h) (no_long v plain)
+    ∙ ap (λ o. option_map_or (λ flags. bundle_fault s.rules again flags h) o []) (no_short v plain)
+
+-- ---- a value behind its option
 
 value_read : (a : Rule) (rows : List Row) (v : Text) → most_values a ≡ 1
     → record (waiting_at a.id rows) {
@@ -96,7 +106,7 @@ value_met : (s : Shape) (word : Text) (a : Rule) (rows : List Row) (v : Text) �
     → walked s.rules [] (waiting_at a.id rows) v ≡ at rows (Some (a.id, v ∷ []))
 unfolding clap_on_literals
 value_met s word a rows v named plain =
-    ap (λ met. after_step s.rules v (waiting_at a.id rows) met.0 met.1) (value_word s.rules a.id v (waiting_at a.id rows).held plain)
+    ap (λ met. after_step s.rules v (waiting_at a.id rows) met.0 met.1) (no_flag s.rules (option a.id) v (waiting_at a.id rows).held plain)
     ∙ ap (λ found. record (waiting_at a.id rows) {
       held = (option_word found a.id v (waiting_at a.id rows).held).0;
       waiting = (option_word found a.id v (waiting_at a.id rows).held).1;
@@ -106,12 +116,7 @@ value_met s word a rows v named plain =
 value_fault : (s : Shape) (id : Text) (rows : List Row) (v : Text) → IsPlain v → turn_fault s [] (waiting_at id rows) v ≡ []
 value_fault s id rows v plain =
     let h = (waiting_at id rows).held in
-    let again = s.args_override_self in
-    both_none _ _
-    (ap (λ b. cond b [] (flag_word_fault s.rules again (long_of v) v h)) (no_dashes v plain)
-    ∙ ap (λ o. flag_word_fault s.rules again o v h) (no_long v plain)
-    ∙ ap (λ o. option_map_or (λ flags. bundle_fault s.rules again flags h) o []) (no_short v plain))
-    (ap (λ met. step_fault s 1 met.0 met.1) (value_word s.rules id v h plain))
+    both_none _ _ (no_flag_fault s v h plain) (ap (λ met. step_fault s 1 met.0 met.1) (no_flag s.rules (option id) v h plain))
 
 -- ---- options in turn
 
@@ -132,61 +137,105 @@ rows_with rows [] = rows
 rows_with rows (valued word rule value ∷ gs) = rows_with (used rule (value ∷ []) rows) gs
 rows_with rows (switch word rule ∷ gs) = rows_with (used rule [] rows) gs
 
--- each is an option that is not given before, and its value passes
+-- what is pending after them
+abbrev pub pending_after : Option (Text × List Text) → List Given → Option (Text × List Text)
+pending_after pending [] = pending
+pending_after pending (valued word rule value ∷ gs) = pending_after (Some (rule.id, value ∷ [])) gs
+pending_after pending (switch word rule ∷ gs) = pending_after None gs
+
+-- the option can be given: it may be given again, or is not given before
+abbrev pub CanBeGiven : Rule → List Row → Type 0
+CanBeGiven a rows = (action_of a ≡ Append) ⊎ (has_row a.id rows ≡ false)
+
+-- each is an option that can be given, and its value passes
 abbrev pub AreGiven : Shape → List Row → List Given → Type 0
 AreGiven s rows [] = Unit {0}
-AreGiven s rows (valued word rule value ∷ gs) = IsNamed s word rule × IsPlain value × (has_row rule.id rows ≡ false)
+AreGiven s rows (valued word rule value ∷ gs) = IsNamed s word rule × IsPlain value × CanBeGiven rule rows
     × (value_passes rule value ≡ true) × AreGiven s (used rule (value ∷ []) rows) gs
 AreGiven s rows (switch word rule ∷ gs) = IsSwitch s word rule × (has_row rule.id rows ≡ false) × AreGiven s (used rule [] rows) gs
 
 used_once : (again : Bool) (a : Rule) (v : Text) (rows : List Row) → most_values a ≡ 1 → (unwrap_or_range a.range).start_inclusive ≡ 1
-    → action_of a ≡ Set → has_row a.id rows ≡ false → value_passes a v ≡ true → use_fault again a (v ∷ []) rows ≡ []
-used_once again a v rows most least set new passes = rw (least, most, set, new, passes) refl
+    → TakesValues a → CanBeGiven a rows → value_passes a v ≡ true → use_fault again a (v ∷ []) rows ≡ []
+used_once again a v rows most least taking (inl append) passes = rw (least, most, append, passes) refl
+used_once again a v rows most least (inl set) (inr new) passes = rw (least, most, set, new, passes) refl
+used_once again a v rows most least (inr append) (inr new) passes = rw (least, most, append, passes) refl
 
 settled_is : (s : Shape) (word : Text) (a : Rule) (v : Text) (rows : List Row) → IsNamed s word a
     → settled_rows s.rules (Some (a.id, v ∷ [])) rows ≡ used a (v ∷ []) rows
 settled_is s word a v rows named = ap (λ found. used_by_id found (v ∷ []) rows) named.own
 
-settles : (s : Shape) (word : Text) (a : Rule) (v : Text) (rows : List Row) → IsNamed s word a → has_row a.id rows ≡ false
+settles : (s : Shape) (word : Text) (a : Rule) (v : Text) (rows : List Row) → IsNamed s word a → CanBeGiven a rows
     → value_passes a v ≡ true → settle_fault s.rules s.args_override_self (at rows (Some (a.id, v ∷ []))).held ≡ []
 settles s word a v rows named new passes =
     ap (λ found. option_map_or (λ r. use_fault s.args_override_self r (v ∷ []) rows) found []) named.own
-    ∙ used_once s.args_override_self a v rows named.most named.least named.set new passes
+    ∙ used_once s.args_override_self a v rows named.most named.least named.taking new passes
 
--- a walk over options in turn fails nowhere, and ends with their rows
-pub record WalksGiven (s : Shape) (start : Walk) (gs : List Given) (rows : List Row) : Type 0 where
-  pub none : walk_fault s [] start (spelled gs) ≡ []
-  pub settled : settle_fault s.rules s.args_override_self (fold (walked s.rules []) start (spelled gs)).held ≡ []
-  pub rows_are : settled_rows s.rules (fold (walked s.rules []) start (spelled gs)).held.pending
-      (fold (walked s.rules []) start (spelled gs)).held.rows ≡ rows
+-- a walk over options in turn fails nowhere, ends where this is pending, and leaves their rows
+pub record WalksGiven (s : Shape) (start : Walk) (gs : List Given) (pending : Option (Text × List Text)) (rows : List Row) : Type 0
+  where
+    pub none : walk_fault s [] start (spelled gs) ≡ []
+    pub before : List Row
+    pub ends : fold (walked s.rules []) start (spelled gs) ≡ at before pending
+    pub settled : settle_fault s.rules s.args_override_self (at before pending).held ≡ []
+    pub rows_are : settled_rows s.rules pending before ≡ rows
 
-walks_given : (s : Shape) (gs : List Given) (rows : List Row) (pending : Option (Text × List Text))
+pub walks_given : (s : Shape) (gs : List Given) (rows : List Row) (pending : Option (Text × List Text))
     → AreGiven s (settled_rows s.rules pending rows) gs → settle_fault s.rules s.args_override_self (at rows pending).held ≡ []
-    → WalksGiven s (at rows pending) gs (rows_with (settled_rows s.rules pending rows) gs)
+    → WalksGiven s (at rows pending) gs (pending_after pending gs) (rows_with (settled_rows s.rules pending rows) gs)
 unfolding clap_on_literals
-walks_given s [] rows pending given settled = record { none = refl; settled = settled; rows_are = refl }
+walks_given s [] rows pending given settled =
+    record { none = refl; before = rows; ends = refl; settled = settled; rows_are = refl }
 walks_given s (valued word a v ∷ gs) rows pending (named, plain, new, passes, more) settled =
     let now = settled_rows s.rules pending rows in
+    let value = Some (a.id, v ∷ []) in
     let met = ap (λ w. walked s.rules [] w v) (named.met rows pending) ∙ value_met s word a now v named plain in
-    let rest = walks_given s gs now (Some (a.id, v ∷ []))
+    let rest = walks_given s gs now value
     (subst (λ r. AreGiven s r gs) (sym (settled_is s word a v now named)) more) (settles s word a v now named new passes) in
-    let as_met = subst (λ w. WalksGiven s w gs (rows_with (settled_rows s.rules (Some (a.id, v ∷ [])) now) gs)) (sym met) rest in
+    let as_met = subst (λ w. WalksGiven s w gs (pending_after value gs) (rows_with (settled_rows s.rules value now) gs)) (sym met) rest in
     record {
       none = both_none _ _ (named.fault rows pending settled)
           (both_none _ _
           (subst (λ w. turn_fault s [] w v ≡ []) (sym (named.met rows pending)) (value_fault s a.id now v plain))
           as_met.none);
+      before = as_met.before;
+      ends = as_met.ends;
       settled = as_met.settled;
       rows_are = as_met.rows_are ∙ ap (λ r. rows_with r gs) (settled_is s word a v now named);
     }
 walks_given s (switch word a ∷ gs) rows pending (is, new, more) settled =
     let now = used a [] (settled_rows s.rules pending rows) in
-    let as_met = subst (λ w. WalksGiven s w gs (rows_with now gs)) (sym (is.met rows pending)) (walks_given s gs now None more refl) in
+    let as_met = subst (λ w. WalksGiven s w gs (pending_after None gs) (rows_with now gs)) (sym (is.met rows pending))
+    (walks_given s gs now None more refl) in
     record {
       none = both_none _ _ (is.fault rows pending settled new) as_met.none;
+      before = as_met.before;
+      ends = as_met.ends;
       settled = as_met.settled;
       rows_are = as_met.rows_are;
     }
+
+-- what a walk that fails nowhere leaves, by where it ends
+pub record Leaves (s : Shape) (words : List Text) (rows : List Row) : Type 0 where
+  pub none : walk_fault s [] (walk_from nothing_held) words ≡ []
+  pub end : Walk
+  pub ends : walk s.rules [] nothing_held words ≡ end
+  pub settled : settle_fault s.rules s.args_override_self end.held ≡ []
+  pub rows_are : settled_rows s.rules end.held.pending end.held.rows ≡ rows
+
+-- a command takes the words of such a walk, if its defaults and the last checks pass
+pub takes_walked : (s : Shape) (words : List Text) (rows : List Row) → Leaves s words rows → defaults_fault rows s.rules ≡ []
+    → check_fault s (fold with_default rows s.rules) false ≡ []
+    → (level_fault s [] nothing_held words false [] ≡ []) × (rows_after s.rules [] words ≡ fold with_default rows s.rules)
+takes_walked s words rows walks defaults checks =
+    let again = s.args_override_self in
+    let after = ap (λ (r : List Row). fold with_default r s.rules) walks.rows_are in
+    let last = both_none _ _ walks.settled
+    (both_none _ _ (ap (λ (r : List Row). defaults_fault r s.rules) walks.rows_are ∙ defaults) (ap (λ r. check_fault s r false) after ∙ checks)) in (
+      both_none _ _ walks.none
+          (subst (λ (w : Walk). or_else (settle_fault s.rules again w.held) (or_else (defaults_fault (settled s.rules w.held).rows s.rules)
+          (check_fault s (finished s.rules w.held) false)) ≡ []) (sym walks.ends) last),
+      ap (λ (w : Walk). finished s.rules w.held) walks.ends ∙ after,
+    )
 
 -- a command takes its options in turn, if its defaults and the last checks pass
 pub takes_given : (s : Shape) (gs : List Given) → AreGiven s [] gs → defaults_fault (rows_with [] gs) s.rules ≡ []
@@ -195,10 +244,10 @@ pub takes_given : (s : Shape) (gs : List Given) → AreGiven s [] gs → default
     × (rows_after s.rules [] (spelled gs) ≡ fold with_default (rows_with [] gs) s.rules)
 takes_given s gs given defaults checks =
     let walks = walks_given s gs [] None given refl in
-    let after = ap (λ (r : List Row). fold with_default r s.rules) walks.rows_are in (
-      both_none _ _ walks.none
-          (both_none _ _ walks.settled
-          (both_none _ _ (ap (λ (r : List Row). defaults_fault r s.rules) walks.rows_are ∙ defaults)
-          (ap (λ r. check_fault s r false) after ∙ checks))),
-      after,
-    )
+    takes_walked s (spelled gs) (rows_with [] gs) (record {
+      none = walks.none;
+      end = at walks.before (pending_after None gs);
+      ends = walks.ends;
+      settled = walks.settled;
+      rows_are = walks.rows_are;
+    }) defaults checks

@@ -1,7 +1,7 @@
 -- What a command's options are after a parse that fails nowhere.
 use Rattle.std.proofs.Common.{◌≡◌, ◌∙◌, ◌&&◌, ◌⊎◌, ◌==◌, ℕ, Bool, cond, true, false, not, refl, sym, ap, subst, arith}
 use Rattle.std.proofs.Common.{List, [], ◌∷◌, drop, Option, Some, None, inl, inr, pos}
-use Rattle.std.specs.Prelude.{IfSome, find, option_and_then, slice_get, unwrap_or}
+use Rattle.std.specs.Prelude.{IfSome, find, option_and_then, option_map, slice_get, unwrap_or}
 use Rattle.std.specs.List.{list_any}
 use Rattle.std.specs.Option.{option_map_or}
 use Rattle.std.specs.Str.{bytes_eq}
@@ -17,7 +17,7 @@ use Rattle.clap.specs.Faults.{check_fault, level_fault}
 use Rattle.clap.specs.Simple.{Shape}
 use Rattle.clap.specs.Takes.{is_given, value_passes}
 use Rattle.clap.specs.Values.{IsSignedIn, read_as}
-use Rattle.clap.specs.Walk.{Row, Rule, Text, arg_by_id, first_of, nothing_held, one_of}
+use Rattle.clap.specs.Walk.{Row, Rule, Text, all_of, arg_by_id, first_of, nothing_held, one_of}
 use Rattle.clap.specs.Walk.{reading_by, row_text, rows_after, walk, walk_from}
 use Rattle.clap.specs.declared.builder.value_parser.ValueParser.TheVariants.{Signed}
 use Rattle.clap.specs.declared.error.kind.ErrorKind.TheVariants.{DisplayHelpOnMissingArgumentOrSubcommand}
@@ -59,8 +59,10 @@ none_missing s rows none =
 -- the option has a text that passes
 pub record HasText (a : Rule) (id : Text) (rows : List Row) : Type 0 where
   pub text : Text
+  pub more : List Text
   pub one : one_of id rows ≡ Some (read_as (reading_by a) text)
   pub first : first_of id rows ≡ Some text
+  pub every : all_of id rows ≡ Some (text ∷ more)
   pub passes : value_passes a text ≡ true
 
 -- an option has no text, or one that passes
@@ -76,8 +78,10 @@ at_option c a id rows all own = go (find (λ r. bytes_eq r.id id) rows) refl (fo
         let id_is : r.id ≡ id = (bytes_eq-Decides r.id id).0 same in
         let rule_is : has.rule ≡ a = some_same _ _ (sym has.own ∙ ap (arg_by_id c) id_is ∙ own) in record {
           text = has.first;
+          more = has.more;
           one = ap (option_and_then row_text) found ∙ rw (has.reading, has.values, rule_is) refl;
           first = ap (option_and_then (λ (r : Row). slice_get r.values 0)) found ∙ rw has.values refl;
+          every = ap (option_map (λ (r : Row). r.values)) found ∙ ap Some has.values;
           passes = subst (λ (x : Rule). value_passes x has.first ≡ true) rule_is has.passes;
         }
 

@@ -26,7 +26,7 @@ use Rattle.clap.specs.Takes.{value_passes}
 use Rattle.clap.specs.Faults.{action_fault, bundle_fault, bundle_step_fault, flag_word_fault, flags_fault, long_fault}
 use Rattle.clap.specs.Faults.{option_fault, other_fault, positional_fault, react_fault, repeat_fault, set_fault}
 use Rattle.clap.specs.Faults.{settle_fault, short_fault, step_fault, stray_fault, use_fault, values_fault, walk_fault, word_fault}
-use Rattle.clap.specs.declared.builder.action.ArgAction.TheVariants.{Set, SetTrue, Help}
+use Rattle.clap.specs.declared.builder.action.ArgAction.TheVariants.{Append, Help, Set, SetTrue}
 use Rattle.clap.specs.declared.parser.matches.ValueSource.{ValueSource}
 use Rattle.clap.specs.declared.parser.matches.ValueSource.TheVariants.{CommandLine, DefaultValue}
 use Rattle.clap.proofs.OnLiterals.{clap_on_literals}
@@ -69,9 +69,13 @@ never k ks e = cc e
 abbrev pub IsSwitchRule : Rule → Type 0
 IsSwitchRule a = (action_of a ≡ SetTrue) × (word : Text) × (words : List Text) × (a.missing ≡ word ∷ words)
 
--- what a rule is: an option with one value or more, a request for help, or a switch
+-- the rule takes values: those of one use, or of each
+abbrev pub TakesValues : Rule → Type 0
+TakesValues a = (action_of a ≡ Set) ⊎ (action_of a ≡ Append)
+
+-- what a rule is: one that takes one value or more in a use, a request for help, or a switch
 abbrev pub IsKnownKind : Rule → Type 0
-IsKnownKind a = ((action_of a ≡ Set) × (1 ≤ (unwrap_or_range a.range).start_inclusive)) ⊎ ((action_of a ≡ Help) ⊎ IsSwitchRule a)
+IsKnownKind a = (TakesValues a × (1 ≤ (unwrap_or_range a.range).start_inclusive)) ⊎ ((action_of a ≡ Help) ⊎ IsSwitchRule a)
 
 -- the rule is found by its id, and is of a known kind; its defaults pass
 pub record IsOption (c : List Rule) (a : Rule) : Type 0 where
@@ -131,13 +135,18 @@ new_passes c by a v vs is pass = record {
   passes = pass;
 }
 
+append_passes : (c : List Rule) (a : Rule) (v : Text) (vs : List Text) (rows : List Row) → IsOption c a → values_fault a (v ∷ vs) ≡ []
+    → Each (Passes c) rows
+    → Each (Passes c) (with_values a.id (reading_by a) CommandLine (v ∷ vs) rows)
+append_passes c a v vs rows is none e =
+    each_at (Passes c) a.id (more_values CommandLine (v ∷ vs)) _ rows (more_passes c CommandLine (v ∷ vs))
+    (new_passes c CommandLine a v vs is (passes_first a v vs none), tt) e
+
 set_passes : (c : List Rule) (a : Rule) (v : Text) (vs : List Text) (rows : List Row) → IsOption c a → values_fault a (v ∷ vs) ≡ []
     → Each (Passes c) rows
     → Each (Passes c) (with_values a.id (reading_by a) CommandLine (v ∷ vs) (without a.id rows))
 set_passes c a v vs rows is none e =
-    each_at (Passes c) a.id (more_values CommandLine (v ∷ vs)) _ (without a.id rows) (more_passes c CommandLine (v ∷ vs))
-    (new_passes c CommandLine a v vs is (passes_first a v vs none), tt)
-    (each_at (Passes c) a.id (λ _. []) [] rows (λ r has. tt) tt e)
+    append_passes c a v vs (without a.id rows) is none (each_at (Passes c) a.id (λ _. []) [] rows (λ r has. tt) tt e)
 
 -- the default values of a rule pass
 default_passes : (c : List Rule) (a : Rule) (values : List Text) (rows : List Row) → IsOption c a
@@ -185,11 +194,15 @@ use_passes c again a values rows is none e =
         → range_kinds (unwrap_or_range a.range).start_inclusive (most_values a) (length vs) ≡ []
         → action_fault (action_of a) again a (values_or_missing a vs) rows ≡ []
         → Each (Passes c) (used a vs rows)
-    go [] (inl set) range fault = absurd (too_few _ _ set.1 range)
-    go (v ∷ vs) (inl set) range fault =
-        let as_set : set_fault again a (v ∷ vs) rows ≡ [] = subst (λ x. action_fault x again a (v ∷ vs) rows ≡ []) set.0 fault in
-        subst (λ x. Each (Passes c) (used_as x a.id (reading_by a) (v ∷ vs) rows)) (sym set.0)
+    go [] (inl takes) range fault = absurd (too_few _ _ takes.1 range)
+    go (v ∷ vs) (inl (inl set, least)) range fault =
+        let as_set : set_fault again a (v ∷ vs) rows ≡ [] = subst (λ x. action_fault x again a (v ∷ vs) rows ≡ []) set fault in
+        subst (λ x. Each (Passes c) (used_as x a.id (reading_by a) (v ∷ vs) rows)) (sym set)
         (set_passes c a v vs rows is (none_of _ _ as_set).1 e)
+    go (v ∷ vs) (inl (inr append, least)) range fault =
+        let as_append : values_fault a (v ∷ vs) ≡ [] = subst (λ x. action_fault x again a (v ∷ vs) rows ≡ []) append fault in
+        subst (λ x. Each (Passes c) (used_as x a.id (reading_by a) (v ∷ vs) rows)) (sym append)
+        (append_passes c a v vs rows is as_append e)
     go [] (inr (inr flag)) range fault = switched [] flag.2 flag.1 flag.0 flag.3 fault
     go (v ∷ vs) (inr (inr flag)) range fault = switched (v ∷ vs) vs v flag.0 refl fault
     go vs (inr (inl help)) range fault =

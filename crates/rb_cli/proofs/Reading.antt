@@ -1,7 +1,7 @@
 -- Words that the command line takes ask for something, within its limits.
-use Rattle.std.proofs.Common.{◌≡◌, ◌∙◌, ◌≤◌, ◌⊎◌, ◌&&◌, ◌||◌, ℕ, Bool, cond, codes, true, false, true≢false, not, refl}
-use Rattle.std.proofs.Common.{sym, subst, arith, List, [], ◌∷◌, Option, Some, None, inl, inr, is_some}
-use Rattle.std.specs.Prelude.{IfSome, find, fold, option_map}
+use Rattle.std.proofs.Common.{◌≡◌, ◌∙◌, ◌<◌, ◌≤◌, ◌⊎◌, ◌&&◌, ◌||◌, ℕ, Bool, cond, codes, true, false, true≢false, not, refl}
+use Rattle.std.proofs.Common.{sym, ap, subst, arith, length, List, [], ◌∷◌, Option, Some, None, inl, inr, is_some}
+use Rattle.std.specs.Prelude.{IfSome, find, fold, option_map, unwrap_or}
 use Rattle.std.specs.Option.{option_map_or}
 use Rattle.std.specs.Str.{bytes_eq}
 use Rattle.std.proofs.lemmas.Slice.Eq.{bytes_eq-Decides}
@@ -9,20 +9,22 @@ use Rattle.clap.specs.Lexer.{long_of, short_of, without_minus}
 use Rattle.clap.specs.Kinds.{or_else}
 use Rattle.clap.specs.Faults.{check_fault, entered_fault, fault_of, level_fault, other_fault, step_fault, walk_fault, word_fault}
 use Rattle.clap.specs.Simple.{App, Shape, new_app, built, entered, label_of, names_of, built_leaf, filled, inherited}
-use Rattle.clap.specs.Simple.{marked_built, rows_at, subcommand_of, with_leaf_noted}
+use Rattle.clap.specs.Simple.{marked_built, rows_at, subcommand_of, with_index, with_leaf_noted}
 use Rattle.clap.specs.Takes.{is_given}
 use Rattle.clap.specs.Walk.{Held, Names, Outcome, Row, Rule, Step, Text, Waiting, Walk, after_flag, after_step}
 use Rattle.clap.specs.Walk.{answers_to, arg_by_index, bundle, idle, long_met, arg_by_long}
-use Rattle.clap.specs.Walk.{done, long_or_other, next, nothing_held, one_of, option, plain, plain_word, positional}
+use Rattle.clap.specs.Walk.{done, first_of, long_or_other, next, nothing_held, one_of, option, plain, plain_word, positional}
 use Rattle.clap.specs.Walk.{refused, rows_after, short_or_plain, stop_after, subcommand, subcommand_met}
 use Rattle.clap.specs.Walk.{subcommand_or_other}
 use Rattle.clap.specs.Walk.{to_positional, trailing, value, waits, walk_from, walked, walked_from, word_met}
 use Rattle.clap.specs.declared.error.kind.ErrorKind.TheVariants.{DisplayHelp, InvalidSubcommand, MissingSubcommand}
 use Rattle.clap.proofs.OnLiterals.{clap_on_literals}
 use Rattle.rb_money.specs.declared.limits.TheConstants.{MOST_HISTORY, MOST_SITES}
+use Rattle.rb_cli.specs.declared.recorded.Record.{Record}
 use Rattle.rb_cli.specs.declared.words.TheConstants.{MOST_TELLERS}
 use Rattle.rb_cli.specs.Words.{AreFit, Asked, IsInRange, IsNumberWithin, IsSwitchWord, TextRefs, command_line, option_rule, plain_line}
-use Rattle.rb_cli.specs.Words.{choice_at, site_line, switch_at, switch_rule}
+use Rattle.rb_cli.specs.Words.{choice_at, close_asked, close_line, number_at, seal, site_line, switch_at}
+use Rattle.rb_cli.specs.Words.{switch_rule, values_rule, with_site_options}
 use Rattle.rb_cli.specs.Words.{threads_line, within, numeral_value, words_of_matches, script, audit, histories, migrate, threads}
 use Rattle.rb_cli.specs.Words.{site}
 use Rattle.rb_cli.proofs.Options.{HasText, at_option, fits, given_text, none_missing, leaf_passes, number_of_text}
@@ -131,14 +133,16 @@ other_text : (a b : Text) → bytes_eq a b ≡ false → a ≡ b → ⊥
 other_text a b differ same = true≢false (sym ((bytes_eq-Decides a b).1 same) ∙ differ)
 
 no_options : (name : Text) (its_rows : List Row) → bytes_eq name (codes "threads") ≡ false
-    → bytes_eq name (codes "site") ≡ false → AreFit name its_rows
-no_options name its_rows no_threads no_site = record {
+    → bytes_eq name (codes "site") ≡ false → bytes_eq name (codes "close") ≡ false → AreFit name its_rows
+no_options name its_rows no_threads no_site no_close = record {
   sites = λ is. absurd (other_text _ _ no_threads is);
   tellers = λ is. absurd (other_text _ _ no_threads is);
   seed = λ is. absurd (other_text _ _ no_threads is);
   me = λ is. absurd (other_text _ _ no_site is);
   resend = λ is. absurd (other_text _ _ no_site is);
   new = λ is. absurd (other_text _ _ no_site is);
+  seal = λ is. absurd (other_text _ _ no_site is);
+  next_sites = λ is. absurd (other_text _ _ no_close is);
 }
 
 nothing_missing : (a b d : Bool) → (not a || (not b || (not d || false))) ≡ false → (a ≡ true) × (b ≡ true) × (d ≡ true)
@@ -158,11 +162,11 @@ numbers name least most required = filled (option_rule name (within least most) 
 -- the rules of `threads` are options
 pub threads_options : HasOptions (leaf threads_line)
 threads_options = (
-  record { own = refl; defaults = tt; kind = inl (refl, omega arith) },
+  record { own = refl; defaults = tt; kind = inl (inl refl, omega arith) },
   (
-    record { own = refl; defaults = tt; kind = inl (refl, omega arith) },
+    record { own = refl; defaults = tt; kind = inl (inl refl, omega arith) },
     (
-      record { own = refl; defaults = tt; kind = inl (refl, omega arith) },
+      record { own = refl; defaults = tt; kind = inl (inl refl, omega arith) },
       (record { own = refl; defaults = tt; kind = inr (inl refl) }, tt),
     ),
   ),
@@ -171,21 +175,41 @@ threads_options = (
 -- and so are those of `site`
 pub site_options : (names : TextRefs) → HasOptions (leaf (site_line names))
 site_options names = (
-  record { own = refl; defaults = tt; kind = inl (refl, omega arith) },
+  record { own = refl; defaults = tt; kind = inl (inl refl, omega arith) },
   (
-    record { own = refl; defaults = tt; kind = inl (refl, omega arith) },
+    record { own = refl; defaults = tt; kind = inl (inl refl, omega arith) },
     (
       record { own = refl; defaults = (refl, tt); kind = inr (inr (refl, codes "true", [], refl)) },
       (
-        record { own = refl; defaults = tt; kind = inl (refl, omega arith) },
+        record { own = refl; defaults = tt; kind = inl (inl refl, omega arith) },
         (
-          record { own = refl; defaults = tt; kind = inl (refl, omega arith) },
-          (record { own = refl; defaults = tt; kind = inr (inl refl) }, tt),
+          record { own = refl; defaults = tt; kind = inl (inl refl, omega arith) },
+          (
+            record { own = refl; defaults = (refl, tt); kind = inr (inr (refl, codes "true", [], refl)) },
+            (record { own = refl; defaults = tt; kind = inr (inl refl) }, tt),
+          ),
         ),
       ),
     ),
   ),
 )
+
+-- and those of `close`
+pub close_options : HasOptions (leaf close_line)
+close_options = (
+  record { own = refl; defaults = tt; kind = inl (inl refl, omega arith) },
+  (
+    record { own = refl; defaults = tt; kind = inl (inr refl, omega arith) },
+    (
+      record { own = refl; defaults = tt; kind = inl (inr refl, omega arith) },
+      (record { own = refl; defaults = tt; kind = inr (inl refl) }, tt),
+    ),
+  ),
+)
+
+-- the rule of the files behind them
+abbrev pub journals_rule : Rule
+journals_rule = with_index 1 (filled (values_rule (codes "journals")))
 
 threads_given : (its_rows : List Row) → Each (Passes (leaf threads_line).rules) its_rows
     → check_fault (leaf threads_line) its_rows false ≡ []
@@ -221,6 +245,8 @@ threads_asks its_rows all none =
         me = λ is. absurd (other_text (codes "threads") (codes "site") refl is);
         resend = λ is. absurd (other_text (codes "threads") (codes "site") refl is);
         new = λ is. absurd (other_text (codes "threads") (codes "site") refl is);
+        seal = λ is. absurd (other_text (codes "threads") (codes "site") refl is);
+        next_sites = λ is. absurd (other_text (codes "threads") (codes "close") refl is);
       };
     }
 
@@ -264,11 +290,12 @@ site_asks names its_rows all none =
     let rules = (leaf (site_line names)).rules in
     let again = fits _ _ its_rows 0 MOST_HISTORY
     (at_option rules (numbers (codes "resend") 0 MOST_HISTORY false) (codes "resend") its_rows all refl) refl in
+    let what = by_switch (numeral_value (without_minus given.0.text)) given.1.text (ap (option_map numeral_value) me.0) given.1.first
+    (omega (arith, me.1.2)) (resent (one_of (codes "resend") its_rows) again) (switch_at (codes "seal") its_rows) in
     record {
-      asked = site (numeral_value (without_minus given.0.text)) given.1.text (switch_at (codes "new") its_rows)
-          (option_map numeral_value (one_of (codes "resend") its_rows)) (choice_at its_rows);
-      is = rw (me.0, given.1.first) refl;
-      in_range = (omega (arith, me.1.2), resent (one_of (codes "resend") its_rows) again);
+      asked = what.0;
+      is = what.1;
+      in_range = what.2;
       fit = record {
         sites = λ is. absurd (other_text (codes "site") (codes "threads") refl is);
         tellers = λ is. absurd (other_text (codes "site") (codes "threads") refl is);
@@ -276,6 +303,62 @@ site_asks names its_rows all none =
         me = λ _. fits _ _ its_rows 0 15 (at_option rules (numbers (codes "me") 0 15 true) _ its_rows all refl) refl;
         resend = λ _. again;
         new = λ _. switched (codes "new") its_rows (at_option rules (filled (switch_rule (codes "new"))) (codes "new") its_rows all refl);
+        seal = λ _. switched (codes "seal") its_rows (at_option rules (filled (switch_rule (codes "seal"))) (codes "seal") its_rows all refl);
+        next_sites = λ is. absurd (other_text (codes "site") (codes "close") refl is);
+      };
+    }
+  where
+    -- a history to seal is asked for, or a site to run
+    by_switch : (me : ℕ) (journal : Text) → number_at (codes "me") its_rows ≡ Some me → first_of (codes "journal") its_rows ≡ Some journal
+        → me < MOST_SITES → IfSome (number_at (codes "resend") its_rows) (λ n. n ≤ MOST_HISTORY) → (sealed : Bool)
+        → (asked : Asked)
+        × (with_site_options (number_at (codes "me") its_rows) (first_of (codes "journal") its_rows) sealed
+        (switch_at (codes "new") its_rows) (number_at (codes "resend") its_rows) (choice_at its_rows) ≡ Some asked)
+        × IsInRange asked
+    by_switch me journal has_me has_journal is_site resent sealed =
+        let new = switch_at (codes "new") its_rows in
+        let again = number_at (codes "resend") its_rows in
+        let choice = choice_at its_rows in
+        let is = ap (λ o. with_site_options o (first_of (codes "journal") its_rows) sealed new again choice) has_me
+        ∙ ap (λ o. with_site_options (Some me) o sealed new again choice) has_journal in
+        go sealed new again choice is_site resent is
+      where
+        go : (sealed new : Bool) (again : Option ℕ) (choice : Record) → me < MOST_SITES → IfSome again (λ n. n ≤ MOST_HISTORY)
+            → {o : Option Asked} → o ≡ with_site_options (Some me) (Some journal) sealed new again choice
+            → (asked : Asked) × (o ≡ Some asked) × IsInRange asked
+        go true new again choice is_site resent is = (seal me journal, is, is_site)
+        go false new again choice is_site resent is = (site me journal new again choice, is, (is_site, resent))
+
+-- the number of the next bank's sites, if it is given
+next_fits : (o : Option Text) → IfSome o (IsNumberWithin 2 MOST_SITES)
+    → IfSome (option_map numeral_value o) (λ n. (2 ≤ n) × (n ≤ MOST_SITES))
+next_fits None h = tt
+next_fits (Some t) h = (h.1, h.2)
+
+close_asks : (its_rows : List Row) → Each (Passes (leaf close_line).rules) its_rows → check_fault (leaf close_line) its_rows false ≡ []
+    → Asks (Some (codes "close", its_rows))
+close_asks its_rows all none =
+    let given = nothing_missing (is_given (codes "journals") its_rows) true true (none_missing (leaf close_line) its_rows none) in
+    let rules = (leaf close_line).rules in
+    let journals : HasText journals_rule (codes "journals") its_rows = given_text rules _ _ its_rows all refl given.0 in
+    let next = fits _ _ its_rows 2 MOST_SITES
+    (at_option rules (numbers (codes "sites") 2 MOST_SITES false) (codes "sites") its_rows all refl) refl in
+    record {
+      asked = close_asked its_rows;
+      is = refl;
+      in_range = (
+        next_fits (one_of (codes "sites") its_rows) next,
+        subst (λ o. 1 ≤ length (unwrap_or o [])) (sym journals.every) (omega arith),
+      );
+      fit = record {
+        sites = λ is. absurd (other_text (codes "close") (codes "threads") refl is);
+        tellers = λ is. absurd (other_text (codes "close") (codes "threads") refl is);
+        seed = λ is. absurd (other_text (codes "close") (codes "threads") refl is);
+        me = λ is. absurd (other_text (codes "close") (codes "site") refl is);
+        resend = λ is. absurd (other_text (codes "close") (codes "site") refl is);
+        new = λ is. absurd (other_text (codes "close") (codes "site") refl is);
+        seal = λ is. absurd (other_text (codes "close") (codes "site") refl is);
+        next_sites = λ _. next;
       };
     }
 
@@ -289,23 +372,23 @@ AsksBy name s = (words : List Text) → level_fault s [] nothing_held words fals
 plain_asks : (name : Text) (a : App) (asked : Asked)
     → ((its_rows : List Row) → words_of_matches (Some ((leaf a).name, its_rows)) ≡ Some asked)
     → IsInRange asked → bytes_eq (leaf a).name (codes "threads") ≡ false → bytes_eq (leaf a).name (codes "site") ≡ false
-    → AsksBy name (leaf a)
-plain_asks name a asked is in_range no_threads no_site words none named = record {
+    → bytes_eq (leaf a).name (codes "close") ≡ false → AsksBy name (leaf a)
+plain_asks name a asked is in_range no_threads no_site no_close words none named = record {
   asked = asked;
   is = is (rows_at (leaf a) words).1;
   in_range = in_range;
-  fit = no_options _ _ no_threads no_site;
+  fit = no_options _ _ no_threads no_site no_close;
 }
 
 each_asks : (names : TextRefs) (name : Text) → IsOther name → Each (AsksBy name) (built (command_line names)).subs
 each_asks names name other = (
-  plain_asks name (new_app (codes "script")) script (λ its_rows. refl) tt refl refl,
+  plain_asks name (new_app (codes "script")) script (λ its_rows. refl) tt refl refl refl,
   (
-    plain_asks name (new_app (codes "histories")) histories (λ its_rows. refl) tt refl refl,
+    plain_asks name (new_app (codes "histories")) histories (λ its_rows. refl) tt refl refl refl,
     (
-      plain_asks name (new_app (codes "audit")) audit (λ its_rows. refl) tt refl refl,
+      plain_asks name (new_app (codes "audit")) audit (λ its_rows. refl) tt refl refl refl,
       (
-        plain_asks name (new_app (codes "migrate")) migrate (λ its_rows. refl) tt refl refl,
+        plain_asks name (new_app (codes "migrate")) migrate (λ its_rows. refl) tt refl refl refl,
         (
           (λ words none named.
               let done = leaf_passes (leaf threads_line) threads_options words none in
@@ -314,7 +397,12 @@ each_asks names name other = (
             (λ words none named.
                 let done = leaf_passes (leaf (site_line names)) (site_options names) words none in
                 site_asks names (rows_after (leaf (site_line names)).rules [] words) done.0 done.1),
-            ((λ words none named. absurd (no_help name other (or_false _ named))), tt),
+            (
+              (λ words none named.
+                  let done = leaf_passes (leaf close_line) close_options words none in
+                  close_asks (rows_after (leaf close_line).rules [] words) done.0 done.1),
+              ((λ words none named. absurd (no_help name other (or_false _ named))), tt),
+            ),
           ),
         ),
       ),

@@ -1,115 +1,44 @@
 -- Words in their usual spelling are taken, and read as what they ask for.
-use Rattle.std.proofs.Common.{◌≡◌, ◌∙◌, ◌<◌, ◌≤◌, ◌==◌, ◌+◌, ◌*◌, ◌^◌, ◌⊎◌, ℕ, Bool, cond, codes, decimal, zero, suc}
+use Rattle.std.proofs.Common.{◌≡◌, ◌∙◌, ◌<◌, ◌≤◌, ◌+◌, ◌*◌, ◌^◌, ◌⊎◌, ℕ, Bool, cond, codes, decimal, zero, suc}
 use Rattle.std.proofs.Common.{true, false, true≢false, refl, sym, ap, subst, arith, List, [], ◌∷◌, length, Option}
-use Rattle.std.proofs.Common.{Some, None, inl, inr, pos, ◌&&◌, ◌||◌, ◌++◌, drop, is_some, map, not, take}
-use Rattle.std.specs.Prelude.{fold, slice_get, unwrap_or}
+use Rattle.std.proofs.Common.{Some, None, inl, inr, ◌&&◌, ◌||◌, ◌++◌, drop, is_some, map, not, take}
+use Rattle.std.specs.Prelude.{fold, slice_get}
 use Rattle.std.specs.Borrow.{Bor}
 use Rattle.std.specs.List.{list_any}
 use Rattle.std.specs.Str.{bytes_eq}
-use Rattle.std.specs.Str.Parse.{IsNumeral, digits_value, starts_with_minus, without_leading_plus}
-use Rattle.std.proofs.lemmas.Bool.{ne_eqb}
+use Rattle.std.proofs.lemmas.List.{length-append}
 use Rattle.std.proofs.lemmas.Option.{slice_get_within}
-use Rattle.std.proofs.lemmas.Fmt.{decimal_is_IsNumeral}
-use Rattle.std.proofs.lemmas.Int.{ints}
 use Rattle.std.proofs.lemmas.Slice.Eq.{bytes_eq-Decides}
-use Rattle.std.proofs.lemmas.Str.Parse.{digit_from_value}
-use Rattle.clap.specs.Lexer.{without_minus}
-use Rattle.clap.specs.Facts.{unwrap_or_range}
+use Rattle.clap.specs.Lexer.{usize_max, without_minus}
 use Rattle.clap.specs.Kinds.{Kinds, or_else}
 use Rattle.clap.specs.Faults.{check_fault, defaults_fault, entered_fault, level_fault, settle_fault, turn_fault, walk_fault}
 use Rattle.clap.specs.Simple.{App, Shape, built, entered, filled, names_of}
 use Rattle.clap.specs.Takes.{value_passes}
-use Rattle.clap.specs.Values.{IsSignedIn}
-use Rattle.clap.specs.Walk.{Row, Rule, Walk, action_of, arg_by_id, finished, has_row, most_values, nothing_held, rows_after}
-use Rattle.clap.specs.Walk.{settled, settled_rows, walk_from, walked, with_default}
+use Rattle.clap.specs.Walk.{Row, Rule, Walk, finished, has_row, nothing_held, rows_after}
+use Rattle.clap.specs.Walk.{settled, walk_from, walked, with_default}
 use Rattle.clap.specs.Words.{Text, fault_of, subcommand_of}
 use Rattle.clap.proofs.OnLiterals.{clap_on_literals}
 use Rattle.clap.proofs.FaultLemmas.{stopped_fault}
-use Rattle.clap.proofs.ValueTestLemmas.{Accepts-accepts}
 use Rattle.clap.proofs.WalkLemmas.{walk_stopped}
-use Rattle.clap.specs.declared.builder.action.ArgAction.TheVariants.{Set}
-use Rattle.clap.specs.declared.builder.value_parser.ValueParser.TheVariants.{Signed}
 use Rattle.clap.specs.declared.error.kind.ErrorKind.TheVariants.{ArgumentConflict}
 use Rattle.rb_money.specs.declared.limits.TheConstants.{MOST_HISTORY, MOST_SITES}
 use Rattle.rb_cli.specs.declared.words.TheConstants.{MOST_TELLERS}
-use Rattle.rb_cli.specs.Words.{AreRecordWords, Ask, Asked, AskForJournal, AskForSite, AskForThreads, IsFileName, IsNewGiven, TextRefs}
-use Rattle.rb_cli.specs.Words.{as_asked, command_line, numeral_value, option_rule, record_of, record_rule, record_word}
+use Rattle.rb_cli.specs.Words.{AreRecordWords, Ask, Asked, AskForClosing, AskForJournal, AskForSeal, AskForSite, AskForThreads}
+use Rattle.rb_cli.specs.Words.{IsNewGiven, IsValue, TextRefs, account_words, as_asked, close, close_line, command_line, numeral_value}
+use Rattle.rb_cli.specs.Words.{option_rule, record_of, record_rule, record_word, seal, sites_words, texts_of}
 use Rattle.rb_cli.specs.Words.{script, audit, histories, migrate, site, site_line, switch_rule, threads, threads_line, words_of_matches}
 use Rattle.rb_cli.specs.declared.recorded.Record.{Record}
 use Rattle.rb_cli.specs.declared.recorded.Record.TheVariants.{Changes, All}
 use Rattle.rb_cli.specs.declared.words.Words.{Words}
-use Rattle.rb_cli.specs.declared.words.Words.TheVariants.{Script, Histories, Audit, Migrate, Threads, Site}
-use Rattle.rb_cli.proofs.GivenOptions.{AreGiven, Given, IsNamed, IsPlain, IsSwitch, at, both_none, rows_with, spelled, switch, takes_given}
-use Rattle.rb_cli.proofs.GivenOptions.{valued, waiting_at}
-use Rattle.rb_cli.proofs.Options.{no_plus}
+use Rattle.rb_cli.specs.declared.words.Words.TheVariants.{Script, Histories, Audit, Migrate, Threads, Site, Seal, Close}
+use Rattle.rb_cli.proofs.GivenOptions.{AreGiven, Given, IsNamed, IsPlain, IsSwitch, both_none, rows_with, spelled, switch, takes_given}
+use Rattle.rb_cli.proofs.GivenOptions.{valued}
+use Rattle.rb_cli.proofs.Closing.{closing_taken}
 use Rattle.rb_cli.proofs.Passing.{Each, each_append}
 use Rattle.rb_cli.proofs.Reading.{leaf, numbers}
-
--- ---- values
-
--- the text is the digits of this number
-record IsDigits (n : ℕ) (t : Text) : Type 0 where
-  plain : IsPlain t
-  signless : starts_with_minus t ≡ false
-  plus : without_leading_plus t ≡ t
-  numeral : IsNumeral 10 t
-  value : digits_value 10 t ≡ n
-
-digits : (n : ℕ) (t : Text) → IsNumeral 10 t → digits_value 10 t ≡ n → IsDigits n t
-digits n [] numeral value = absurd (omega (arith, numeral.0))
-digits n (d ∷ ds) numeral value =
-    let no_minus : (d == 45) ≡ false = ne_eqb _ _ (λ e. omega (arith, digit_from_value d numeral.1.0)) in record {
-      plain = ap (λ b. cond b (Some ds) None) no_minus;
-      signless = no_minus;
-      plus = no_plus (d ∷ ds) numeral;
-      numeral = numeral;
-      value = value;
-    }
-
-decimal_digits : (n : ℕ) → n < 2 ^ 63 → IsDigits n (decimal n)
-decimal_digits n below =
-    let is = decimal_is_IsNumeral n (omega (arith, below)) in
-    digits n (decimal n) is.0 is.1
-
-signed_in : (n least most : ℕ) (t : Text) → IsDigits n t → n < 2 ^ 63 → least ≤ n → n ≤ most → IsSignedIn (pos least) (pos most) t
-signed_in n least most t is below low high =
-    rw (is.signless, is.plus, is.value) (is.numeral, omega (arith, ints), omega (arith, ints), omega (arith, ints))
-
--- the digits read as the number
-reads : (n : ℕ) (t : Text) → IsDigits n t → numeral_value (without_minus t) ≡ n
-reads n t is =
-    ap (λ o. numeral_value (unwrap_or o t)) is.plain ∙ ap (digits_value 10) is.plus ∙ is.value
-
-file_plain : (t : Text) → IsFileName t → IsPlain t
-file_plain [] is = refl
-file_plain (x ∷ xs) is =
-    let no_minus : (x == 45) ≡ false = ne_eqb _ _ (λ e. is (ap Some e)) in
-    ap (λ b. cond b (Some xs) None) no_minus
-
--- a number within its limits passes
-number_passes : (name : Text) (required : Bool) (n least most : ℕ) → n < 2 ^ 63 → least ≤ n → n ≤ most
-    → value_passes (numbers name least most required) (decimal n) ≡ true
-number_passes name required n least most below low high =
-    Accepts-accepts false (Signed (pos least) (pos most)) (decimal n)
-    (signed_in n least most (decimal n) (decimal_digits n below) below low high)
+use Rattle.rb_cli.proofs.Spelled.{decimal_digits, is_plain, named, number_passes, reads}
 
 -- ---- names
-
-named : (s : Shape) (word : Text) (a : Rule)
-    → ((rows : List Row) (pending : Option (Text × List Text))
-    → walked s.rules [] (at rows pending) word ≡ waiting_at a.id (settled_rows s.rules pending rows))
-    → ((rows : List Row) (pending : Option (Text × List Text))
-    → turn_fault s [] (at rows pending) word ≡ or_else (settle_fault s.rules s.args_override_self (at rows pending).held) [])
-    → arg_by_id s.rules a.id ≡ Some a → most_values a ≡ 1 → (unwrap_or_range a.range).start_inclusive ≡ 1 → action_of a ≡ Set
-    → IsNamed s word a
-named s word a met fault own most least set = record {
-  met = met;
-  fault = λ rows pending settled. fault rows pending ∙ ap (λ k. or_else k []) settled;
-  own = own;
-  most = most;
-  least = least;
-  set = set;
-}
 
 -- an option in its usual spelling, which passes
 data Fits (s : Shape) : Given → Type 0 where
@@ -135,25 +64,28 @@ journal_given file = valued (codes "--journal") (filled (option_rule (codes "jou
 abbrev fresh : Given
 fresh = switch (codes "--new") (filled (switch_rule (codes "new")))
 
+abbrev sealing : Given
+sealing = switch (codes "--seal") (filled (switch_rule (codes "seal")))
+
 abbrev resend_given : ℕ → Given
 resend_given n = valued (codes "--resend") (numbers (codes "resend") 0 MOST_HISTORY false) (decimal n)
 
 sites_fit : (n : ℕ) → 2 ≤ n → n ≤ MOST_SITES → Fits (leaf threads_line) (sites_given n)
 unfolding clap_on_literals
 sites_fit n low high = FitsValued
-    (named (leaf threads_line) _ _ (λ rows pending. refl) (λ rows pending. refl) refl refl refl refl)
+    (named (leaf threads_line) _ _ (λ rows pending. refl) (λ rows pending. refl) refl refl refl (inl refl))
     (decimal_digits n (omega (arith, high))).plain (number_passes (codes "sites") true n 2 MOST_SITES (omega (arith, high)) low high)
 
 tellers_fit : (n : ℕ) → 1 ≤ n → n ≤ MOST_TELLERS → Fits (leaf threads_line) (tellers_given n)
 unfolding clap_on_literals
 tellers_fit n low high = FitsValued
-    (named (leaf threads_line) _ _ (λ rows pending. refl) (λ rows pending. refl) refl refl refl refl)
+    (named (leaf threads_line) _ _ (λ rows pending. refl) (λ rows pending. refl) refl refl refl (inl refl))
     (decimal_digits n (omega (arith, high))).plain (number_passes (codes "tellers") true n 1 MOST_TELLERS (omega (arith, high)) low high)
 
 seed_fits : (n : ℕ) → n < 2 ^ 32 → Fits (leaf threads_line) (seed_given n)
 unfolding clap_on_literals
 seed_fits n high = FitsValued
-    (named (leaf threads_line) _ _ (λ rows pending. refl) (λ rows pending. refl) refl refl refl refl)
+    (named (leaf threads_line) _ _ (λ rows pending. refl) (λ rows pending. refl) refl refl refl (inl refl))
     (decimal_digits n (omega (arith, high))).plain
     (number_passes (codes "seed") true n 0 4294967295 (omega (arith, high)) (omega arith) (omega (arith, high)))
 
@@ -194,7 +126,7 @@ all_given : (s : Shape) (rows : List Row) (gs : List Given) → Each (Fits s) gs
 all_given s rows [] fits new = tt
 all_given s rows (valued word rule value ∷ gs) (FitsValued is plain passes, more) new =
     let parts = both (has_row rule.id rows) _ new in
-    (is, plain, parts.0, passes, all_given s (rows_with rows (valued word rule value ∷ [])) gs more parts.1)
+    (is, plain, inr parts.0, passes, all_given s (rows_with rows (valued word rule value ∷ [])) gs more parts.1)
 all_given s rows (switch word rule ∷ gs) (FitsSwitch is, more) new =
     let parts = both (has_row rule.id rows) _ new in
     (is, parts.0, all_given s (rows_with rows (switch word rule ∷ [])) gs more parts.1)
@@ -320,6 +252,39 @@ five P h (w ∷ a ∷ b ∷ []) is = absurd (omega (arith, is))
 five P h (w ∷ a ∷ b ∷ d ∷ []) is = absurd (omega (arith, is))
 five P h (w ∷ a ∷ b ∷ d ∷ e ∷ x ∷ xs) is = absurd (omega (arith, is))
 
+-- so it is with these words and one more, behind the first of them or behind an option's value
+abbrev InEachPlace : (List Text → Type 0) → Text → List Text → Type 0
+InEachPlace P name others = (i : ℕ) → 2 * i < length others → P (take (2 * i + 1) others ++ name ∷ drop (2 * i + 1) others)
+
+in_five : (P : List Text → Type 0) (name w a b d e : Text) → P (w ∷ name ∷ a ∷ b ∷ d ∷ e ∷ []) → P (w ∷ a ∷ b ∷ name ∷ d ∷ e ∷ [])
+    → P (w ∷ a ∷ b ∷ d ∷ e ∷ name ∷ []) → InEachPlace P name (w ∷ a ∷ b ∷ d ∷ e ∷ [])
+in_five P name w a b d e first second last = go
+  where
+    go : (i : ℕ) → 2 * i < 5
+        → P (take (2 * i + 1) (w ∷ a ∷ b ∷ d ∷ e ∷ []) ++ name ∷ drop (2 * i + 1) (w ∷ a ∷ b ∷ d ∷ e ∷ []))
+    go zero below = first
+    go (suc zero) below = second
+    go (suc (suc zero)) below = last
+    go (suc (suc (suc k))) below = absurd (omega (arith, below))
+
+-- five words that ask for a site's journal are in one of two orders
+in_either_order : (P : List Text → Type 0) (k : ℕ) (file : Text)
+    → P (codes "site" ∷ codes "--me" ∷ decimal k ∷ codes "--journal" ∷ file ∷ [])
+    → P (codes "site" ∷ codes "--journal" ∷ file ∷ codes "--me" ∷ decimal k ∷ []) → (words : List Text)
+    → AskForJournal words k file None → P words
+in_either_order P k file me_first journal_first words ask =
+    five (λ ws. AskForJournal ws k file None → P ws) (λ w a b d e is.
+    subst (λ u. P (u ∷ a ∷ b ∷ d ∷ e ∷ [])) (sym (some_same _ _ is.first))
+    (go a b d e (in_two _ _ _ _ _ is.me_given.0 _ _ is.me_given.1 is.me_given.2)
+    (in_two _ _ _ _ _ is.journal_given.0 _ _ is.journal_given.1 is.journal_given.2))) words ask.resent ask
+  where
+    go : (a b d e : Text) → Pair a b (codes "--me") (decimal k) ⊎ Pair d e (codes "--me") (decimal k)
+        → Pair a b (codes "--journal") file ⊎ Pair d e (codes "--journal") file → P (codes "site" ∷ a ∷ b ∷ d ∷ e ∷ [])
+    go a b d e (inl s) (inl t) = absurd (no_both _ (codes "--me") (codes "--journal") refl s.0 t.0)
+    go a b d e (inr s) (inr t) = absurd (no_both _ (codes "--me") (codes "--journal") refl s.0 t.0)
+    go a b d e (inl s) (inr t) = subst P (five_words s.0 s.1 t.0 t.1) me_first
+    go a b d e (inr s) (inl t) = subst P (five_words t.0 t.1 s.0 s.1) journal_first
+
 -- ---- any order
 
 module _ (names : TextRefs) (are_words : AreRecordWords names) where
@@ -330,25 +295,32 @@ module _ (names : TextRefs) (are_words : AreRecordWords names) where
   me_fits : (n : ℕ) → n < MOST_SITES → Fits site_shape (me_given n)
   unfolding clap_on_literals
   me_fits n high = FitsValued
-      (named site_shape _ _ (λ rows pending. refl) (λ rows pending. refl) refl refl refl refl)
+      (named site_shape _ _ (λ rows pending. refl) (λ rows pending. refl) refl refl refl (inl refl))
       (decimal_digits n (omega (arith, high))).plain
       (number_passes (codes "me") true n 0 15 (omega (arith, high)) (omega arith) (omega (arith, high)))
 
-  journal_fits : (file : Text) → IsFileName file → Fits site_shape (journal_given file)
+  journal_fits : (file : Text) → IsValue file → Fits site_shape (journal_given file)
   unfolding clap_on_literals
   journal_fits file is = FitsValued
-      (named site_shape _ _ (λ rows pending. refl) (λ rows pending. refl) refl refl refl refl) (file_plain file is) refl
+      (named site_shape _ _ (λ rows pending. refl) (λ rows pending. refl) refl refl refl (inl refl)) (is_plain file is) refl
 
   resend_fits : (n : ℕ) → n ≤ MOST_HISTORY → Fits site_shape (resend_given n)
   unfolding clap_on_literals
   resend_fits n high = FitsValued
-      (named site_shape _ _ (λ rows pending. refl) (λ rows pending. refl) refl refl refl refl)
+      (named site_shape _ _ (λ rows pending. refl) (λ rows pending. refl) refl refl refl (inl refl))
       (decimal_digits n (omega (arith, high))).plain
       (number_passes (codes "resend") false n 0 MOST_HISTORY (omega (arith, high)) (omega arith) high)
 
   new_fits : Fits site_shape fresh
   unfolding clap_on_literals
   new_fits = FitsSwitch (record {
+    met = λ rows pending. refl;
+    fault = λ rows pending settled new. switched _ false _ settled new;
+  })
+
+  seal_fits : Fits site_shape sealing
+  unfolding clap_on_literals
+  seal_fits = FitsSwitch (record {
     met = λ rows pending. refl;
     fault = λ rows pending settled new. switched _ false _ settled new;
   })
@@ -373,7 +345,7 @@ module _ (names : TextRefs) (are_words : AreRecordWords names) where
   record_fits : (r : Record) → Fits site_shape (record_given r)
   unfolding clap_on_literals
   record_fits r = FitsValued
-      (named site_shape _ _ (λ rows pending. refl) (λ rows pending. refl) refl refl refl refl)
+      (named site_shape _ _ (λ rows pending. refl) (λ rows pending. refl) refl refl refl (inl refl))
       (plain r) (record_passes r)
     where
       plain : (r : Record) → IsPlain (record_word r)
@@ -489,8 +461,7 @@ module _ (names : TextRefs) (are_words : AreRecordWords names) where
   -- so it is with these words, and with `--new` among them
   record Takes (others : List Text) (asked : Bool → Record → Asked) : Type 0 where
     plain : TakesSite others (asked false)
-    new : (i : ℕ) → 2 * i < length others
-        → TakesSite (take (2 * i + 1) others ++ codes "--new" ∷ drop (2 * i + 1) others) (asked true)
+    new : InEachPlace (λ words. TakesSite words (asked true)) (codes "--new") others
 
   -- so it is with seven words, with `--new` in each of its places, or with five
   takes_seven : (w a b d e f g : Text) (asked : Bool → Record → Asked)
@@ -514,14 +485,8 @@ module _ (names : TextRefs) (are_words : AreRecordWords names) where
       → TakesSite (w ∷ codes "--new" ∷ a ∷ b ∷ d ∷ e ∷ []) (asked true)
       → TakesSite (w ∷ a ∷ b ∷ codes "--new" ∷ d ∷ e ∷ []) (asked true)
       → TakesSite (w ∷ a ∷ b ∷ d ∷ e ∷ codes "--new" ∷ []) (asked true) → Takes (w ∷ a ∷ b ∷ d ∷ e ∷ []) asked
-  takes_five w a b d e asked plain first second last = record { plain = plain; new = go }
-    where
-      go : (i : ℕ) → 2 * i < 5 → TakesSite (take (2 * i + 1) (w ∷ a ∷ b ∷ d ∷ e ∷ [])
-          ++ codes "--new" ∷ drop (2 * i + 1) (w ∷ a ∷ b ∷ d ∷ e ∷ [])) (asked true)
-      go zero below = first
-      go (suc zero) below = second
-      go (suc (suc zero)) below = last
-      go (suc (suc (suc k))) below = absurd (omega (arith, below))
+  takes_five w a b d e asked plain first second last =
+      record { plain = plain; new = in_five (λ words. TakesSite words (asked true)) (codes "--new") w a b d e first second last }
 
   -- a site's options in turn, and with `--record` behind them
   site_taken : (gs : List Given) (asked : Record → Asked) → Each (Fits site_shape) gs → are_enough site_shape gs ≡ true
@@ -642,6 +607,31 @@ module _ (names : TextRefs) (are_words : AreRecordWords names) where
         (site_taken (journal_given file ∷ fresh ∷ me_given a ∷ []) _ (y, (new_fits, (x, tt))) refl (λ r. refl) (reads true))
         (site_taken (journal_given file ∷ me_given a ∷ fresh ∷ []) _ (y, (x, (new_fits, tt))) refl (λ r. refl) (reads true))
 
+  -- options with `--seal` among them
+  seal_taken : (gs : List Given) (me : ℕ) (file : Text) → Each (Fits site_shape) gs → are_enough site_shape gs ≡ true
+      → words_of_matches (Some (codes "site", all_rows site_shape gs)) ≡ Some (seal me file)
+      → TakesAs (codes "site" ∷ spelled gs) (seal me file)
+  seal_taken gs me file = taken (codes "site") site_shape gs (seal me file) (behind_site (spelled gs))
+
+  module _ (a : ℕ) (file : Text) (x : Fits site_shape (me_given a)) (y : Fits site_shape (journal_given file))
+      (read : numeral_value (without_minus (decimal a)) ≡ a) where
+    abbrev AsSeal : List Text → Type 0
+    AsSeal words = TakesAs words (seal a file)
+
+    me_journal_seal : InEachPlace AsSeal (codes "--seal") (codes "site" ∷ spelled (me_given a ∷ journal_given file ∷ []))
+    unfolding clap_on_literals
+    me_journal_seal = in_five AsSeal (codes "--seal") _ _ _ _ _
+        (seal_taken (sealing ∷ me_given a ∷ journal_given file ∷ []) a file (seal_fits, (x, (y, tt))) refl (ap (λ k. Some (seal k file)) read))
+        (seal_taken (me_given a ∷ sealing ∷ journal_given file ∷ []) a file (x, (seal_fits, (y, tt))) refl (ap (λ k. Some (seal k file)) read))
+        (seal_taken (me_given a ∷ journal_given file ∷ sealing ∷ []) a file (x, (y, (seal_fits, tt))) refl (ap (λ k. Some (seal k file)) read))
+
+    journal_me_seal : InEachPlace AsSeal (codes "--seal") (codes "site" ∷ spelled (journal_given file ∷ me_given a ∷ []))
+    unfolding clap_on_literals
+    journal_me_seal = in_five AsSeal (codes "--seal") _ _ _ _ _
+        (seal_taken (sealing ∷ journal_given file ∷ me_given a ∷ []) a file (seal_fits, (y, (x, tt))) refl (ap (λ k. Some (seal k file)) read))
+        (seal_taken (journal_given file ∷ sealing ∷ me_given a ∷ []) a file (y, (seal_fits, (x, tt))) refl (ap (λ k. Some (seal k file)) read))
+        (seal_taken (journal_given file ∷ me_given a ∷ sealing ∷ []) a file (y, (x, (seal_fits, tt))) refl (ap (λ k. Some (seal k file)) read))
+
   -- ---- the words that ask
 
   usual_threads : (words : List Text) (k m n : ℕ) → AskForThreads words k m n → TakesAs words (threads k m n)
@@ -667,24 +657,10 @@ module _ (names : TextRefs) (are_words : AreRecordWords names) where
   takes_journal : (words : List Text) (k : ℕ) (file : Text) (resend : Option ℕ) → AskForJournal words k file resend
       → Takes words (asked k file resend)
   takes_journal words k file None ask =
-      five (λ ws. AskForJournal ws k file None → Takes ws (asked k file None)) (λ w a b d e is.
-      subst (λ u. Takes (u ∷ a ∷ b ∷ d ∷ e ∷ []) (asked k file None)) (sym (some_same _ _ is.first))
-      (go a b d e (me_fits k is.is_site) (journal_fits file is.is_file)
-      (read_as file (reads k _ (decimal_digits k (omega (arith, is.is_site)))) refl)
-      (in_two _ _ _ _ _ is.me_given.0 _ _ is.me_given.1 is.me_given.2)
-      (in_two _ _ _ _ _ is.journal_given.0 _ _ is.journal_given.1 is.journal_given.2))) words ask.resent ask
-    where
-      go : (a b d e : Text) (x : Fits site_shape (me_given k)) (y : Fits site_shape (journal_given file))
-          (read : ReadAs (numeral_value (without_minus (decimal k))) None k None file)
-          → Pair a b (codes "--me") (decimal k) ⊎ Pair d e (codes "--me") (decimal k)
-          → Pair a b (codes "--journal") file ⊎ Pair d e (codes "--journal") file
-          → Takes (codes "site" ∷ a ∷ b ∷ d ∷ e ∷ []) (asked k file None)
-      go a b d e x y read (inl s) (inl t) = absurd (no_both _ (codes "--me") (codes "--journal") refl s.0 t.0)
-      go a b d e x y read (inr s) (inr t) = absurd (no_both _ (codes "--me") (codes "--journal") refl s.0 t.0)
-      go a b d e x y read (inl s) (inr t) =
-          subst (λ ws. Takes ws (asked k file None)) (five_words s.0 s.1 t.0 t.1) (me_journal k file x y read)
-      go a b d e x y read (inr s) (inl t) =
-          subst (λ ws. Takes ws (asked k file None)) (five_words t.0 t.1 s.0 s.1) (journal_me k file x y read)
+      let x = me_fits k ask.is_site in
+      let y = journal_fits file ask.is_file in
+      let read = read_as file (reads k _ (decimal_digits k (omega (arith, ask.is_site)))) refl in
+      in_either_order (λ ws. Takes ws (asked k file None)) k file (me_journal k file x y read) (journal_me k file x y read) words ask
   takes_journal words k file (Some n) ask =
       seven (λ ws. AskForJournal ws k file (Some n) → Takes ws (asked k file (Some n))) (λ w a b d e f g is.
       let x = me_fits k is.is_site in
@@ -722,6 +698,29 @@ module _ (names : TextRefs) (are_words : AreRecordWords names) where
             (subst (λ ws. TakesAs ws (site k file new resend Changes)) (sym none.1) takes.0)
       ]
 
+  usual_seal : (words : List Text) (k : ℕ) (file : Text) → AskForSeal words k file → TakesAs words (seal k file)
+  usual_seal words k file ask =
+      let x = me_fits k ask.ask.is_site in
+      let y = journal_fits file ask.ask.is_file in
+      let read = reads k _ (decimal_digits k (omega (arith, ask.ask.is_site))) in
+      subst (λ ws. TakesAs ws (seal k file)) (sym ask.seal_given.2)
+      (in_either_order (InEachPlace (λ ws. TakesAs ws (seal k file)) (codes "--seal")) k file (me_journal_seal k file x y read)
+      (journal_me_seal k file x y read) ask.others ask.ask ask.seal_given.0 ask.seal_given.1)
+
+  behind_close : (words : List Text) → AreBehind (codes "close") (leaf close_line) words
+  unfolding clap_on_literals
+  behind_close words = behind (codes "close") (leaf close_line) words refl refl (λ none. ap (λ k. or_else k []) none) refl
+
+  usual_closing : (words : List Text) (sites : Option ℕ) (names files : List Text) → length files ≤ usize_max
+      → AskForClosing words sites names files → TakesAs words (close sites names files)
+  usual_closing words sites names files fit ask =
+      let takes = closing_taken sites names files ask.sites_fit ask.are_names ask.are_files ask.some_journals fit in
+      let its_words = behind_close (sites_words sites ++ (account_words names ++ files)) in
+      subst (λ ws. TakesAs ws (close sites names files)) (sym ask.words_are) (
+        its_words.fault takes.fault,
+        ap words_of_matches its_words.met ∙ takes.is,
+      )
+
   script_taken : TakesAs (codes "script" ∷ []) script
   unfolding clap_on_literals
   script_taken = (refl, refl)
@@ -739,11 +738,26 @@ module _ (names : TextRefs) (are_words : AreRecordWords names) where
   migrate_taken = (refl, refl)
 
   -- words that ask for something are taken, and read as that
-  pub usual_words : (words : List Text) (asked : Words) → Ask words asked → TakesAs words (as_asked asked)
-  usual_words words Script ask = subst (λ ws. TakesAs ws script) (sym ask) script_taken
-  usual_words words Histories ask = subst (λ ws. TakesAs ws histories) (sym ask) histories_taken
-  usual_words words Audit ask = subst (λ ws. TakesAs ws audit) (sym ask) audit_taken
-  usual_words words Migrate ask = subst (λ ws. TakesAs ws migrate) (sym ask) migrate_taken
-  usual_words words (Threads k m n) ask = usual_threads words k m n ask
-  usual_words words (Site me journal is_new resend recorded) ask =
+  pub usual_words : (words : List Text) (asked : Words) → length words ≤ usize_max → Ask words asked → TakesAs words (as_asked asked)
+  usual_words words Script few ask = subst (λ ws. TakesAs ws script) (sym ask) script_taken
+  usual_words words Histories few ask = subst (λ ws. TakesAs ws histories) (sym ask) histories_taken
+  usual_words words Audit few ask = subst (λ ws. TakesAs ws audit) (sym ask) audit_taken
+  usual_words words Migrate few ask = subst (λ ws. TakesAs ws migrate) (sym ask) migrate_taken
+  usual_words words (Threads k m n) few ask = usual_threads words k m n ask
+  usual_words words (Site me journal is_new resend recorded) few ask =
       usual_site words me journal.now is_new resend recorded ask
+  usual_words words (Seal me journal) few ask = usual_seal words me journal.now ask
+  usual_words words (Close sites accounts journals) few ask =
+      let files = texts_of journals.items in
+      let names = texts_of accounts.items in
+      usual_closing words sites names files (fewer words sites names files ask.words_are few) ask
+    where
+      -- there are no more files than words
+      fewer : (words : List Text) (sites : Option ℕ) (names files : List Text)
+          → words ≡ codes "close" ∷ (sites_words sites ++ (account_words names ++ files)) → length words ≤ usize_max
+          → length files ≤ usize_max
+      fewer words sites names files are few =
+          let all = ap length are in
+          let behind = length-append (account_words names) files in
+          let options = length-append (sites_words sites) (account_words names ++ files) in
+          omega (arith, all, behind, options, few)

@@ -2,13 +2,14 @@
 use Rattle.std.specs.Prelude.{◌≡◌, ◌<◌, ◌≤◌, ◌+◌, ◌*◌, ◌^◌, ◌⊎◌, ℕ, pos, List, [], ◌∷◌, ◌++◌, length, map, take, drop, codes, decimal}
 use Rattle.std.specs.Prelude.{Bool, true, false}
 use Rattle.std.specs.Option.{option_map_or}
-use Rattle.std.specs.Prelude.{Option, None, Some, IfSome, Result, if◌then◌else◌, option_map, slice_get}
+use Rattle.std.specs.Prelude.{Option, None, Some, IfSome, Result, if◌then◌else◌, option_map, slice_get, unwrap_or}
 use Rattle.std.specs.Borrow.{Bor}
 use Rattle.std.specs.Str.{bytes_eq}
 use Rattle.std.specs.Str.Parse.{IsNumeral, digits_value, without_leading_plus}
-use Rattle.clap.specs.Words.{App, FailsBy, Row, Rule, Shape, Text, fault_of, first_of, new_app, new_rule, one_of, subcommand_of}
-use Rattle.clap.specs.Words.{with_rule, with_subcommand}
-use Rattle.clap.specs.declared.builder.action.ArgAction.TheVariants.{SetTrue}
+use Rattle.clap.specs.Lexer.{usize_max}
+use Rattle.clap.specs.Words.{App, FailsBy, Row, Rule, Shape, Text, all_of, fault_of, first_of, new_app, new_rule, one_of}
+use Rattle.clap.specs.Words.{subcommand_of, with_rule, with_subcommand}
+use Rattle.clap.specs.declared.builder.action.ArgAction.TheVariants.{Append, SetTrue}
 use Rattle.clap.specs.declared.builder.value_parser.ValueParser.{ValueParser}
 use Rattle.clap.specs.declared.error.Error.{Error}
 use Rattle.clap.specs.declared.builder.value_parser.ValueParser.TheVariants.{Names, Signed}
@@ -17,7 +18,7 @@ use Rattle.rb_cli.specs.declared.recorded.Record.{Record}
 use Rattle.rb_cli.specs.declared.recorded.Record.TheVariants.{Changes, All}
 use Rattle.rb_cli.specs.declared.words.TheConstants.{MOST_TELLERS}
 use Rattle.rb_cli.specs.declared.words.Words.{Words}
-use Rattle.rb_cli.specs.declared.words.Words.TheVariants.{Script, Histories, Audit, Migrate, Threads, Site}
+use Rattle.rb_cli.specs.declared.words.Words.TheVariants.{Script, Histories, Audit, Migrate, Threads, Site, Seal, Close}
 
 -- ---- words in their usual spelling: each option's name, and its value behind it, in a word of its own
 
@@ -25,9 +26,14 @@ use Rattle.rb_cli.specs.declared.words.Words.TheVariants.{Script, Histories, Aud
 abbrev pub IsGiven : List (List ℕ) → List ℕ → List ℕ → Type 0
 IsGiven words name text = (i : ℕ) × (slice_get words (2 * i + 1) ≡ Some name) × (slice_get words (2 * i + 2) ≡ Some text)
 
--- a text can be a file's name: it doesn't begin with a dash (45), as the name of an option does
-abbrev pub IsFileName : List ℕ → Type 0
-IsFileName text = ¬ (slice_get text 0 ≡ Some 45)
+-- a text can be a value in a word of its own: it doesn't begin with a dash (45), as the name of an option does
+abbrev pub IsValue : List ℕ → Type 0
+IsValue text = ¬ (slice_get text 0 ≡ Some 45)
+
+-- each of the texts can be one
+abbrev pub AreValues : List (List ℕ) → Type 0
+AreValues [] = Unit {0}
+AreValues (text ∷ texts) = IsValue text × AreValues texts
 
 -- the words ask for a run of threads: they are its name and three options, in any order, with numbers in their ranges
 pub record AskForThreads (words : List (List ℕ)) (sites tellers seed : ℕ) : Type 0 where
@@ -47,21 +53,24 @@ abbrev pub IsResend : List (List ℕ) → Option ℕ → Type 0
 IsResend words None = length words ≡ 5
 IsResend words (Some n) = (length words ≡ 7) × IsGiven words (codes "--resend") (decimal n) × (n ≤ MOST_HISTORY)
 
--- the words are these others, with `--new` behind the first of them or behind an option's value if a new journal is
--- asked for
+-- the words are these others, with the switch of this name behind the first of them or behind an option's value
+abbrev pub IsWithSwitch : List ℕ → List (List ℕ) → List (List ℕ) → Type 0
+IsWithSwitch name words others =
+    (i : ℕ) × (2 * i < length others) × (words ≡ take (2 * i + 1) others ++ name ∷ drop (2 * i + 1) others)
+
+-- the words are these others, with `--new` among them if a new journal is asked for
 abbrev pub IsNewGiven : Bool → List (List ℕ) → List (List ℕ) → Type 0
 IsNewGiven false words others = words ≡ others
-IsNewGiven true words others =
-    (i : ℕ) × (2 * i < length others) × (words ≡ take (2 * i + 1) others ++ codes "--new" ∷ drop (2 * i + 1) others)
+IsNewGiven true words others = IsWithSwitch (codes "--new") words others
 
--- words without `--new` ask for a site: they are its name and two or three options, in any order, with numbers in their
+-- words without a switch ask for a site: they are its name and two or three options, in any order, with numbers in their
 -- ranges
 pub record AskForJournal (words : List (List ℕ)) (me : ℕ) (journal : List ℕ) (resend : Option ℕ) : Type 0 where
   pub first : slice_get words 0 ≡ Some (codes "site")
   pub me_given : IsGiven words (codes "--me") (decimal me)
   pub is_site : me < MOST_SITES
   pub journal_given : IsGiven words (codes "--journal") journal
-  pub is_file : IsFileName journal
+  pub is_file : IsValue journal
   pub resent : IsResend words resend
 
 -- the word for which events are recorded
@@ -84,6 +93,35 @@ pub record AskForSite (words : List (List ℕ)) (me : ℕ) (journal : List ℕ) 
   pub new_given : IsNewGiven is_new before others
   pub ask : AskForJournal others me journal resend
 
+-- the words ask to seal a site's journal: `--seal` is among its name, its number and its journal
+pub record AskForSeal (words : List (List ℕ)) (me : ℕ) (journal : List ℕ) : Type 0 where
+  pub others : List (List ℕ)
+  pub seal_given : IsWithSwitch (codes "--seal") words others
+  pub ask : AskForJournal others me journal None
+
+-- the words for how many sites the next bank has, if that is asked for
+abbrev pub sites_words : Option ℕ → List (List ℕ)
+sites_words None = []
+sites_words (Some n) = codes "--sites" ∷ decimal n ∷ []
+
+-- the words for accounts to add: the option for each, with its name
+abbrev pub account_words : List (List ℕ) → List (List ℕ)
+account_words [] = []
+account_words (name ∷ names) = codes "--account" ∷ name ∷ account_words names
+
+-- the words ask to close the books: behind the command's name the number of sites, if it is asked for, the accounts to
+-- add, and one journal or more
+pub record AskForClosing (words : List (List ℕ)) (sites : Option ℕ) (accounts journals : List (List ℕ)) : Type 0 where
+  pub words_are : words ≡ codes "close" ∷ (sites_words sites ++ (account_words accounts ++ journals))
+  pub sites_fit : IfSome sites (λ n. (2 ≤ n) × (n ≤ MOST_SITES))
+  pub are_names : AreValues accounts
+  pub some_journals : 1 ≤ length journals
+  pub are_files : AreValues journals
+
+-- the texts behind references
+abbrev pub texts_of : List (Bor (List ℕ)) → List (List ℕ)
+texts_of = map (λ text. text.now)
+
 -- what the words after the program's name ask for
 abbrev pub Ask : List (List ℕ) → Words → Type 0
 Ask words Script = words ≡ codes "script" ∷ []
@@ -92,6 +130,8 @@ Ask words Audit = words ≡ codes "audit" ∷ []
 Ask words Migrate = words ≡ codes "migrate" ∷ []
 Ask words (Threads sites tellers seed) = AskForThreads words sites tellers seed
 Ask words (Site me journal is_new resend recorded) = AskForSite words me journal.now is_new resend recorded
+Ask words (Seal me journal) = AskForSeal words me journal.now
+Ask words (Close sites accounts journals) = AskForClosing words sites (texts_of accounts.items) (texts_of journals.items)
 
 -- ---- the command line
 
@@ -106,6 +146,18 @@ option_rule name kind required = record (new_rule name) { long = Some name; valu
 -- an option without a value, that needn't be given
 abbrev pub switch_rule : List ℕ → Rule
 switch_rule name = record (new_rule name) { long = Some name; action = Some SetTrue }
+
+-- an option with one value, that may be given any number of times
+abbrev pub repeated_rule : List ℕ → Rule
+repeated_rule name = record (option_rule name None false) { action = Some Append }
+
+-- one value or more, behind the options
+abbrev pub values_rule : List ℕ → Rule
+values_rule name = record (new_rule name) {
+  value_names = 1;
+  range = Some (record { start_inclusive = 1; end_inclusive = usize_max });
+  required = true;
+}
 
 -- a number from the first to the second
 abbrev pub within : ℕ → ℕ → Option ValueParser
@@ -137,8 +189,17 @@ site_line names =
     with_rule
     (with_rule
     (with_rule
+    (with_rule
     (with_rule (with_rule (new_app (codes "site")) (option_rule (codes "me") (within 0 15) true)) (option_rule (codes "journal") None true))
-    (switch_rule (codes "new"))) (option_rule (codes "resend") (within 0 MOST_HISTORY) false)) (record_rule names)
+    (switch_rule (codes "new"))) (option_rule (codes "resend") (within 0 MOST_HISTORY) false)) (record_rule names))
+    (switch_rule (codes "seal"))
+
+-- closing the books, with its options
+abbrev pub close_line : App
+close_line =
+    with_rule
+    (with_rule (with_rule (new_app (codes "close")) (option_rule (codes "sites") (within 2 MOST_SITES) false)) (repeated_rule (codes "account")))
+    (values_rule (codes "journals"))
 
 -- the command line with the subcommands that have no options
 abbrev pub plain_line : App
@@ -150,7 +211,8 @@ plain_line =
 
 -- the command line: a subcommand for each thing
 abbrev pub command_line : TextRefs → App
-command_line names = with_subcommand (with_subcommand plain_line threads_line.top) (site_line names).top
+command_line names =
+    with_subcommand (with_subcommand (with_subcommand plain_line threads_line.top) (site_line names).top) close_line.top
 
 -- the rule is that of the option for which events are recorded; the command is that of a site; and this is the command
 -- line. Each has the option's two words, wherever they lie
@@ -173,6 +235,8 @@ pub data Asked : Type 0 where
   migrate : Asked
   threads : ℕ → ℕ → ℕ → Asked
   site : ℕ → Text → Bool → Option ℕ → Record → Asked
+  seal : ℕ → Text → Asked
+  close : Option ℕ → List Text → List Text → Asked
 
 abbrev pub as_asked : Words → Asked
 as_asked Script = script
@@ -181,6 +245,8 @@ as_asked Audit = audit
 as_asked Migrate = migrate
 as_asked (Threads sites tellers seed) = threads sites tellers seed
 as_asked (Site me journal is_new resend recorded) = site me journal.now is_new resend recorded
+as_asked (Seal me journal) = seal me journal.now
+as_asked (Close sites accounts journals) = close sites (texts_of accounts.items) (texts_of journals.items)
 
 -- the number that a text is, which may have a plus sign and zeros in front
 abbrev pub numeral_value : Text → ℕ
@@ -202,6 +268,10 @@ record_of text = if bytes_eq text (record_word All) then All else Changes
 abbrev pub choice_at : List Row → Record
 choice_at rows = option_map_or record_of (first_of (codes "record") rows) Changes
 
+-- all values of an option that may be given again, or of those behind the options
+abbrev pub texts_at : Text → List Row → List Text
+texts_at name rows = unwrap_or (all_of name rows) []
+
 -- a run of threads has all three of its options
 abbrev pub with_run : Option ℕ → Option ℕ → Option ℕ → Option Asked
 with_run (Some sites) (Some tellers) (Some seed) = Some (threads sites tellers seed)
@@ -210,22 +280,28 @@ with_run _ _ _ = None
 abbrev pub threads_asked : List Row → Option Asked
 threads_asked rows = with_run (number_at (codes "sites") rows) (number_at (codes "tellers") rows) (number_at (codes "seed") rows)
 
--- a site has its number and its file, which may be a new one, may have how many last entries' messages are written
--- again, and records these events
-abbrev pub with_site_options : Option ℕ → Option Text → Bool → Option ℕ → Record → Option Asked
-with_site_options (Some me) (Some journal) is_new resend recorded = Some (site me journal is_new resend recorded)
-with_site_options _ _ _ _ _ = None
+-- a site has its number and its file. With the switch for it the history is sealed, and nothing else counts; else the
+-- file may be a new one, the site may have how many last entries' messages are written again, and it records these events
+abbrev pub with_site_options : Option ℕ → Option Text → Bool → Bool → Option ℕ → Record → Option Asked
+with_site_options (Some me) (Some journal) true is_new resend recorded = Some (seal me journal)
+with_site_options (Some me) (Some journal) false is_new resend recorded = Some (site me journal is_new resend recorded)
+with_site_options _ _ _ _ _ _ = None
 
 abbrev pub site_asked : List Row → Option Asked
-site_asked rows = with_site_options (number_at (codes "me") rows) (first_of (codes "journal") rows) (switch_at (codes "new") rows)
-    (number_at (codes "resend") rows) (choice_at rows)
+site_asked rows = with_site_options (number_at (codes "me") rows) (first_of (codes "journal") rows) (switch_at (codes "seal") rows)
+    (switch_at (codes "new") rows) (number_at (codes "resend") rows) (choice_at rows)
+
+-- closing the books has all accounts and all journals that are given
+abbrev pub close_asked : List Row → Asked
+close_asked rows = close (number_at (codes "sites") rows) (texts_at (codes "account") rows) (texts_at (codes "journals") rows)
 
 -- what a command with its options asks for
 abbrev pub words_of_command : Text → List Row → Option Asked
 words_of_command name rows =
     if bytes_eq name (codes "script") then Some script else if bytes_eq name (codes "histories") then Some histories
     else if bytes_eq name (codes "audit") then Some audit else if bytes_eq name (codes "migrate") then Some migrate
-    else if bytes_eq name (codes "threads") then threads_asked rows else if bytes_eq name (codes "site") then site_asked rows else None
+    else if bytes_eq name (codes "threads") then threads_asked rows else if bytes_eq name (codes "site") then site_asked rows
+    else if bytes_eq name (codes "close") then Some (close_asked rows) else None
 
 -- what the command that a parse met asks for, with what it found of its options
 abbrev pub words_of_matches : Option (Text × List Row) → Option Asked
@@ -251,6 +327,8 @@ abbrev pub IsInRange : Asked → Type 0
 IsInRange (threads sites tellers seed) =
     (2 ≤ sites) × (sites ≤ MOST_SITES) × (1 ≤ tellers) × (tellers ≤ MOST_TELLERS) × (seed < 2 ^ 32)
 IsInRange (site me journal is_new resend recorded) = (me < MOST_SITES) × IfSome resend (λ n. n ≤ MOST_HISTORY)
+IsInRange (seal me journal) = me < MOST_SITES
+IsInRange (close sites accounts journals) = IfSome sites (λ n. (2 ≤ n) × (n ≤ MOST_SITES)) × (1 ≤ length journals)
 IsInRange _ = Unit {0}
 
 -- ---- what is known of the options of a command that was met
@@ -279,3 +357,5 @@ pub record AreFit (name : Text) (rows : List Row) : Type 0 where
   pub me : name ≡ codes "site" → FitsWithin 0 15 (codes "me") rows
   pub resend : name ≡ codes "site" → FitsWithin 0 MOST_HISTORY (codes "resend") rows
   pub new : name ≡ codes "site" → HasSwitchWord (codes "new") rows
+  pub seal : name ≡ codes "site" → HasSwitchWord (codes "seal") rows
+  pub next_sites : name ≡ codes "close" → FitsWithin 2 MOST_SITES (codes "sites") rows

@@ -2,7 +2,7 @@
 ghost use Rattle.std.specs.Prelude.{◌≡◌, None, codes, false, pos, true};
 ghost use Rattle.clap.specs.Words.{rule_of};
 ghost use Rattle.clap.specs.declared.builder.value_parser.ValueParser.TheVariants.{Signed};
-ghost use Rattle.rb_cli.specs.Words.{IsRecordRule, option_rule, switch_rule, within};
+ghost use Rattle.rb_cli.specs.Words.{IsRecordRule, option_rule, repeated_rule, switch_rule, values_rule, within};
 ghost use Rattle.rb_money.specs.declared.limits.TheConstants.{MOST_HISTORY as most_resent, MOST_SITES as most_sites};
 ghost use Rattle.rb_cli.specs.declared.words.TheConstants.{MOST_TELLERS as most_tellers};
 
@@ -54,6 +54,36 @@ pub fn sites<'a>(alloc: Global) -> Arg<'a>
     with_numbers(sites, 2, MOST_SITES as u32)
 }
 
+/// How many sites the next bank has.
+pub fn next_sites<'a>(alloc: Global) -> Arg<'a>
+    ensures rule { rule_of result ≡ option_rule (codes "sites") (within 2 most_sites) false }
+    ensures local { result.global ≡ false }
+{
+    let next = option(alloc, "sites", "N", texts::NEXT_SITES, false);
+    with_numbers(next, 2, MOST_SITES as u32)
+}
+
+/// An account that the next bank has behind the others, given for each.
+pub fn account<'a>(alloc: Global) -> Arg<'a>
+    ensures rule { rule_of result ≡ repeated_rule (codes "account") }
+    ensures local { result.global ≡ false }
+{
+    let account = option(alloc, "account", "NAME", texts::ACCOUNT, false);
+    account.action(ArgAction::Append)
+}
+
+/// The files that the sites' histories are kept in.
+pub fn journals<'a>(alloc: Global) -> Arg<'a>
+    ensures rule { rule_of result ≡ values_rule (codes "journals") }
+    ensures local { result.global ≡ false }
+{
+    Arg::new(alloc, "journals")
+        .value_name("JOURNAL")
+        .help(texts::JOURNALS)
+        .required(true)
+        .num_args(1..)
+}
+
 /// How many tellers a run of threads has.
 pub fn tellers<'a>(alloc: Global) -> Arg<'a>
     ensures rule { rule_of result ≡ option_rule (codes "tellers") (within 1 most_tellers) true }
@@ -89,15 +119,31 @@ pub fn journal<'a>(alloc: Global) -> Arg<'a>
     option(alloc, "journal", "FILE", texts::JOURNAL, true)
 }
 
+/// An option without a value.
+fn switch<'a>(alloc: Global, name: &'a str, help: &'a str) -> Arg<'a>
+    ensures rule { rule_of result ≡ switch_rule name.entry.now }
+    ensures local { result.global ≡ false }
+{
+    Arg::new(alloc, name)
+        .long(name)
+        .help(help)
+        .action(ArgAction::SetTrue)
+}
+
 /// Whether that file is a new one.
 pub fn new_file<'a>(alloc: Global) -> Arg<'a>
     ensures rule { rule_of result ≡ switch_rule (codes "new") }
     ensures local { result.global ≡ false }
 {
-    Arg::new(alloc, "new")
-        .long("new")
-        .help(texts::NEW)
-        .action(ArgAction::SetTrue)
+    switch(alloc, "new", texts::NEW)
+}
+
+/// Whether the history is sealed.
+pub fn sealed<'a>(alloc: Global) -> Arg<'a>
+    ensures rule { rule_of result ≡ switch_rule (codes "seal") }
+    ensures local { result.global ≡ false }
+{
+    switch(alloc, "seal", texts::SEAL)
 }
 
 /// How many of the site's last entries have their messages written again.

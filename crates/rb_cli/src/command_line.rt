@@ -2,7 +2,7 @@
 ghost use Rattle.std.specs.Prelude.{◌≡◌, [], false, true, IfOk, codes};
 ghost use Rattle.clap.specs.Words.{app_of, new_app, rule_of, with_rule, with_subcommand};
 ghost use Rattle.clap.specs.declared.builder.command.Command.TheViews.{out-Command};
-ghost use Rattle.rb_cli.specs.Words.{IsCommandLine, IsSiteLine, plain_line, threads_line, top_line};
+ghost use Rattle.rb_cli.specs.Words.{IsCommandLine, IsSiteLine, close_line, plain_line, threads_line, top_line};
 
 use crate::{arguments, texts};
 use clap::{Arg, Command};
@@ -56,6 +56,7 @@ fn site<'a>(alloc: Global) -> Result<Command<'a>, AllocError>
         arguments::new_file(alloc),
         arguments::resend(alloc),
         arguments::recorded(alloc),
+        arguments::sealed(alloc),
     ]?;
     part(
         alloc,
@@ -63,6 +64,26 @@ fn site<'a>(alloc: Global) -> Result<Command<'a>, AllocError>
         texts::SITE_USAGE,
         texts::SITE,
         texts::SITE_HELP,
+    )
+    .args(options)
+}
+
+/// The command that closes the books, with its options and the files behind them.
+fn close<'a>(alloc: Global) -> Result<Command<'a>, AllocError>
+    ensures shape { IfOk result (λ command. app_of command ≡ close_line) }
+    ensures local { IfOk result (λ command. (out-Command command).has_globals ≡ false) }
+{
+    let options = vec![in alloc;
+        arguments::next_sites(alloc),
+        arguments::account(alloc),
+        arguments::journals(alloc),
+    ]?;
+    part(
+        alloc,
+        "close",
+        texts::CLOSE_USAGE,
+        texts::CLOSE,
+        texts::CLOSE_HELP,
     )
     .args(options)
 }
@@ -140,6 +161,7 @@ pub fn command_line<'a>(alloc: Global) -> Result<Command<'a>, AllocError>
 {
     let threads = threads(alloc)?;
     let site = site(alloc)?;
+    let close = close(alloc)?;
     let parts = vec![in alloc;
         script(alloc),
         histories(alloc),
@@ -147,6 +169,7 @@ pub fn command_line<'a>(alloc: Global) -> Result<Command<'a>, AllocError>
         migrate(alloc),
         threads,
         site,
+        close,
     ]?;
     top(alloc).subcommands(parts)
 }

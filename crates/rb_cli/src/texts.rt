@@ -21,7 +21,10 @@ pub const MIGRATE_USAGE: &str = "rbbank migrate < HISTORIES";
 
 /// How `site` is used.
 pub const SITE_USAGE: &str =
-    "rbbank site --me S --journal FILE [--new] [--resend N] [--record changes|all] < EVENTS";
+    "rbbank site --me S --journal FILE [--new] [--resend N] [--record changes|all] [--seal] < EVENTS";
+
+/// How `close` is used.
+pub const CLOSE_USAGE: &str = "rbbank close [--sites N] [--account NAME].. JOURNAL..";
 
 /// How `threads` is used.
 pub const THREADS_USAGE: &str = "rbbank threads --sites K --tellers T --seed S";
@@ -44,6 +47,10 @@ pub const MIGRATE: &str =
 /// What `site` does.
 pub const SITE: &str =
     "Runs one site, which keeps its history in a file: answers the events on standard input";
+
+/// What `close` does.
+pub const CLOSE: &str =
+    "Closes the books of the sites' sealed journals, and writes the next bank's configuration";
 
 /// What `threads` does.
 pub const THREADS: &str =
@@ -73,6 +80,21 @@ pub const RESEND: &str =
 
 /// What `--record` is.
 pub const RECORD: &str = "Which events are recorded: changes (the default) or all";
+
+/// The help of `--seal`.
+pub const SEAL: &str =
+    "Seals the journal for good; reads no input and serves nothing, whatever else is given";
+
+/// What `--sites` is to `close`.
+pub const NEXT_SITES: &str =
+    "How many sites the next bank has, 2 to 16; as many as before without it";
+
+/// What `--account` is.
+pub const ACCOUNT: &str =
+    "An account to add behind the others, which starts with 0; given again for each";
+
+/// What the words behind the options of `close` are.
+pub const JOURNALS: &str = "The sealed journals of all sites, in the order of their numbers";
 
 /// A script with its replies, the refusals and the statuses.
 pub const SCRIPT_HELP: &str =
@@ -234,13 +256,49 @@ under names that are taken. What a crash left behind its last line is kept in FI
 An event that changes nothing, as a balance, a refusal or a message that the site has, is answered and not recorded.
 With --record all each event is, but one that changes nothing and whose line in the journal would be too long.
 
+With --seal no input is read, nothing is served, and --new, --resend and --record make no difference: the journal has
+to be there, and is sealed for good. No site starts over it again; rbbank close reads the sealed journals of all sites.
+
 The options have any order, as --me 0 or as --me=0; a file's name that begins with - is written ./-
 
 Statuses:
-  0  every line was answered
+  0  every line was answered, or the journal was sealed
   2  no configuration, a bad one, no such site, wrong words, or a journal that isn't there without --new, that is
-     there with it, that is in use, damaged, or not of this site
+     there with it, that is in use, sealed, damaged, or not of this site
   3  a read or a write failed, or the journal did
+  4  out of memory
+
+All lines, limits, refusals and statuses: docs/FORMAT.md"#;
+
+/// Books to close with the answers, and the statuses.
+pub const CLOSE_HELP: &str =
+    r#"The sealed journals of all sites of a bank are audited. The books can be closed if each site has applied every
+operation that any site made. Where ann has 500 cents in the journals a, of site 0, and b, of site 1:
+
+  rbbank close --sites 3 --account bob --account eve a b
+
+The answer is one line: the next bank's configuration, with all its keys. Each account starts with its balance,
+and an added one with 0:
+
+  {"accounts":[["ann",500],["bob",0],["eve",0]],"blue":1000000,"epoch":4000000000,"history":100000000,
+    "inbox":4096,"red":1000000,"sites":3,"version":1}
+
+What is indented further here is the rest of the line above it. Or the line is why they can't be closed:
+
+  {"fault":"open","lacks":[["R1"],[]]}  site 0 lacks operation R1, and site 1 lacks none: for each site the
+                                        first of each home and of the red ones
+  {"account":"ann","fault":"limit"}     ann, the first such account, has more than an account may start with
+  {"event":1,"fault":"reply","site":0}  no world has the histories, as an audit answers it; also as
+                                        {"fault":"stuck","next":[1,2]}
+
+The options have any order, as --sites 3 or as --sites=3; a file's name that begins with - is written ./-
+
+Statuses:
+  0  the next configuration was written
+  1  the books can't be closed
+  2  wrong words, a journal that isn't sealed, is damaged, or not of its site or bank, another number of journals
+     than of sites, or accounts that can't be added
+  3  a read or a write failed
   4  out of memory
 
 All lines, limits, refusals and statuses: docs/FORMAT.md"#;

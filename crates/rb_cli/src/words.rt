@@ -3,19 +3,19 @@ ghost use Rattle.std.specs.Prelude.{◌≡◌, codes, map, option_map, IfErr, If
 ghost use Rattle.clap.specs.Words.{found_of, kind_of, rows_of, subcommand_rows_of};
 ghost use Rattle.clap.specs.declared.error.kind.ErrorKind.TheVariants.{OutOfMemory};
 ghost use Rattle.rb_cli.specs.Words.{AreFit, AreReadAs, Ask, FailsByWords, FitsWithin, HasSwitchWord, IsAsUsual};
-ghost use Rattle.rb_cli.specs.Words.{IsInRange, as_asked, number_at, choice_at, record_of, site_asked, switch_at};
-ghost use Rattle.rb_cli.specs.Words.{threads_asked, words_of_matches};
+ghost use Rattle.rb_cli.specs.Words.{IsInRange, as_asked, close_asked, number_at, choice_at, record_of};
+ghost use Rattle.rb_cli.specs.Words.{site_asked, switch_at, texts_at, threads_asked, words_of_matches};
 
 use crate::Record;
 use crate::command_line::command_line;
 use clap::{ArgMatches, Error};
-use std::alloc::Global;
+use std::alloc::{AllocError, Global};
 
 /// The most tellers of a run.
 pub const MOST_TELLERS: u32 = 64;
 
 /// What the program is asked to do.
-#[derive(Clone, Copy, Debug, PartialEq, Eq)]
+#[derive(Debug, Drop, PartialEq, Eq)]
 pub enum Words<'a> {
     /// To answer the script on standard input.
     Script,
@@ -41,6 +41,18 @@ pub enum Words<'a> {
         is_new: bool,
         resend: Option<u32>,
         record: Record,
+    },
+    /// To seal the history that this site keeps in this file. No event is read.
+    Seal {
+        me: u8,
+        journal: &'a str,
+    },
+    /// To close the books by the histories in these files, one or more, for a next bank of 2 to `MOST_SITES` sites, or
+    /// of as many as before, with these accounts behind the others.
+    Close {
+        sites: Option<u8>,
+        accounts: Vec<&'a str>,
+        journals: Vec<&'a str>,
     },
 }
 
@@ -81,6 +93,17 @@ fn recorded(given: &ArgMatches) -> Record
     }
 }
 
+/// The values of an option that may be given again, or of the words behind the options, in order.
+fn texts<'a>(alloc: Global, given: &ArgMatches<'a>, name: &str) -> Result<Vec<&'a str>, AllocError>
+    ensures { IfOk result
+        (λ texts. map (λ text. text.now) texts.items ≡ texts_at name.now (rows_of (found_of given.now))) }
+{
+    match given.get_strs(name) {
+        Some(texts) => texts.to_vec(alloc),
+        None => Ok(Vec::new(alloc)),
+    }
+}
+
 /// The run of threads that its options ask for.
 fn threads<'a>(given: &ArgMatches<'a>) -> Option<Words<'a>>
     requires { AreFit (codes "threads") (rows_of (found_of given.now)) }
@@ -96,13 +119,19 @@ fn threads<'a>(given: &ArgMatches<'a>) -> Option<Words<'a>>
     })
 }
 
-/// The site that its options ask for.
+/// What the options of `site` ask for. With the switch for it the history is sealed, whatever else is given.
 fn site<'a>(given: &ArgMatches<'a>) -> Option<Words<'a>>
     requires { AreFit (codes "site") (rows_of (found_of given.now)) }
     ensures { option_map as_asked result ≡ site_asked (rows_of (found_of given.now)) }
 {
     let me = number(given, "me")?;
     let journal = given.get_str("journal")?;
+    if switch(given, "seal") {
+        return Some(Words::Seal {
+            me: me as u8,
+            journal,
+        });
+    }
     let is_new = switch(given, "new");
     let resend = number(given, "resend");
     let record = recorded(given);
@@ -115,21 +144,40 @@ fn site<'a>(given: &ArgMatches<'a>) -> Option<Words<'a>>
     })
 }
 
-/// What the command that was met asks for, with its options.
-fn asked_by<'a>(matches: &ArgMatches<'a>) -> Option<Words<'a>>
-    requires { IfSome (subcommand_rows_of matches.now) (λ met. AreFit met.0 met.1) }
-    ensures { option_map as_asked result ≡ words_of_matches (subcommand_rows_of matches.now) }
+/// The books to close that the options and the words behind them ask for.
+fn close<'a>(alloc: Global, given: &ArgMatches<'a>) -> Result<Words<'a>, AllocError>
+    requires { AreFit (codes "close") (rows_of (found_of given.now)) }
+    ensures { IfOk result (λ words. as_asked words ≡ close_asked (rows_of (found_of given.now))) }
 {
-    let (name, given) = matches.subcommand()?;
-    match name {
+    let sites = number(given, "sites").map(|n| n as u8);
+    let accounts = texts(alloc, given, "account")?;
+    let journals = texts(alloc, given, "journals")?;
+    Ok(Words::Close {
+        sites,
+        accounts,
+        journals,
+    })
+}
+
+/// What the command that was met asks for, with its options.
+fn asked_by<'a>(alloc: Global, matches: &ArgMatches<'a>) -> Result<Option<Words<'a>>, AllocError>
+    requires { IfSome (subcommand_rows_of matches.now) (λ met. AreFit met.0 met.1) }
+    ensures { IfOk result (λ asked. option_map as_asked asked ≡ words_of_matches (subcommand_rows_of matches.now)) }
+{
+    let Some((name, given)) = matches.subcommand() else {
+        return Ok(None);
+    };
+    let asked = match name {
         "script" => Some(Words::Script),
         "histories" => Some(Words::Histories),
         "audit" => Some(Words::Audit),
         "migrate" => Some(Words::Migrate),
         "threads" => threads(given),
         "site" => site(given),
+        "close" => Some(close(alloc, given)?),
         _ => None,
-    }
+    };
+    Ok(asked)
 }
 
 /// What the words after the program's name ask for. The error has the text to show: `ErrorKind::DisplayHelp` is help
@@ -149,7 +197,8 @@ pub fn read_words<'a>(alloc: Global, words: &'a [&'a str]) -> Result<Words<'a>, 
 {
     let mut command = command_line(alloc)?;
     let matches = command.try_get_matches_from_mut(words)?;
-    match asked_by(&matches) {
+    let asked = asked_by(alloc, &matches)?;
+    match asked {
         Some(asked) => Ok(asked),
         // Words that the command line takes have one of its commands, with the options that it needs.
         None => unreachable!(),

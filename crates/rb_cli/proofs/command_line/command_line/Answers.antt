@@ -18,6 +18,7 @@ returns c =
     let Adds = AddsInTurn AddsSubcommand c.top.result in
     let threads = c.in_ok-threads.ensures in
     let site = c.in_ok-site.ensures in
+    let close = c.in_ok-close.ensures in
     IfOk-weaker c.subcommands.result (Adds c.in_ok-parts.parts.items) (λ it. IsCommandLine (app_of it)) (λ it in_turn.
     let all = subst (λ parts. Adds parts it) c.in_ok-parts.ensures.items in_turn in
     let one = added _ _ all.0 _ _ c.top.ensures c.script.ensures.shape c.script.ensures.local all.1 in
@@ -26,4 +27,5 @@ returns c =
     let four = added _ _ all.2.2.2.0 _ _ three c.migrate.ensures.shape c.migrate.ensures.local all.2.2.2.1 in
     let five = added _ _ all.2.2.2.2.0 _ _ four threads.shape threads.local all.2.2.2.2.1 in
     let six = added _ _ all.2.2.2.2.2.0 _ _ five site.shape.2 site.local all.2.2.2.2.2.1 in
-    (site.shape.0, site.shape.1, ap app_of (sym all.2.2.2.2.2.2) ∙ six)) c.subcommands.ensures
+    let seven = added _ _ all.2.2.2.2.2.2.0 _ _ six close.shape close.local all.2.2.2.2.2.2.1 in
+    (site.shape.0, site.shape.1, ap app_of (sym all.2.2.2.2.2.2.2) ∙ seven)) c.subcommands.ensures

@@ -1,6 +1,8 @@
 -- What the command line reads the words as, and why it refuses them.
-use Rattle.std.proofs.Common.{◌≡◌, ◌∙◌, true, refl, ap, sym, subst, List, [], ◌∷◌, Option, Some, None, map, inl, inr, IfSome, option_map, rules}
+use Rattle.std.proofs.Common.{◌≡◌, ◌∙◌, ◌≤◌, arith, length, true, refl, ap, sym, subst, List, [], ◌∷◌, Option, Some, None, map, inl, inr, IfSome, option_map, rules}
+use Rattle.std.proofs.lemmas.List.{length-map}
 use Rattle.std.proofs.lemmas.Result.{err_from_is_err_and}
+use Rattle.clap.specs.Lexer.{usize_max}
 use Rattle.clap.specs.Words.{App, HasKind, HasMatchesOf, Row, Text, fault_of, is_simple, is_simple_and_free, kind_of}
 use Rattle.clap.specs.Words.{subcommand_of, subcommand_rows_of}
 use Rattle.clap.specs.declared.error.Error.{Error}
@@ -63,6 +65,14 @@ some_words = record {
 pub returns-in_err-command-clause-kinds : goal.returns-in_err-command-clause-kinds
 returns-in_err-command-clause-kinds c = (command_line some_words, (some_words, refl, refl), search rules)
 
+pub returns-in_err-asked-clause-kinds : goal.returns-in_err-asked-clause-kinds
+returns-in_err-asked-clause-kinds c = (command_line some_words, (some_words, refl, refl), search rules)
+
+pub returns-in_err-asked-clause-err : goal.returns-in_err-asked-clause-err
+returns-in_err-asked-clause-err c =
+    let read = err_from_is_err_and c.from_residual-in_err-asked.result c.from_residual-in_err-asked.ensures.1 in
+    rw read.1 (λ asked ask. read.2)
+
 pub returns-in_err-matches-clause-kinds : goal.returns-in_err-matches-clause-kinds
 returns-in_err-matches-clause-kinds c =
     let words = map (λ word. word.now) c.args.words.now in
@@ -82,7 +92,8 @@ returns-in_err-matches-clause-err c =
     let line = c.in_ok-command.ensures in
     let read = err_from_is_err_and c.from_residual-in_err-matches.result c.from_residual-in_err-matches.ensures.1 in
     let has = kind_by line.0 _ words c.in_err-matches.field-0.0 line.2 c.in_err-matches.ensures.kinds in
-    rw read.1 (λ asked ask. by_memory line.0 words read.0 (usual_words line.0 line.1 words asked ask).0
+    let few : length words ≤ usize_max = omega (arith, length-map c.args.words.now (λ word. word.now), c.well_formed) in
+    rw read.1 (λ asked ask. by_memory line.0 words read.0 (usual_words line.0 line.1 words asked few ask).0
     (subst (HasKind (fault_of (command_line line.0) words)) (sym read.2) has))
 
 pub asked_by-requires : goal.asked_by-requires
@@ -99,7 +110,7 @@ unreachable-requires c =
     let line = c.in_ok-command.ensures in
     let asks = taken_asks line.0 words (taken_by line.0 _ words line.2 c.in_ok-matches.ensures.kinds) in
     let met = met_by line.0 _ words c.in_ok-matches.matches line.2 c.in_ok-matches.ensures.ok.2 in
-    let none = sym (ap (option_map as_asked) c.in-None.is) ∙ c.asked_by.ensures ∙ ap words_of_matches met ∙ asks.is in
+    let none = sym (ap (option_map as_asked) c.in-None.is) ∙ c.in_ok-asked.ensures ∙ ap words_of_matches met ∙ asks.is in
     is_nothing _ none
   where
     is_nothing : (x : Asked) → None ≡ Some x → ⊥
@@ -111,7 +122,7 @@ returns-clause-ranges c =
     let line = c.in_ok-command.ensures in
     let asks = taken_asks line.0 words (taken_by line.0 _ words line.2 c.in_ok-matches.ensures.kinds) in
     let met = met_by line.0 _ words c.in_ok-matches.matches line.2 c.in_ok-matches.ensures.ok.2 in
-    let is = sym (ap (option_map as_asked) c.in-Some.is) ∙ c.asked_by.ensures ∙ ap words_of_matches met ∙ asks.is in
+    let is = sym (ap (option_map as_asked) c.in-Some.is) ∙ c.in_ok-asked.ensures ∙ ap words_of_matches met ∙ asks.is in
     subst IsInRange (sym (some_same _ _ is)) asks.in_range
 
 pub returns-clause-kinds : goal.returns-clause-kinds
@@ -125,8 +136,9 @@ returns-clause-usual c = λ asked ask.
     let words = map (λ word. word.now) c.args.words.now in
     let line = c.in_ok-command.ensures in
     let met = met_by line.0 _ words c.in_ok-matches.matches line.2 c.in_ok-matches.ensures.ok.2 in
-    let is = sym (ap (option_map as_asked) c.in-Some.is) ∙ c.asked_by.ensures ∙ ap words_of_matches met in
-    some_same _ _ (is ∙ (usual_words line.0 line.1 words asked ask).1)
+    let is = sym (ap (option_map as_asked) c.in-Some.is) ∙ c.in_ok-asked.ensures ∙ ap words_of_matches met in
+    let few : length words ≤ usize_max = omega (arith, length-map c.args.words.now (λ word. word.now), c.well_formed.1.0) in
+    some_same _ _ (is ∙ (usual_words line.0 line.1 words asked few ask).1)
 
 pub returns-clause-ok : goal.returns-clause-ok
 returns-clause-ok c =
@@ -135,6 +147,6 @@ returns-clause-ok c =
     let met = met_by line.0 _ words c.in_ok-matches.matches line.2 c.in_ok-matches.ensures.ok.2 in (
       command_line line.0,
       (line.0, line.1, refl),
-      sym (sym (ap (option_map as_asked) c.in-Some.is) ∙ c.asked_by.ensures
+      sym (sym (ap (option_map as_asked) c.in-Some.is) ∙ c.in_ok-asked.ensures
           ∙ ap words_of_matches met),
     )

@@ -9,6 +9,11 @@ returns-in_err-journal c =
     let file = first_value-rows (found_of c.args.given.now) (codes "journal") in
     search rules
 
+pub returns-then-switch : goal.returns-then-switch
+returns-then-switch c =
+    let file = first_value-rows (found_of c.args.given.now) (codes "journal") in
+    search rules
+
 pub returns : goal.returns
 returns c =
     let file = first_value-rows (found_of c.args.given.now) (codes "journal") in
