@@ -1,5 +1,5 @@
 -- Each status is one that the program may end with.
-use Rattle.std.proofs.Common.{◌≡◌, ◌⊎◌, ℕ, Bool, true, false, List, Option, Some, None, Result, Ok, Err, inl, inr}
+use Rattle.std.proofs.Common.{◌≡◌, ◌⊎◌, ℕ, Bool, true, false, List, Option, Result, Ok, Err, inl, inr}
 use Rattle.std.specs.declared.io.ErrorKind.{ErrorKind as IoErrorKind}
 use Rattle.std.specs.declared.io.ErrorKind.TheVariants.{OutOfMemory as IoOutOfMemory}
 use Rattle.clap.specs.declared.error.kind.ErrorKind.{ErrorKind}
@@ -8,10 +8,13 @@ use Rattle.rb_lines.specs.declared.fault.ScriptFault.{ScriptFault}
 use Rattle.rb_lines.specs.declared.fault.ScriptFault.TheVariants.{NoConfig, OutOfMemory, Write}
 use Rattle.rb_lines.specs.Messages.{status_of}
 use Rattle.rb_run_site.specs.declared.fault.SiteFault.{SiteFault}
-use Rattle.rbbank.specs.declared.on_disk.RanOnDisk.{RanOnDisk}
+use Rattle.rb_runs.specs.declared.books.close_fault.CloseFault.{CloseFault}
+use Rattle.rbbank.specs.declared.over_files.OverFiles.{OverFiles}
+use Rattle.rbbank.specs.declared.over_files.OverFiles.TheVariants.{Nothing, Site, Closed}
 use Rattle.rbbank.specs.declared.on_streams.Streamed.{Streamed}
-use Rattle.rbbank.specs.declared.on_streams.Streamed.TheVariants.{Script, Histories, Audit, Migrate, Threads, SiteAsked}
-use Rattle.rbbank.specs.Statuses.{IsEnd, IsEndOf, IsEndOfAudit, IsEndOfHistories, IsEndOfScript, IsEndOfSite, IsEndOfWords}
+use Rattle.rbbank.specs.declared.on_streams.Streamed.TheVariants.{Script, Histories, Audit, Migrate, Threads, SiteAsked, SealAsked}
+use Rattle.rbbank.specs.declared.on_streams.Streamed.TheVariants.{CloseAsked}
+use Rattle.rbbank.specs.Statuses.{IsEnd, IsEndOf, IsEndOfAudit, IsEndOfClosing, IsEndOfHistories, IsEndOfScript, IsEndOfSite, IsEndOfWords}
 use Rattle.rbbank.specs.Statuses.{IsReportedStatus, status_of_unread}
 
 -- memory ran out
@@ -37,19 +40,32 @@ histories_end n (Err fault) e = fault_end n fault e
 
 site_end : (n : ℕ) (ran : Result ℕ SiteFault) → IsEndOfSite ran n → IsEnd n
 site_end n (Ok count) e = inl e
-site_end n (Err fault) (inl e) = inr (inr (inr (fault, e)))
+site_end n (Err fault) (inl e) = inr (inr (inr (inl (fault, e))))
 site_end n (Err fault) (inr e) = no_memory n e
 
+closing_end : (n : ℕ) (ran : Result Bool CloseFault) → IsEndOfClosing ran n → IsEnd n
+closing_end n (Ok true) e = inl e
+closing_end n (Ok false) e = inr (inl e)
+closing_end n (Err fault) (inl e) = inr (inr (inr (inr (fault, e))))
+closing_end n (Err fault) (inr e) = no_memory n e
+
 -- whatever was done
-pub any_end : (n : ℕ) (streamed : Streamed) (input left : Option (List ℕ)) (site : Option RanOnDisk)
-    → IsEndOf streamed input left site n → IsEnd n
-any_end n (Script ran) input left site e = script_end n ran e
-any_end n (Histories ran) input left site e = histories_end n ran e
-any_end n (Audit ran) input left site e = audit_end n ran e
-any_end n (Migrate ran) input left site e = script_end n ran e
-any_end n (Threads ran) input left site e = histories_end n ran e
-any_end n (SiteAsked me journal is_new resend recorded) input left (Some ran) e = site_end n ran.ended e.1
-any_end n (SiteAsked me journal is_new resend recorded) input left None e = absurd e
+pub any_end : (n : ℕ) (streamed : Streamed) (input left : Option (List ℕ)) (done : OverFiles) (text : List ℕ)
+    → IsEndOf streamed input left done text n → IsEnd n
+any_end n (Script ran) input left done text e = script_end n ran e.0
+any_end n (Histories ran) input left done text e = histories_end n ran e.0
+any_end n (Audit ran) input left done text e = audit_end n ran e.0
+any_end n (Migrate ran) input left done text e = script_end n ran e.0
+any_end n (Threads ran) input left done text e = histories_end n ran e.0
+any_end n (SiteAsked me journal is_new resend recorded) input left (Site ran) text e = site_end n ran.ended e.1
+any_end n (SiteAsked me journal is_new resend recorded) input left Nothing text e = absurd e
+any_end n (SiteAsked me journal is_new resend recorded) input left (Closed ran) text e = absurd e
+any_end n (SealAsked me journal) input left (Site ran) text e = site_end n ran.ended e.1
+any_end n (SealAsked me journal) input left Nothing text e = absurd e
+any_end n (SealAsked me journal) input left (Closed ran) text e = absurd e
+any_end n (CloseAsked sites accounts journals) input left (Closed ran) text e = closing_end n ran.ended e.1
+any_end n (CloseAsked sites accounts journals) input left Nothing text e = absurd e
+any_end n (CloseAsked sites accounts journals) input left (Site ran) text e = absurd e
 
 shown_end : (n : ℕ) → (n ≡ 0) ⊎ IsReportedStatus (status_of Write) n → IsEnd n
 shown_end n (inl e) = inl e

@@ -1,2 +1,3 @@
 mod Ends
 mod OnDisk
+mod Done

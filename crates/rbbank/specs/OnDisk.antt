@@ -1,6 +1,6 @@
 -- A run of a site over a file of the operating system.
 use Rattle.std.specs.Prelude.{◌≡◌, ◌⊎◌, ◌<◌, ◌-◌, ◌^◌, ◌++◌, ℕ, Bool, true, false, List, [], length, codes, string_bytes}
-use Rattle.std.specs.Prelude.{Option, Some, None, Result, Ok, Err}
+use Rattle.std.specs.Prelude.{Option, Some, None, Result, Err}
 use Rattle.std.specs.IoError.{error_kind}
 use Rattle.std.specs.declared.io.ErrorKind.{ErrorKind}
 use Rattle.std.specs.declared.io.ErrorKind.TheVariants.{WouldBlock, OutOfMemory as NoMemory}
@@ -15,6 +15,7 @@ use Rattle.rb_run_site.specs.Ends.{AnswersBehind, IsAtRest, IsFullBehind, RunsTo
 use Rattle.rb_run_site.specs.Faults.{site_message_of}
 use Rattle.rb_run_site.specs.Openings.{IsOpeningCause}
 use Rattle.rb_run_site.specs.Runs.{IsSiteRun}
+use Rattle.rb_run_site.specs.Seals.{HasSealed, IsSealCause, IsSealRun, SealsTo}
 use Rattle.rb_run_site.specs.Steps.{IsRunOfSteps}
 use Rattle.rb_cli.specs.declared.recorded.Record.{Record}
 use Rattle.rb_cli.specs.declared.recorded.Record.TheVariants.{Changes, All}
@@ -98,6 +99,21 @@ module _ {R P : Type 0} where
   IsRunOn all me name is_new resend input left None ended = (left ≡ input) × IsUnopened is_new ended
   IsRunOn all me name is_new resend input left (Some disk) ended =
       HasRunOn all me (most_of resend) name is_new input left disk ended
+
+  -- the file of this name was sealed as site `me`'s journal, or it stopped, as the promises of a seal have it
+  pub record HasSealedOn (me : ℕ) (name : List ℕ) (disk : Disk R P) (ended : Result ℕ SiteFault) : Type 0 where
+    pub start : Disk R P
+    pub opened : IsOpened name false start
+    pub ended_as : SealsTo (HasSealed me (file_of start) (file_of disk) (leaves (disk_log disk)))
+        (λ fault. (disk ≡ start) × IsSealCause me (file_of start) fault) ended
+    pub any_moment : LeavesOnly moment_of crash_left_of start disk (IsSealRun (file_of start) [])
+    pub output : output_of (disk_log disk) ≡ []
+    pub journal : ended ≡ Err Journal → faults_of (disk_log start) < faults_of (disk_log disk)
+
+  -- the file wasn't opened; or it was sealed
+  abbrev pub IsSealOn : ℕ → List ℕ → Option (Disk R P) → Result ℕ SiteFault → Type 0
+  IsSealOn me name None ended = IsUnopened false ended
+  IsSealOn me name (Some disk) ended = HasSealedOn me name disk ended
 
 -- what is said of a journal that failed: it begins with the fault and the file's name, and the system's reason is behind
 -- them

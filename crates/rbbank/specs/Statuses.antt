@@ -1,5 +1,6 @@
 -- The statuses that the program ends with.
-use Rattle.std.specs.Prelude.{◌≡◌, ◌⊎◌, ℕ, Bool, true, false, List, Option, Some, None, Result, Ok, Err}
+use Rattle.std.specs.Prelude.{◌≡◌, ◌⊎◌, ◌≤◌, ℕ, Bool, true, false, List, [], length, map, IfSome, Option, Result, Ok, Err}
+use Rattle.rb_money.specs.declared.limits.TheConstants.{MOST_SITES}
 use Rattle.std.specs.declared.io.ErrorKind.{ErrorKind as IoErrorKind}
 use Rattle.std.specs.declared.io.ErrorKind.TheVariants.{OutOfMemory as IoOutOfMemory}
 use Rattle.clap.specs.declared.error.kind.ErrorKind.{ErrorKind}
@@ -9,10 +10,14 @@ use Rattle.rb_lines.specs.declared.fault.ScriptFault.TheVariants.{Write}
 use Rattle.rb_lines.specs.Messages.{status_of}
 use Rattle.rb_run_site.specs.declared.fault.SiteFault.{SiteFault}
 use Rattle.rb_run_site.specs.Faults.{site_status_of}
-use Rattle.rbbank.specs.OnDisk.{IsRunOn, records_all}
-use Rattle.rbbank.specs.declared.on_disk.RanOnDisk.{RanOnDisk}
+use Rattle.rb_runs.specs.Closes.{ClosesAs, close_status_of}
+use Rattle.rb_runs.specs.declared.books.close_fault.CloseFault.{CloseFault}
+use Rattle.rbbank.specs.OnDisk.{IsRunOn, IsSealOn, records_all}
+use Rattle.rbbank.specs.declared.over_files.OverFiles.{OverFiles}
+use Rattle.rbbank.specs.declared.over_files.OverFiles.TheVariants.{Site, Closed}
 use Rattle.rbbank.specs.declared.on_streams.Streamed.{Streamed}
-use Rattle.rbbank.specs.declared.on_streams.Streamed.TheVariants.{Script, Histories, Audit, Migrate, Threads, SiteAsked}
+use Rattle.rbbank.specs.declared.on_streams.Streamed.TheVariants.{Script, Histories, Audit, Migrate, Threads, SiteAsked, SealAsked}
+use Rattle.rbbank.specs.declared.on_streams.Streamed.TheVariants.{CloseAsked}
 
 -- the status if the words can't be read
 abbrev pub status_of_unread : IoErrorKind → ℕ
@@ -55,23 +60,44 @@ abbrev pub IsEndOfSite : Result ℕ SiteFault → ℕ → Type 0
 IsEndOfSite (Ok count) n = n ≡ 0
 IsEndOfSite (Err fault) n = IsReportedStatus (site_status_of fault) n
 
--- a script, its histories, an audit, a migration or a run of threads ends as it does by what it came to; a site that was
--- asked for ran, as its words say, over the file that they name, and ends as it does by what that came to
-abbrev pub IsEndOf : Streamed → Option (List ℕ) → Option (List ℕ) → Option RanOnDisk → ℕ → Type 0
-IsEndOf (Script ran) input left site n = IsEndOfScript ran n
-IsEndOf (Histories ran) input left site n = IsEndOfHistories ran n
-IsEndOf (Audit ran) input left site n = IsEndOfAudit ran n
-IsEndOf (Migrate ran) input left site n = IsEndOfScript ran n
-IsEndOf (Threads ran) input left site n = IsEndOfHistories ran n
-IsEndOf (SiteAsked me journal is_new resend recorded) input left (Some ran) n =
+-- closing the books ends in 0 if they are closed, in 1 if a line says why they aren't, else in its fault's status or 4
+abbrev pub IsEndOfClosing : Result Bool CloseFault → ℕ → Type 0
+IsEndOfClosing (Ok true) n = n ≡ 0
+IsEndOfClosing (Ok false) n = n ≡ 1
+IsEndOfClosing (Err fault) n = IsReportedStatus (close_status_of fault) n
+
+-- what was done between a reader and a writer ends as it does by what it came to, and nothing more is written. A site
+-- that was asked for ran over the file that its words name, a journal was sealed, or the books were closed by the files
+-- that were read, as the words say; and that ends as it does by what it came to
+abbrev pub IsEndOf : Streamed → Option (List ℕ) → Option (List ℕ) → OverFiles → List ℕ → ℕ → Type 0
+IsEndOf (Script ran) input left done text n = IsEndOfScript ran n × (text ≡ [])
+IsEndOf (Histories ran) input left done text n = IsEndOfHistories ran n × (text ≡ [])
+IsEndOf (Audit ran) input left done text n = IsEndOfAudit ran n × (text ≡ [])
+IsEndOf (Migrate ran) input left done text n = IsEndOfScript ran n × (text ≡ [])
+IsEndOf (Threads ran) input left done text n = IsEndOfHistories ran n × (text ≡ [])
+IsEndOf (SiteAsked me journal is_new resend recorded) input left (Site ran) text n =
     IsRunOn (records_all recorded) me journal.now is_new resend input left ran.disk ran.ended × IsEndOfSite ran.ended n
-IsEndOf (SiteAsked me journal is_new resend recorded) input left None n = ⊥
+    × (text ≡ [])
+IsEndOf (SealAsked me journal) input left (Site ran) text n =
+    IsSealOn me journal.now ran.disk ran.ended × IsEndOfSite ran.ended n × (text ≡ []) × (left ≡ input)
+IsEndOf (CloseAsked sites accounts journals) input left (Closed ran) text n =
+    ClosesAs (record { sites = sites; added = map (λ name. name.now) accounts.items }) (length journals.items) ran.read.files ran.ended text
+    × IsEndOfClosing ran.ended n × (left ≡ input)
+IsEndOf _ input left done text n = ⊥
 
 -- 0, 1, or the status of a fault
 abbrev pub IsEnd : ℕ → Type 0
-IsEnd n = (n ≡ 0) ⊎ ((n ≡ 1) ⊎ (((fault : ScriptFault) × (n ≡ status_of fault)) ⊎ ((fault : SiteFault) × (n ≡ site_status_of fault))))
+IsEnd n = (n ≡ 0) ⊎ ((n ≡ 1) ⊎ (((fault : ScriptFault) × (n ≡ status_of fault)) ⊎ (((fault : SiteFault) × (n ≡ site_status_of fault))
+    ⊎ ((fault : CloseFault) × (n ≡ close_status_of fault)))))
 
--- a site is to run
-abbrev pub IsSiteAsked : Streamed → Type 0
-IsSiteAsked (SiteAsked me journal is_new resend recorded) = Unit {0}
-IsSiteAsked _ = ⊥
+-- files are to be run over, by a site, a seal or closing the books
+abbrev pub IsAskedOfFiles : Streamed → Type 0
+IsAskedOfFiles (SiteAsked me journal is_new resend recorded) = Unit {0}
+IsAskedOfFiles (SealAsked me journal) = Unit {0}
+IsAskedOfFiles (CloseAsked sites accounts journals) = Unit {0}
+IsAskedOfFiles _ = ⊥
+
+-- the books are to be closed by one journal or more, and for a number of sites that a bank may have
+abbrev pub IsFitting : Streamed → Type 0
+IsFitting (CloseAsked sites accounts journals) = IfSome sites (λ n. (2 ≤ n) × (n ≤ MOST_SITES)) × (1 ≤ length journals.items)
+IsFitting _ = Unit {0}

@@ -1,33 +1,39 @@
-//! `rbbank`: the sites of a bank, driven by a script or by tellers in threads, one site over its journal, and audits
-//! and migrations of the sites' histories.
+//! `rbbank`: the sites of a bank, driven by a script or by tellers in threads, one site over its journal, audits and
+//! migrations of the sites' histories, and the closing of its books.
 //! Tests: rb_tests_runs, words.rt; the program itself runs in the gate and on examples/.
 #![tactic(auto)]
 
-ghost use Rattle.std.specs.Prelude.{◌≡◌, ◌⊎◌, MatchResult};
+ghost use Rattle.std.specs.Prelude.{◌≡◌, ◌⊎◌, List, MatchResult, false, ℕ};
+ghost use Rattle.std.specs.Io.KnownBytes.{Appends};
 ghost use Rattle.std.specs.IoError.{error_kind};
 ghost use Rattle.std.specs.Process.{exit_status};
 ghost use Rattle.clap.specs.Words.{kind_of};
 ghost use Rattle.rb_lines.specs.Messages.{status_of};
 ghost use Rattle.rb_lines.specs.declared.fault.ScriptFault.TheVariants.{Write as NotWritten};
 ghost use Rattle.rbbank.specs.Statuses.{IsEnd, IsEndOf, IsEndOfAudit, IsEndOfHistories, IsEndOfScript, IsEndOfWords};
-ghost use Rattle.rbbank.specs.Statuses.{IsSiteAsked};
+ghost use Rattle.rbbank.specs.Statuses.{IsAskedOfFiles, IsFitting};
 ghost use Rattle.rbbank.specs.Statuses.{IsReportedStatus, status_of_unread};
 
+mod closing;
 mod on_disk;
 mod on_streams;
+mod over_files;
+mod read_log;
 
 use clap::error::ErrorKind;
-use on_disk::{RanOnDisk, run_on_disk};
+use closing::close_books;
+use on_disk::{RanOnDisk, run_on_disk, seal_on_disk};
 use on_streams::{Streamed, run_on_streams};
-use rb_lines::{FromReader, ScriptFault, Source, ToWriter, message, status};
+use over_files::OverFiles;
+use rb_lines::{FromReader, ScriptFault, Sink, Source, ToWriter, message, status};
 use std::alloc::AllocError;
 use std::process::ExitCode;
 use std::sync::Wait;
 use std::thread::Threads;
 use std::{env, io};
 
-/// The status if no world has the histories.
-const FAULT_FOUND: u8 = 1;
+/// The status if no world has the histories, or the books can't be closed.
+pub(crate) const FAULT_FOUND: u8 = 1;
 
 /// The status if the words are wrong.
 const WRONG_WORDS: u8 = 2;
@@ -35,7 +41,7 @@ const WRONG_WORDS: u8 = 2;
 /// The status if memory runs out.
 const NO_MEMORY: u8 = 4;
 
-fn out_of_memory(rt: &HostRuntime) -> ExitCode
+pub(crate) fn out_of_memory(rt: &HostRuntime) -> ExitCode
     ensures { exit_status result ≡ 4 }
 {
     let _ = rt.eprintln("rbbank: out of memory");
@@ -55,8 +61,9 @@ pub(crate) fn print_line(rt: &HostRuntime, line: Result<String, AllocError>, sta
     }
 }
 
-/// Says why a script, its histories, an audit, a migration or a run of threads stopped.
-fn report_fault(rt: &HostRuntime, fault: ScriptFault) -> ExitCode
+/// Says why a script, its histories, an audit, a migration or a run of threads stopped, or that closing the books
+/// couldn't write its line.
+pub(crate) fn report_fault(rt: &HostRuntime, fault: ScriptFault) -> ExitCode
     ensures { IsReportedStatus (status_of fault) (exit_status result) }
 {
     print_line(rt, message(rt.alloc(), fault), status(fault))
@@ -131,43 +138,67 @@ fn end_of_histories(rt: &HostRuntime, ran: Result<(), ScriptFault>) -> ExitCode
     }
 }
 
-/// How the program ends: its status, and what a site came to, if one ran.
+/// How the program ends: its status, and what ran over files.
 struct Ended {
     code: ExitCode,
-    site: Option<RanOnDisk>,
+    done: OverFiles,
 }
 
-/// The end of a program that ran no site.
-fn without_site(code: ExitCode) -> Ended
+/// The end of a program that ran over no file.
+fn without_files(code: ExitCode) -> Ended
     ensures { exit_status result.code ≡ exit_status code }
 {
-    let site = None;
-    Ended { code, site }
+    let done = OverFiles::Nothing;
+    Ended { code, done }
 }
 
-/// How whatever was asked for ends the program. A site that was asked for runs now.
-fn end<S: Source>(rt: &HostRuntime, reader: &mut S, streamed: Streamed) -> Ended
-    requires { IsSiteAsked streamed → S.calls reader.old ≡ 0 }
-    ensures { IsEndOf streamed.entry (S.remaining reader.old) (S.remaining reader.new) result.site
+/// The end of a program that ran a site, or sealed its journal.
+fn of_site(ran: RanOnDisk) -> Ended
+    ensures code { result.code ≡ ran.code }
+    ensures done { result.done ≡ OverFiles.Site ran }
+{
+    let code = ran.code;
+    let done = OverFiles::Site(ran);
+    Ended { code, done }
+}
+
+/// How whatever was asked for ends the program. What runs over files runs now.
+fn end<S: Source, W: Sink>(
+    rt: &HostRuntime,
+    reader: &mut S,
+    writer: &mut W,
+    streamed: Streamed,
+) -> Ended
+    requires unread { IsAskedOfFiles streamed → S.calls reader.old ≡ 0 }
+    requires fresh { IsAskedOfFiles streamed → W.failed writer.old ≡ false }
+    requires fitting { IsFitting streamed }
+    ensures { (text : List ℕ) × Appends (W.contents writer.old) (W.contents writer.new) text
+        × IsEndOf streamed.entry (S.remaining reader.old) (S.remaining reader.new) result.done text
         (exit_status result.code) }
 {
     match streamed {
-        Streamed::Script(ran) => without_site(end_of_script(rt, ran)),
-        Streamed::Histories(ran) => without_site(end_of_histories(rt, ran)),
-        Streamed::Audit(ran) => without_site(end_of_audit(rt, ran)),
-        Streamed::Migrate(ran) => without_site(end_of_script(rt, ran)),
-        Streamed::Threads(ran) => without_site(end_of_histories(rt, ran)),
+        Streamed::Script(ran) => without_files(end_of_script(rt, ran)),
+        Streamed::Histories(ran) => without_files(end_of_histories(rt, ran)),
+        Streamed::Audit(ran) => without_files(end_of_audit(rt, ran)),
+        Streamed::Migrate(ran) => without_files(end_of_script(rt, ran)),
+        Streamed::Threads(ran) => without_files(end_of_histories(rt, ran)),
         Streamed::SiteAsked {
             me,
             journal,
             is_new,
             resend,
             record,
+        } => of_site(run_on_disk(rt, reader, me, journal, is_new, resend, record)),
+        Streamed::SealAsked { me, journal } => of_site(seal_on_disk(rt, me, journal)),
+        Streamed::CloseAsked {
+            sites,
+            accounts,
+            journals,
         } => {
-            let ran = run_on_disk(rt, reader, me, journal, is_new, resend, record);
+            let ran = close_books(rt, sites, &accounts, &journals, writer);
             let code = ran.code;
-            let site = Some(ran);
-            Ended { code, site }
+            let done = OverFiles::Closed(ran);
+            Ended { code, done }
         }
     }
 }
@@ -195,7 +226,7 @@ fn run<H: Threads + Wait + Sync>(rt: &HostRuntime, handle: &H) -> ExitCode
     let mut writer = ToWriter::new(io::writer(rt));
     match run_on_streams(handle, alloc, views.as_slice(), &mut reader, &mut writer) {
         Ok(streamed) => {
-            let Ended { code, site: _ } = end(rt, &mut reader, streamed);
+            let Ended { code, done: _ } = end(rt, &mut reader, &mut writer, streamed);
             code
         }
         Err(error) => report_words(rt, error),

@@ -3,7 +3,7 @@ ghost use Rattle.std.specs.Prelude.{◌≡◌, ◌⊎◌, ◌≤◌, Err, IfOk, 
 ghost use Rattle.std.specs.Process.{exit_status};
 ghost use Rattle.rb_lines.specs.declared.limits.TheConstants.{MOST_READS};
 ghost use Rattle.rb_run_site.specs.declared.fault.SiteFault.TheVariants.{Read as NotRead};
-ghost use Rattle.rbbank.specs.OnDisk.{IsJournalMessage, IsRunOn, fault_of_open, most_of, records_all};
+ghost use Rattle.rbbank.specs.OnDisk.{IsJournalMessage, IsRunOn, IsSealOn, fault_of_open, most_of, records_all};
 ghost use Rattle.rbbank.specs.Statuses.{IsEndOfSite};
 
 use crate::print_line;
@@ -11,7 +11,7 @@ use rb_cli::Record;
 use rb_journal::{Disk, OpenError, open_disk};
 use rb_lines::Source;
 use rb_run_site::{
-    AllEvents, Changes, Ran, Records, SiteFault, run_site, site_message, site_status,
+    AllEvents, Changes, Ran, Records, SiteFault, run_site, seal_site, site_message, site_status,
 };
 use std::alloc::{AllocError, Global};
 use std::io;
@@ -93,6 +93,21 @@ fn end_of_site(
     }
 }
 
+/// Says why a journal isn't opened.
+fn report_unopened(rt: &HostRuntime, journal: &str, error: &OpenError) -> RanOnDisk
+    ensures none { result.disk ≡ None }
+    ensures ended { result.ended ≡ Err (fault_of_open error.now) }
+    ensures status { IsEndOfSite result.ended (exit_status result.code) }
+{
+    let ended = Err(not_opened(error));
+    let code = end_of_site(rt, journal, ended, system_error(error));
+    RanOnDisk {
+        disk: None,
+        ended,
+        code,
+    }
+}
+
 /// How many of the last entries have what they sent put out again: this many, or all.
 fn most_resent(resend: Option<u32>) -> usize
     ensures { result ≡ most_of resend }
@@ -137,15 +152,7 @@ fn run_recording<S: Source, M: Records>(
                 code,
             }
         }
-        Err(error) => {
-            let ended = Err(not_opened(&error));
-            let code = end_of_site(rt, journal, ended, system_error(&error));
-            RanOnDisk {
-                disk: None,
-                ended,
-                code,
-            }
-        }
+        Err(error) => report_unopened(rt, journal, &error),
     }
 }
 
@@ -172,5 +179,24 @@ pub fn run_on_disk<S: Source>(
     match recorded {
         Record::Changes => run_recording::<S, Changes>(rt, reader, me, journal, is_new, resend),
         Record::All => run_recording::<S, AllEvents>(rt, reader, me, journal, is_new, resend),
+    }
+}
+
+/// Seals a site's journal on the disk, which has to be there.
+pub fn seal_on_disk(rt: &HostRuntime, me: u8, journal: &str) -> RanOnDisk
+    ensures sealed { IsSealOn me journal.now result.disk result.ended }
+    ensures status { IsEndOfSite result.ended (exit_status result.code) }
+{
+    match open_disk(rt, journal, false, rt.stdout()) {
+        Ok((disk, bytes)) => {
+            let Ran { host, ended } = seal_site(rt.alloc(), disk, bytes, me);
+            let code = end_of_site(rt, journal, ended, host.error());
+            RanOnDisk {
+                disk: Some(host),
+                ended,
+                code,
+            }
+        }
+        Err(error) => report_unopened(rt, journal, &error),
     }
 }

@@ -7,7 +7,7 @@ ghost use Rattle.rb_lines.specs.declared.limits.TheConstants.{MOST_READS};
 ghost use Rattle.rb_cli.specs.declared.words.Words.{Words as TheWords};
 ghost use Rattle.rb_cli.specs.Words.{AreReadAs, Ask, FailsByWords, IsAsUsual};
 ghost use Rattle.rbbank.specs.Asked.{DoesAsAsked};
-ghost use Rattle.rbbank.specs.Statuses.{IsSiteAsked};
+ghost use Rattle.rbbank.specs.Statuses.{IsAskedOfFiles, IsFitting};
 
 use rb_branch::NoGate;
 use rb_cli::{Record, Words, read_words};
@@ -19,7 +19,7 @@ use std::sync::Wait;
 use std::thread::Threads;
 
 /// What was done between a reader and a writer, and what it came to.
-#[derive(Clone, Copy)]
+#[derive(Drop)]
 pub enum Streamed<'a> {
     /// A script was answered.
     Script(Result<u64, ScriptFault>),
@@ -39,11 +39,22 @@ pub enum Streamed<'a> {
         resend: Option<u32>,
         record: Record,
     },
+    /// This file is to be sealed, as the site's journal. Nothing is done yet.
+    SealAsked {
+        me: u8,
+        journal: &'a str,
+    },
+    /// The books are to be closed, by these files and with these accounts added. Nothing is done yet.
+    CloseAsked {
+        sites: Option<u8>,
+        accounts: Vec<&'a str>,
+        journals: Vec<&'a str>,
+    },
 }
 
 /// Does what the words after the program's name ask for, from this reader to this writer. Tellers read nothing;
-/// the handle starts their threads, and waits for them. A site takes a disk as well, so it is the caller's to run.
-/// If the words ask for nothing, the error says so, and nothing is read or written.
+/// the handle starts their threads, and waits for them. A site, its seal and closing the books take files as well, so
+/// they are the caller's to run. If the words ask for nothing, the error says so, and nothing is read or written.
 pub fn run_on_streams<'a, H: Threads + Wait + Sync, S: Source, W: Sink>(
     handle: &H,
     alloc: Global,
@@ -65,7 +76,8 @@ pub fn run_on_streams<'a, H: Threads + Wait + Sync, S: Source, W: Sink>(
     ensures kinds { FailsByWords (map (λ word. word.now) words.entry.now) result }
     ensures untouched { OnErr result ((reader.new ≡ reader.old) × (writer.new ≡ writer.old)) }
     ensures asked { IfOk result
-        (λ ran. IsSiteAsked ran → (reader.new ≡ reader.old) × (writer.new ≡ writer.old)) }
+        (λ ran. IsAskedOfFiles ran → (reader.new ≡ reader.old) × (writer.new ≡ writer.old)) }
+    ensures fitting { IfOk result IsFitting }
     ensures calls { S.calls reader.new ≤ S.calls reader.old + MOST_READS }
 {
     match read_words(alloc, words) {
@@ -97,6 +109,18 @@ pub fn run_on_streams<'a, H: Threads + Wait + Sync, S: Source, W: Sink>(
             is_new,
             resend,
             record,
+        }),
+        Ok(Words::Seal { me, journal }) => Ok(Streamed::SealAsked { me, journal }),
+        Ok(
+            Words::Close {
+                sites,
+                accounts,
+                journals,
+            },
+        ) => Ok(Streamed::CloseAsked {
+            sites,
+            accounts,
+            journals,
         }),
         Err(error) => Err(error),
     }

@@ -14,4 +14,4 @@ pub returns : goal.returns
 returns g c = words_end _ _ c.report_words.ensures
 
 pub returns-in-Ok-run_on_streams : goal.returns-in-Ok-run_on_streams
-returns-in-Ok-run_on_streams g c = any_end _ _ _ _ _ c.end.ensures
+returns-in-Ok-run_on_streams g c = any_end _ _ _ _ _ _ c.end.ensures.2

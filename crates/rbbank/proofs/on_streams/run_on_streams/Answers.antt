@@ -1,20 +1,16 @@
 -- The words are read as what was done.
-use Rattle.std.proofs.Common.{ℕ, List, [], Option, Some, None, append-nil, map, refl, subst, sym}
-use Rattle.std.specs.Io.KnownBytes.{Appends}
-use Rattle.rb_cli.specs.Words.{AreReadAs, IsAsUsual}
+use Rattle.std.proofs.Common.{◌≤◌, Bor, List, [], map, refl, subst}
+use Rattle.std.proofs.lemmas.List.{length-map}
+use Rattle.rb_cli.specs.Words.{AreReadAs, IsAsUsual, IsInRange, as_asked}
 use Rattle.rb_cli.specs.declared.words.Words.{Words}
-use Rattle.rb_cli.specs.declared.words.Words.TheVariants.{Script, Histories, Audit, Migrate, Threads, Site}
+use Rattle.rb_cli.specs.declared.words.Words.TheVariants.{Script, Histories, Audit, Migrate, Threads, Site, Seal, Close}
 use Rattle.clap.specs.Words.{Text}
+use Rattle.rbbank.proofs.Done.{appends_nothing}
 use Rattle.rbbank.proofs.on_streams.run_on_streams.Goals as goal
 
 -- words are read as this, and as usual
 abbrev AreAsked : List Text → Words → Type 0
 AreAsked words asked = AreReadAs words asked × IsAsUsual words asked
-
--- known bytes grow by nothing
-appends_nothing : (bytes : Option (List ℕ)) → Appends bytes bytes []
-appends_nothing None = tt
-appends_nothing (Some xs) = sym (append-nil xs)
 
 pub returns-in-Ok-Script-clause-done : goal.returns-in-Ok-Script-clause-done
 returns-in-Ok-Script-clause-done g c =
@@ -64,3 +60,23 @@ returns-in-Ok-Site-clause-done g c =
     let asked = subst (AreAsked words) met.field-0-is (met.ensures.ok, met.ensures.usual) in
     let run = Site met.me met.journal met.is_new met.resend met.record in
     (run, asked.0, asked.1, [], appends_nothing _, (refl, refl, refl, refl, refl, refl, refl))
+
+pub returns-in-Ok-Seal-clause-done : goal.returns-in-Ok-Seal-clause-done
+returns-in-Ok-Seal-clause-done g c =
+    let words = map (λ word. word.now) c.args.words.now in
+    let met = c.in-Ok-Seal in
+    let asked = subst (AreAsked words) met.field-0-is (met.ensures.ok, met.ensures.usual) in
+    (Seal met.me met.journal, asked.0, asked.1, [], appends_nothing _, (refl, refl, refl, refl))
+
+pub returns-in-Ok-Close-clause-done : goal.returns-in-Ok-Close-clause-done
+returns-in-Ok-Close-clause-done g c =
+    let words = map (λ word. word.now) c.args.words.now in
+    let met = c.in-Ok-Close in
+    let asked = subst (AreAsked words) met.field-0-is (met.ensures.ok, met.ensures.usual) in
+    (Close met.sites met.accounts met.journals, asked.0, asked.1, [], appends_nothing _, (refl, refl, refl, refl, refl))
+
+pub returns-in-Ok-Close-clause-fitting : goal.returns-in-Ok-Close-clause-fitting
+returns-in-Ok-Close-clause-fitting g c =
+    let met = c.in-Ok-Close in
+    let range = subst (λ asked. IsInRange (as_asked asked)) met.field-0-is met.ensures.ranges in
+    (range.0, subst (λ n. 1 ≤ n) (length-map met.journals.items (λ (text : Bor Text). text.now)) range.1)
