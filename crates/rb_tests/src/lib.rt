@@ -13,6 +13,8 @@ mod common;
 #[cfg(test)]
 mod counting;
 #[cfg(test)]
+mod failing;
+#[cfg(test)]
 mod forged;
 #[cfg(test)]
 mod forged_texts;
@@ -22,6 +24,8 @@ mod inbox;
 mod journal;
 #[cfg(test)]
 mod journal_loop;
+#[cfg(test)]
+mod journal_seal;
 #[cfg(test)]
 mod ledger;
 #[cfg(test)]
@@ -42,5 +46,7 @@ mod statements;
 mod token;
 #[cfg(test)]
 mod undo;
+#[cfg(test)]
+mod unrecorded;
 #[cfg(test)]
 mod worlds;

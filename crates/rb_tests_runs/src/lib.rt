@@ -13,6 +13,8 @@ mod auditor;
 #[cfg(test)]
 mod audits;
 #[cfg(test)]
+mod books;
+#[cfg(test)]
 mod branch;
 #[cfg(test)]
 mod checks;

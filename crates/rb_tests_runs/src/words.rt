@@ -32,16 +32,16 @@ fn are_read(rt: &impl Abort, alloc: Global, line: &str, wanted: Words) {
 /// Each option's number is read as it is written, in any order, in the next word or behind `=`.
 #[test]
 fn numbers_are_read(rt: HostRuntime) {
-    let run = Words::Threads {
-        sites: 3,
-        tellers: 64,
-        seed: 4294967295,
-    };
     for line in [
         "threads --sites 3 --tellers 64 --seed 4294967295",
         "threads --seed 4294967295 --tellers 64 --sites 3",
         "threads --sites=3 --seed +4294967295 --tellers=064",
     ] {
+        let run = Words::Threads {
+            sites: 3,
+            tellers: 64,
+            seed: 4294967295,
+        };
         are_read(&rt, rt.alloc(), line, run);
     }
 }
@@ -91,5 +91,57 @@ fn journals_are_read(rt: HostRuntime) {
             record,
         };
         are_read(&rt, rt.alloc(), line, wanted);
+    }
+}
+
+/// A journal is sealed if that is said, in any place, whatever else is given.
+#[test]
+fn seals_are_read(rt: HostRuntime) {
+    for line in [
+        "site --me 15 --journal j --seal",
+        "site --seal --journal=j --me=+15",
+        "site --new --me 15 --record all --seal --resend 3 --journal j",
+    ] {
+        let wanted = Words::Seal {
+            me: 15,
+            journal: "j",
+        };
+        are_read(&rt, rt.alloc(), line, wanted);
+    }
+}
+
+/// Accounts and journals are read in order, also where one is among the others, and what is behind two hyphens is a
+/// journal.
+#[test]
+fn books_are_read(rt: HostRuntime) {
+    let alloc = rt.alloc();
+    let none: [&str; 0] = [];
+    for (line, sites, accounts, journals) in [
+        ("close a", None, none.as_slice(), ["a"].as_slice()),
+        (
+            "close --sites 16 --account ann --account bob a b c",
+            Some(16),
+            ["ann", "bob"].as_slice(),
+            ["a", "b", "c"].as_slice(),
+        ),
+        (
+            "close b --account=-x - --sites=+2 a --account ann",
+            Some(2),
+            ["-x", "ann"].as_slice(),
+            ["b", "-", "a"].as_slice(),
+        ),
+        (
+            "close --account a -- --sites a",
+            None,
+            ["a"].as_slice(),
+            ["--sites", "a"].as_slice(),
+        ),
+    ] {
+        let wanted = Words::Close {
+            sites,
+            accounts: accounts.to_vec(alloc).expect(&rt, "memory"),
+            journals: journals.to_vec(alloc).expect(&rt, "memory"),
+        };
+        are_read(&rt, alloc, line, wanted);
     }
 }
