@@ -12,7 +12,6 @@ from typing import Any
 from child import Child
 import bad_lines
 import bank
-import closing
 import draw
 import explain
 import picture
@@ -21,6 +20,7 @@ import world
 
 Json = dict[str, Any]
 TORN = ' "event":{"deposit":["ann",1]},"reply":{"ki'  # the gate, and what a crash left of a write behind it
+SEALED = "\t"  # a sealed journal's gate
 
 
 class Answers:
@@ -136,16 +136,19 @@ class Answers:
         return [json.loads(line) for line in run.stdout.decode().splitlines()], errors
 
     def close_books(self, data: bytes) -> str:
-        """The next bank's configuration, or why the books can't be closed: the audit's line, or what is open."""
-        found, histories = self.whole(data), self.written("histories", data)
-        run = self.program.run("audit", histories.encode())
-        if run.error or "order" not in json.loads(run.replies[0]):
-            return run.replies[0] if run.replies else raised(run.error)
-        config = json.loads(histories.split("\n")[0])
-        names = [name for name, _ in config["accounts"]]
-        replies = self.again("script", found, *[bank.compact({"balance": name, "site": 0}) for name in names])
-        balances = [json.loads(reply)["balance"] for reply in replies[-len(names):]]
-        return bank.compact(closing.closed(found, config, list(zip(names, balances))))
+        """What `rbbank close` answers over the sites' journals: the next bank's configuration, or what is open."""
+        begin, *entries = self.written("histories", data).splitlines()
+        sites = json.loads(begin)["sites"]
+        with tempfile.TemporaryDirectory() as folder:
+            paths = [os.path.join(folder, f"{site}.journal") for site in range(sites)]
+            for site, path in enumerate(paths):
+                mine = [line for line in entries if json.loads(line)["site"] == site]
+                with open(path, "w", encoding="utf-8") as file:
+                    file.write("\n".join([begin, *mine, SEALED]))
+            run = subprocess.run([*self.program.words, "close", *paths], capture_output=True, cwd=self.program.folder)
+        if not run.stdout:
+            raise bank.Stop(run.stderr.decode("utf-8", "replace").strip())
+        return run.stdout.decode().strip()
 
 
 def raised(why: str) -> Any:
