@@ -26,7 +26,8 @@ help:
 	@echo '                     the mutants of a crate that the gate leaves out; without CRATE all of them, some hours'
 	@echo '  make refuse        each allocation of the program and of five tests refused in turn; wants a C compiler, cc'
 	@echo '  make bench         the measurements of bench/README.md, some ten minutes'
-	@echo '  make crash         sites ended at random moments, over and over, and started again; some minutes'
+	@echo '  make crash         sites ended at random moments, over and over, and started again; books closed between, and'
+	@echo '                     a disk lost in the end; some minutes'
 	@echo '  make disk          each call of a site on its file, its input and its output at fault in turn; wants cc'
 	@echo '  make wires         sites over pipes, 20,000 deposits each at once, one of them stopped for a while'
 	@echo '  make broker        three sites over the message broker mosquitto, if it is installed'
@@ -73,6 +74,8 @@ examples: build
 	@tests/cases.py crates/rbbank/out/rbbank
 	@examples/tools/from_help.py --check crates/rbbank/out/rbbank
 	@tests/sites.py crates/rbbank/out/rbbank
+	@tests/older.py crates/rbbank/out/rbbank
+	@tests/tools.py crates/rbbank/out/rbbank
 
 # The library in bindings/out, its tests in each language, the same answers by each of them, and the shop. What is
 # missing is said, and ends it in a status.
@@ -95,6 +98,8 @@ test: toolchain
 	@tests/cases.py --quiet crates/rbbank/out/rbbank
 	@examples/tools/from_help.py --check crates/rbbank/out/rbbank
 	@tests/sites.py --quiet crates/rbbank/out/rbbank
+	@tests/older.py --quiet crates/rbbank/out/rbbank
+	@tests/tools.py --quiet crates/rbbank/out/rbbank
 	@play/check.py --quiet crates/rbbank/out/rbbank
 	@tests/crash.py --quiet crates/rbbank/out/rbbank --kills 20 --seed 1
 
@@ -110,7 +115,7 @@ check:
 bench: build
 	@bench/run.py crates/rbbank/out/rbbank
 
-# Sites ended at random moments and started again: three, four and five of them.
+# Sites ended at random moments and started again: three, four and five of them at first, for three periods.
 crash: build
 	@for sites in 3 4 5; do tests/crash.py crates/rbbank/out/rbbank --kills 200 --sites $$sites || exit 1; done
 

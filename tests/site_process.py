@@ -107,7 +107,7 @@ class Site:
 
     def __init__(self, bank, number):
         self.bank, self.number, self.process = bank, number, None
-        self.journal = os.path.join(bank.folder, f"{number}.journal")
+        self.journal = bank.file(f"{number}.journal")
         self.entries = []       # the lines behind the configuration, as the journal was last found
         self.sent = {}          # each message that it ever sent, by its name
         self.made = {}          # the reply to each request that was made by an id
