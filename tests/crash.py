@@ -8,9 +8,12 @@ size in the middle of a write, and are started again on their journals. After ea
 before, then the entry of each event that was answered and changed the site, with that very answer, and then those of a
 first part of the events that were given and not answered. What a site sends again as it starts has to be what its
 journal says it sent.
-At the end all messages are sent again and delivered: all sites then have the same balances and the same operations, an
-audit orders the journals, each request that was made has one entry at its site and no other one has any, and the bank
-has exactly the sum that the answers to its clients come to.
+A bank lasts for some periods. Between two of them its books are closed by examples/tools/close.py, which is ended at
+random moments too, and an account and a site are added (books.py). At the end all messages are sent again and
+delivered. Then, and whenever books were closed, all sites have the same operations, an audit orders the journals, each
+request that was made has one entry at its site and no other one has any, and each account has to the cent what the
+answers to clients come to, over all periods. Last a site's disk is lost: its journal is made again from the others' by
+examples/tools/rebuild.py, and all sites go on and agree (lost_disk.py).
 
 It prints its seed and what happened. The same seed makes the same choices, but no two runs end a process at the same
 moment. The journals stay where --folder says, or where the run fails.
@@ -27,6 +30,8 @@ import tempfile
 import time
 from collections import Counter
 
+import books
+import lost_disk
 from site_process import Failed, Site, compact, name_of, names_of, read
 
 LOST, REPEATED = 0.05, 0.1  # of the messages, how many the router loses, and how many it delivers once more
@@ -35,7 +40,8 @@ MOST_BYTES = 40_000  # of the lines that are given at once, so that a pipe takes
 LIMITED = 0.15  # of the starts, how many have a limit on the file's size
 AT_THE_START = 0.1  # of the ends, how many come while a site starts
 ONCE_MORE = 0.03  # of the events of clients, how many are requests that were answered before
-STARTS = 1000  # cents of each account
+LIMITS = {"blue": 10**6, "epoch": 4 * 10**9, "history": 10**8, "inbox": 4096, "red": 10**6}
+STARTS = 1000  # cents of each account of the first period
 ACCOUNTS = ("ann", "bob", "eve")
 
 
@@ -55,20 +61,22 @@ def behind(message):
 class Clients:
     """What clients ask for: everything, of any site, and of the one with the token more often what needs it."""
 
-    def __init__(self, pick, sites):
-        self.pick, self.sites, self.names, self.holder = pick, sites, [], 0
+    def __init__(self, pick, config):
+        self.pick, self.sites, self.names, self.holder = pick, config["sites"], [], 0
+        self.starts = dict(config["accounts"])
         self.count = 0
-        self.answers = [{} for _ in range(sites)]  # of each site: the last answer to each request, by its id
+        self.answers = [{} for _ in range(self.sites)]  # of each site: the last answer to each request, by its id
         self.operations = {}    # what requests made, by the operations' names, as their answers have them
 
     def request(self, site):
-        pick, account = self.pick, self.pick.choice(ACCOUNTS)
+        pick, accounts = self.pick, list(self.starts)
+        account = pick.choice(accounts)
         weights = [4, 4, 1, 3, 3] if site == self.holder else [6, 1, 1, 1, 1]
         verb = pick.choices(["deposit", "withdraw", "interest", "transfer", "cancel"], weights)[0]
         if verb == "cancel" and self.names:
             return {"cancel": pick.choice(self.names[-40:])}
         if verb == "transfer":
-            return {"transfer": [account, pick.choice(ACCOUNTS), pick.randrange(400)]}
+            return {"transfer": [account, pick.choice(accounts), pick.randrange(400)]}
         if verb == "withdraw":
             return {"withdraw": [account, pick.randrange(400)]}
         if verb == "interest":
@@ -81,7 +89,7 @@ class Clients:
         return request | {"id": f"c-{self.count}"}
 
     def event(self, site):
-        pick, account = self.pick, self.pick.choice(ACCOUNTS)
+        pick, account = self.pick, self.pick.choice(list(self.starts))
         other = pick.random()
         if self.answers[site] and pick.random() < ONCE_MORE:
             return pick.choice(list(self.answers[site].values())[-200:])[0]
@@ -103,12 +111,16 @@ class Clients:
         for message in answer["sends"]:
             self.operations[message["shadow"]["name"]] = message["shadow"]
 
-    def sum(self):
-        """The cents that all accounts have together, if just these operations were made, each once."""
-        cancelled = {it.get("target") for it in self.operations.values()}
-        signs = {"deposit": 1, "interest": 1, "withdraw": -1}
-        return STARTS * len(ACCOUNTS) + sum(signs.get(it["kind"], 0) * it["amount"]
-                                            for name, it in self.operations.items() if name not in cancelled)
+    def balances(self):
+        """The cents of each account, if just these operations were made, each once."""
+        cancelled, found = {it.get("target") for it in self.operations.values()}, dict(self.starts)
+        signs = {"deposit": 1, "interest": 1, "withdraw": -1, "transfer": -1}
+        for name, it in self.operations.items():
+            if name not in cancelled:
+                found[it["account"]] += signs.get(it["kind"], 0) * it["amount"]
+                if it["kind"] == "transfer":
+                    found[it["to"]] += it["amount"]
+        return found
 
     def hear(self, site, reply):
         """Notes which operations there are to cancel, and where the token is."""
@@ -117,22 +129,30 @@ class Clients:
             self.holder = site if "taken" in reply else None
 
 
-class Bank:
-    """The sites, the messages on their way, and what happened."""
+def first_config(asked, pick):
+    """The configuration of the first period."""
+    sites = asked.sites or 3 + pick.randrange(3)
+    inbox, version = pick.choice([40, 4096]), pick.choice([1, 2])
+    return LIMITS | {"accounts": [[name, STARTS] for name in ACCOUNTS], "inbox": inbox, "sites": sites,
+                     "version": version}
 
-    def __init__(self, asked, folder):
-        self.program, self.folder = os.path.abspath(asked.program), folder
-        self.pick = random.Random(asked.seed)
-        self.sites = asked.sites or 3 + self.pick.randrange(3)
-        inbox, version = self.pick.choice([40, 4096]), self.pick.choice([1, 2])
-        config = {"accounts": [[name, STARTS] for name in ACCOUNTS], "inbox": inbox, "sites": self.sites,
-                  "version": version}
-        self.config = compact(config)
-        self.written = compact({"blue": 10**6, "epoch": 4 * 10**9, "history": 10**8, "red": 10**6} | config)
-        self.clients = Clients(self.pick, self.sites)
+
+class Bank:
+    """The sites of one period, the messages on their way, and what happened."""
+
+    def __init__(self, program, folder, pick, config, period):
+        self.program, self.folder, self.pick, self.period = program, folder, pick, period
+        self.sites = config["sites"]
+        self.written = compact(config)
+        self.config = compact({key: value for key, value in config.items() if LIMITS.get(key) != value})
+        self.clients = Clients(self.pick, config)
         self.wires = [[] for _ in range(self.sites)]
         self.count, self.lossy, self.took = Counter(), True, 0.002
         self.all = [Site(self, number) for number in range(self.sites)]
+
+    def file(self, what):
+        """The path of a file of this period."""
+        return os.path.join(self.folder, f"{self.period:04}.{what}")
 
     def route(self, sender, messages):
         """Puts messages on their way. Some are lost."""
@@ -206,20 +226,24 @@ class Bank:
 
     # ---- the end of a run
 
-    def settle(self):
-        """Starts all sites again, and delivers all that each of them ever sent until every site has all of it."""
+    def answer_all(self):
+        """Starts all sites again, and asks each request that has no answer until it has one."""
         for site in self.all:
             if site.process is not None:
                 self.ends(site)
         self.lossy, self.wires = False, [[] for _ in range(self.sites)]
         for site in self.all:
             site.start()
-            left, site.unanswered = site.unanswered + [{"balance": "ann"}], []
+            left, site.unanswered = site.unanswered + [{"balance": ACCOUNTS[0]}], []
             while left:
                 part, left = left[:100], left[100:]
                 site.ask(part)
                 if not site.wait():
                     raise Failed(f"site {site.number} ended by itself: {site.ended()}")
+
+    def settle(self):
+        """Starts all sites again, and delivers all that each of them ever sent until every site has all of it."""
+        self.answer_all()
         kept = [list(wire) for wire in self.wires]
         for _ in range(200):
             if not self.deliver(kept):
@@ -242,24 +266,28 @@ class Bank:
         return delivered
 
     def compare(self):
-        """All sites have the same balances and operations; an audit orders the journals."""
-        asked, answers = [{"balance": name} for name in ACCOUNTS], []
+        """Ends all sites, which have the same balances and operations: the balances that were answered for."""
+        asked, answers = [{"balance": name} for name in self.clients.starts], []
         for site in self.all:
             site.ask(asked)
             if not site.wait():
                 raise Failed(f"site {site.number} ended by itself")
-            answers.append(site.replies[-len(asked):])
+            answers.append([reply["balance"] for reply in site.replies[-len(asked):]])
             site.close()
-        if any(each != answers[0] for each in answers):
-            raise Failed(f"the sites have different balances: {compact(answers)}")
+        if any(each != list(self.clients.balances().values()) for each in answers):
+            raise Failed(f"the sites have {compact(answers)}, and what was answered to clients comes to "
+                         f"{compact(self.clients.balances())}")
+
+    def applied(self):
+        """How many operations the sites applied, which are the same at all of them."""
         operations = [sorted(name for line in site.entries for name in names_of(json.loads(line)["reply"])
                              if name[0] in "BR") for site in self.all]
         if any(each != operations[0] for each in operations):
             raise Failed("the sites applied different operations")
-        return answers[0], len(operations[0])
+        return len(operations[0])
 
-    def once(self, balances):
-        """Each request that was made has one entry, at its site, and no other one has any; and the sum is right."""
+    def once(self):
+        """Each request that was made has one entry, at its site, and no other one has any."""
         for site, answers in zip(self.all, self.clients.answers):
             found = Counter(json.loads(line).get("id") for line in site.entries)
             found.pop(None, None)
@@ -267,13 +295,10 @@ class Bank:
             if found != made:
                 differ = compact((found - made) + (made - found))
                 raise Failed(f"entries and answers differ at site {site.number}: {differ}")
-        total, wanted = sum(reply["balance"] for reply in balances), self.clients.sum()
-        if total != wanted:
-            raise Failed(f"the bank has {total} cents, and the answers to its clients come to {wanted}")
 
     def audit(self):
         """Has an audit order the journals: one after another, all but the first without its first line."""
-        path = os.path.join(self.folder, "histories.jsonl")
+        path = self.file("histories")
         with open(path, "wb") as out:
             for number, site in enumerate(self.all):
                 journal = read(site.journal)
@@ -293,24 +318,46 @@ class Bank:
                 site.process.wait()
 
 
+def shares(kills, periods):
+    """How many ends of a process each period has."""
+    return [kills * (at + 1) // periods - kills * at // periods for at in range(periods)]
+
+
 def run(asked, folder):
-    """A whole run. What it did, in a line."""
-    bank = Bank(asked, folder)
-    try:
-        while bank.count["kills"] < asked.kills:
-            bank.turn()
-        bank.settle()
-        balances, operations = bank.compare()
-        bank.once(balances)
-        entries = bank.audit()
-    finally:
-        bank.stop()
+    """A whole run, period by period. What happened in each, in lines."""
+    pick = random.Random(asked.seed)
+    config, moved = first_config(asked, pick), 0
+    for period, kills in enumerate(shares(asked.kills, asked.periods), 1):
+        bank = Bank(os.path.abspath(asked.program), folder, pick, config, period)
+        try:
+            while bank.count["kills"] < kills:
+                bank.turn()
+            if period < asked.periods:
+                config = books.close(bank, f"zed-{period + 1}")
+            else:
+                bank.settle()
+                bank.compare()
+            bank.once()
+            yield happened(bank, bank.applied(), bank.audit())
+            moved += sum(bank.clients.balances().values()) - sum(bank.clients.starts.values())
+            if period == asked.periods:
+                yield lost_disk.lose(bank)
+        finally:
+            bank.stop()
+    total, wanted = sum(bank.clients.balances().values()), STARTS * len(ACCOUNTS) + moved
+    if total != wanted:
+        raise Failed(f"the bank has {total} cents, and the answers to its clients in all periods come to {wanted}")
+    yield f"  In all periods the accounts got {moved} cents, which they have."
+
+
+def happened(bank, operations, entries):
+    """What happened in a period, in lines."""
     count = bank.count
-    cents = ", ".join(f"{name} {reply['balance']}" for name, reply in zip(ACCOUNTS, balances))
-    return (f"seed {asked.seed}: {bank.sites} sites, {count['events']:,} events answered, {count['kills']} kills "
-            f"({count['in a write']} in a write), {count['torn']} torn ends,\n"
-            f"  {count['unreported']:,} entries recorded and not reported, {count['again']:,} requests answered again, "
-            f"{count['lost']:,} messages lost, {count['repeats']:,} repeats.\n"
+    cents = ", ".join(f"{name} {cents}" for name, cents in bank.clients.balances().items())
+    return (f"  period {bank.period}: {bank.sites} sites, {count['events']:,} events answered, {count['kills']} kills "
+            f"({count['in a write']} in a write, {count['closing']} while books were closed), {count['torn']} torn "
+            f"ends,\n  {count['unreported']:,} entries recorded and not reported, {count['again']:,} requests answered "
+            f"again, {count['lost']:,} messages lost, {count['repeats']:,} repeats.\n"
             f"  All sites have {cents} after {operations:,} operations; the audit orders {entries:,} entries.")
 
 
@@ -319,6 +366,7 @@ def options():
     reader.add_argument("program", metavar="PROGRAM", help="a built rbbank")
     reader.add_argument("--kills", metavar="N", type=int, default=200, help="how many ends of a process, 200")
     reader.add_argument("--sites", metavar="N", type=int, choices=range(2, 9), help="2 to 8; else 3 to 5 by the seed")
+    reader.add_argument("--periods", metavar="N", type=int, choices=range(1, 9), default=3, help="1 to 8; else 3")
     reader.add_argument("--seed", metavar="N", type=int, help="another seed makes other choices; else by the clock")
     reader.add_argument("--quiet", action="store_true", help="print only what failed")
     reader.add_argument("--folder", metavar="PATH", help="an empty folder for the journals, which stay there")
@@ -337,14 +385,16 @@ def main():
         os.makedirs(asked.folder, exist_ok=True)
     folder = asked.folder or tempfile.mkdtemp(prefix="crash-")
     try:
-        happened = run(asked, folder)
+        if not asked.quiet:
+            print(f"seed {asked.seed}:", flush=True)
+        for lines in run(asked, folder):
+            if not asked.quiet:
+                print(lines, flush=True)
     except Failed as why:
         print(f"crash: {why}\nseed {asked.seed}; the journals are in {folder}")
         return 1
     except KeyboardInterrupt:
         return 130
-    if not asked.quiet:
-        print(happened, flush=True)
     if not asked.folder:
         shutil.rmtree(folder)
     return 0

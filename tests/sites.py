@@ -7,7 +7,7 @@ Which of the operations that are ready at once is applied first; a journal cut a
 its space; a restart after each line; lines one at a time and all at once; many large answers in little memory; a new
 journal where one is there, and none where it has to be; another bank's journal; a damaged one; a folder, a device and a
 full disk as journal; a second process; output that can't be written; lines that are no events, or too long; wrong
-words; where strace is there, the order of writes and syncs; the pipes that docs/RUNNING.md shows.
+words; a sealed journal; where strace is there, the order of writes and syncs; the pipes that docs/RUNNING.md shows.
 """
 import errno
 import itertools
@@ -297,7 +297,7 @@ def damaged_journals(sites, first, one, two):
         "a blank line behind its first": (b"\n" + one + two + AT_REST, 2),
         "a byte before a line": (one + b"\xef" + two + AT_REST, 3),
         "another first byte of a line": (one + b"[" + two[1:] + AT_REST, 3),
-        "another byte for its gate": (one + two + b"\t", 4),
+        "another byte for its gate": (one + two + b"\r", 4),
         "a line feed behind its lines": (one + two + b"\n", 4),
         "notes behind its lines": (one + two + b"some notes\nof mine\n", 4),
     }
@@ -391,6 +391,24 @@ def not_ready(sites):
         with os.fdopen(here, "rb") as reader:
             out = reader.read()
         yield "an output that isn't ready", run.wait() == 0 and out.count(b"\n") == 3000
+
+
+def sealed(sites):
+    """A sealed journal is closed by one byte, for ever: no site starts on it, and an audit reads it as before."""
+    journal = stored("site_deposit.site.journal")
+    after, refused = journal[:-1] + b"\t", (b"", "rbbank: journal is sealed\n", 2)
+    with tempfile.TemporaryDirectory() as folder:
+        name = os.path.join(folder, "journal")
+        write(name, journal)
+        for wanted in [(b"", "", 0), refused]:
+            run = subprocess.run([*sites.words(name, new=False, record=None), "--seal"], stdin=subprocess.DEVNULL,
+                                 capture_output=True)
+            fine = (run.stdout, run.stderr.decode(), run.returncode) == wanted and read(name) == after
+            yield "a journal is sealed" if wanted[2] == 0 else "... once", fine
+        yield "no site starts on it", sites.at(name, BANK + BALANCE) == refused and read(name) == after
+        yield "... nor anew", sites.at(name, BANK, new=True)[2] == 2 and read(name) == after
+    run = subprocess.run([sites.program, "audit"], input=after, capture_output=True)
+    yield "audit of a sealed journal", (run.stdout, run.stderr) == (b'{"order":[0,0]}\n', b"")
 
 
 def used_twice(sites):
@@ -593,7 +611,7 @@ def of_the_page(sites):
     yield "the pipes of docs/RUNNING.md", run.stdout.decode() == out
 
 
-PARTS = [same_however_read, ready_at_once, torn, kept, audited, asked_for, refused_journals, named, not_ready,
+PARTS = [same_however_read, ready_at_once, torn, kept, audited, asked_for, refused_journals, named, not_ready, sealed,
          used_twice, failed, unwritten, no_events, words_at_fault, many_sites, large_batch, large_answers, in_order,
          of_the_page]
 
