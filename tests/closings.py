@@ -1,0 +1,134 @@
+#!/usr/bin/env python3
+"""Compares what `rbbank close` answers with what docs/FORMAT.md says of it: each line, each fault, and its status.
+
+usage: closings.py [--quiet] PROGRAM    (--quiet prints only what is different)
+
+The journals are written by sites of the program itself, and sealed by it; some are spoiled then.
+"""
+from __future__ import annotations
+
+import json
+import os
+import subprocess
+import sys
+import tempfile
+from typing import Any, NamedTuple
+
+BANK = {"accounts": [["ann", 0], ["bob", 7]], "sites": 2, "version": 1}
+FULL = {"accounts": [["ann", 99_999_999_999]], "sites": 2, "version": 1}
+LIMITS = {"blue": 1_000_000, "epoch": 4_000_000_000, "history": 100_000_000, "inbox": 4096, "red": 1_000_000}
+
+
+def compact(value: Any) -> str:
+    return json.dumps(value, separators=(",", ":"))
+
+
+def next_bank(accounts: list[list[Any]], sites: int = 2, version: int = 1) -> str:
+    return compact({"accounts": accounts, **LIMITS, "sites": sites, "version": version}) + "\n"
+
+
+class Case(NamedTuple):
+    """The words behind `close`, and what comes of them."""
+
+    words: str
+    out: str = ""
+    err: str = ""
+    status: int = 0
+
+
+CASES = [
+    Case("made.0 received.1", next_bank([["ann", 500], ["bob", 7]])),
+    Case("--account zed made.0 received.1 --account eve",
+         next_bank([["ann", 500], ["bob", 7], ["zed", 0], ["eve", 0]])),
+    Case("--sites 9 made.0 received.1", next_bank([["ann", 500], ["bob", 7]], 9, 2)),
+    Case("none.0 none.1", next_bank([["ann", 0], ["bob", 7]])),
+    Case("made.0 none.1", '{"fault":"open","lacks":[[],["B0.1"]]}\n', status=1),
+    Case("red.0 none.1", '{"fault":"open","lacks":[[],["B0.1","R1"]]}\n', status=1),
+    Case("red.0 held.1", '{"fault":"open","lacks":[[],["B0.1","R1"]]}\n', status=1),
+    Case("cancelled.0 cancelled.1", next_bank([["ann", 0], ["bob", 7]])),
+    Case("wrong.0 received.1", '{"event":1,"fault":"reply","site":0}\n', status=1),
+    Case("none.0 received.1", '{"fault":"stuck","next":[1,1]}\n', status=1),
+    Case("full.0 full.1", next_bank([["ann", 100_000_000_000]])),
+    Case("above.0 above.1", '{"account":"ann","fault":"limit"}\n', status=1),
+    Case("made.0 open.1", err="rbbank: open.1: not sealed\n", status=2),
+    Case("made.0 full.1", err="rbbank: full.1: another bank's journal\n", status=2),
+    Case("nothing.0 none.1", err="rbbank: nothing.0: another bank's journal\n", status=2),
+    Case("bad.0 none.1", err="rbbank: bad.0: line 2: bad line\n", status=2),
+    Case("made.0 made.0", err="rbbank: made.0: line 2: another site's entry\n", status=2),
+    Case("made.0", err="rbbank: 1 journals for 2 sites\n", status=2),
+    Case("made.0 none.1 none.1", err="rbbank: 3 journals for 2 sites\n", status=2),
+    Case("--account Zed made.0 none.1", err="rbbank: account Zed: no name\n", status=2),
+    Case("--account zed --account zed no.0", err="rbbank: account zed: there is one already\n", status=2),
+    Case("--account bob made.0 no.1", err="rbbank: account bob: there is one already\n", status=2),
+    Case(" ".join(f"--account a{n}" for n in range(999)) + " made.0 no.1", err="rbbank: too many accounts\n", status=2),
+    Case("made.0 no.1", err="rbbank: no.1: No such file or directory (os error 2)\n", status=3),
+]
+
+
+class Folder:
+    """The journals of the cases, in a folder."""
+
+    def __init__(self, program: str, path: str) -> None:
+        self.program, self.path = program, path
+
+    def site(self, name: str, bank: Any, events: list[Any], seal: bool = True) -> list[Any]:
+        """Runs a site over a new journal, and seals it. What it sent."""
+        words = [self.program, "site", "--me", name[-1], "--journal", name]
+        given = "".join(compact(line) + "\n" for line in [bank, *events])
+        run = subprocess.run([*words, "--new"], input=given, text=True, capture_output=True, cwd=self.path, check=True)
+        if seal:
+            subprocess.run([*words, "--seal"], cwd=self.path, check=True)
+        return [message for line in run.stdout.splitlines() for message in json.loads(line)["sends"]]
+
+    def spoil(self, name: str, source: str, old: str, new: str) -> None:
+        """A copy of a journal with another text in the place of one."""
+        with open(os.path.join(self.path, source), encoding="utf-8") as file:
+            text = file.read()
+        with open(os.path.join(self.path, name), "w", encoding="utf-8") as file:
+            file.write(text.replace(old, new))
+
+    def make(self) -> None:
+        deposit, withdraw = {"deposit": ["ann", 500]}, {"withdraw": ["ann", 1]}
+        for site in (0, 1):
+            self.site(f"none.{site}", BANK, [])
+        made = self.site("made.0", BANK, [deposit])
+        self.site("received.1", BANK, made)
+        self.site("open.1", BANK, made, seal=False)
+        red = self.site("red.0", BANK, [deposit, withdraw])
+        self.site("held.1", BANK, red[1:])
+        undone = self.site("cancelled.0", BANK, [deposit, {"cancel": "B0.1"}])
+        self.site("cancelled.1", BANK, undone)
+        for name, cents in (("full", 1), ("above", 2)):
+            sent = self.site(f"{name}.0", FULL, [{"deposit": ["ann", cents]}])
+            self.site(f"{name}.1", FULL, sent)
+        self.spoil("wrong.0", "made.0", '"name":"B0.1"', '"name":"B0.2"')
+        self.spoil("bad.0", "made.0", '{"deposit"', '{"gift"')
+        self.spoil("nothing.0", "none.0", "accounts", "account")
+
+    def answers(self, case: Case) -> Case:
+        words = [self.program, "close", *case.words.split()]
+        run = subprocess.run(words, capture_output=True, text=True, cwd=self.path)
+        return case._replace(out=run.stdout, err=run.stderr, status=run.returncode)
+
+
+def main() -> int:
+    words = [word for word in sys.argv[1:] if word != "--quiet"]
+    if len(words) != 1 or words[0].startswith("-"):
+        print(__doc__)
+        return 0 if words in (["--help"], ["-h"]) else 2
+    fine = True
+    with tempfile.TemporaryDirectory() as path:
+        folder = Folder(os.path.abspath(words[0]), path)
+        folder.make()
+        for case in CASES:
+            found = folder.answers(case)
+            fine = fine and found == case
+            if found != case:
+                print(f"DIFFERENT close {case.words[-60:]}: {found.out}{found.err}status {found.status}")
+            elif "--quiet" not in sys.argv:
+                print(f"same      close {case.words[-60:]}")
+    return 0 if fine else 1
+
+
+if __name__ == "__main__":
+    sys.exit(main())
