@@ -2,7 +2,7 @@
 //! a batch is written behind it, with a closed gate of its own at its end, and synced; then the gate is opened, by
 //! the one byte `{`, and synced. So a crash leaves all of a batch or none of it.
 ghost use Rattle.std.specs.Prelude.{◌≡◌, ◌⊎◌, ◌+◌, ◌<◌, ◌≤◌, ◌^◌, ◌++◌, [], ◌∷◌, List, ℕ, length, take, IfOk, IfErr};
-ghost use Rattle.std.specs.Prelude.{◌↔◌, OnOk, IsErrOf, IsTrue, MatchOption, ◌==◌, position};
+ghost use Rattle.std.specs.Prelude.{◌↔◌, OnOk, IsErrOf, IsTrue, MatchOption};
 ghost use Rattle.std.specs.List.{concat};
 ghost use Rattle.rb_journal.specs.Host.{DiskCause, Elapses, LeavesOnly, MayBeCut, Only, Outputs, Silent};
 ghost use Rattle.rb_journal.specs.Lines.{recovered, at_rest, IsBatch, IsDamaged, IsIntact, MayBeBehind};
@@ -11,12 +11,11 @@ ghost use Rattle.rb_journal.specs.Journal.{IsSettled, IsLeftAs, IsBeforeOrAfter,
 ghost use Rattle.rb_journal.specs.Journal.{IsRepaired};
 
 use crate::{Host, HostError};
+use rb_lines::first_feed;
 
 /// A batch is added only if the lines before it, and the batch without its first byte, are each shorter than this,
 /// in bytes.
 const MAX_LEN: usize = 1 << 60;
-
-const LF: u8 = b'\n';
 
 /// Lines that are on the disk, over a host whose file is at rest between two calls.
 #[derive(Drop)]
@@ -256,12 +255,6 @@ pub fn recover<H: Host>(host: &mut H, bytes: &[u8]) -> Result<usize, HostError>
     Ok(end)
 }
 
-fn first_lf(bytes: &[u8]) -> Option<usize>
-    ensures { result ≡ position (λ b. b == 10) bytes.now }
-{
-    bytes.iter().position(|b| *b == LF)
-}
-
 // The number of lines in these bytes of a file, and where they end, in bytes from its start.
 fn count_lines(bytes: &[u8]) -> (u64, usize)
     ensures count { result.0 ≡ length (recovered bytes.now) }
@@ -272,7 +265,7 @@ fn count_lines(bytes: &[u8]) -> (u64, usize)
     let mut count = 0;
     let mut end = 0;
     let mut rest = bytes;
-    while let Some(last) = first_lf(rest) {
+    while let Some(last) = first_feed(rest) {
         if rest[0] != b'{' {
             break;
         }

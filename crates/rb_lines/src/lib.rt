@@ -5,6 +5,7 @@
 
 mod buffers;
 mod fault;
+mod feed;
 mod from_bytes;
 mod from_reader;
 mod limits;
@@ -21,6 +22,7 @@ mod write;
 
 pub use buffers::Buffers;
 pub use fault::{ScriptFault, message, status};
+pub use feed::first_feed;
 pub use from_bytes::FromBytes;
 pub use from_reader::FromReader;
 pub use limits::{LINE_LIMIT, MOST_BATCHED, MOST_BUFFERED, MOST_READS, READ_SIZE};

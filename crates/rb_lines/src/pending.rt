@@ -6,9 +6,9 @@ ghost use Rattle.rb_lines.specs.Lines.{line_len};
 ghost use Rattle.rb_lines.specs.Buffers.{Reads};
 ghost use Rattle.rb_lines.specs.declared.limits.TheConstants.{READ_SIZE};
 
+use crate::feed::line_length;
 use crate::limits::READ_SIZE;
 use crate::source::{ReadFailed, Source};
-use memchr::memchr;
 use std::alloc::{AllocError, Global};
 use std::marker::Model;
 
@@ -33,17 +33,6 @@ impl Model for Pending {
     // There is no line feed in the part that was searched.
     ghost invariant = { λ p. (p.start ≤ p.end) × (p.end ≤ length p.bytes.items)
         × (p.searched ≤ line_len (slice_range p.bytes.items p.start p.end)) };
-}
-
-/// The bytes before the first line feed, or all of them.
-fn line_length(bytes: &[u8]) -> usize
-    ensures length { result ≡ line_len bytes.now }
-    ensures within { result ≤ length bytes.now }
-{
-    match memchr(b'\n', bytes) {
-        Some(found) => found,
-        None => bytes.len(),
-    }
 }
 
 /// Makes space for a read behind the first bytes, which stay. An `Err` means out of memory.

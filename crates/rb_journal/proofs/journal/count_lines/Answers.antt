@@ -61,7 +61,7 @@ pub loop-last-preserved : goal.loop-last-preserved
 loop-last-preserved c =
     let rest = c.loop-last.rest.now in
     let n = c.in-Some.last + 1 in
-    let found = sym c.first_lf.ensures ∙ c.in-Some.is in
+    let found = sym c.first_feed.ensures ∙ c.in-Some.is in
     let step = one_more rest c.in-Some.last found c.if-rest-ne123.false in
     let within : c.in-Some.last < length rest = (position-Some (λ b. b == 10) rest c.in-Some.last 0 found).0 in
     let left : length (take (length rest - n) (drop n rest)) ≡ length rest - n = ap length (take_rest rest n) ∙ length-drop n rest in
@@ -86,10 +86,10 @@ returns-then-rest-ne123-clause-count c =
 pub returns-in_default-clause-length : goal.returns-in_default-clause-length
 returns-in_default-clause-length c =
     let none = ap (λ (ls : List (List ℕ)). length (concat ls)) (no_more c.loop-last.rest.now
-    (λ i is. c.in_default.not-Some i (c.first_lf.ensures ∙ is))) in
+    (λ i is. c.in_default.not-Some i (c.first_feed.ensures ∙ is))) in
     omega (arith, none, c.loop-last.invariant.so_far)
 
 pub returns-in_default-clause-count : goal.returns-in_default-clause-count
 returns-in_default-clause-count c =
-    let none = ap length (no_more c.loop-last.rest.now (λ i is. c.in_default.not-Some i (c.first_lf.ensures ∙ is))) in
+    let none = ap length (no_more c.loop-last.rest.now (λ i is. c.in_default.not-Some i (c.first_feed.ensures ∙ is))) in
     omega (arith, none, c.loop-last.invariant.counted)

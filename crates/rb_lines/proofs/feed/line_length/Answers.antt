@@ -1,7 +1,7 @@
 -- The line ends at the first line feed.
 use Rattle.std.proofs.Common.{◌≡◌, ◌==◌, Bool, true, false, arith, length, refl, sym}
 use Rattle.std.proofs.lemmas.List.Sums.{position_or_len_is}
-use Rattle.rb_lines.proofs.pending.line_length.Goals as goal
+use Rattle.rb_lines.proofs.feed.line_length.Goals as goal
 
 not_true : (b : Bool) → (b ≡ true → ⊥) → b ≡ false
 not_true true h = absurd (h refl)
