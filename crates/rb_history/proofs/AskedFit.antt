@@ -16,7 +16,7 @@ use Rattle.rb_history.proofs.FitsLaws.{fits_choice, fits_field, fits_if, fits_ma
 use Rattle.rb_history.proofs.ReceiptsFit.{event, recorded}
 
 -- the event fits, and its id is one that it may have, or none
-abbrev FitsAsked : Settings → AskedEvent → Type 0
+abbrev pub FitsAsked : Settings → AskedEvent → Type 0
 FitsAsked s x = IsEvent s x.event × ((x.id ≡ []) ⊎ ((is_id x.id ≡ true) × (may_have_id x.event ≡ true)))
 
 -- a text that is read as an id is one
@@ -25,7 +25,7 @@ id_fits d =
     fits_next (λ t. is_id t ≡ true) _ (as_str d) (λ t. fits_if (λ t. is_id t ≡ true) (is_id t) (Some t) (λ e. e))
 
 -- so an event with an id fits
-fits_with_id : (s : Settings) (d : Data) → IfSome (event_with_id s d) (FitsAsked s)
+pub fits_with_id : (s : Settings) (d : Data) → IfSome (event_with_id s d) (FitsAsked s)
 fits_with_id s d =
     let there = fits_field (λ t. is_id t ≡ true) (codes "id") id_at d id_fits in
     fits_then (λ t. is_id t ≡ true) (FitsAsked s) _ (field (codes "id") id_at d) there (λ t a.
@@ -33,7 +33,7 @@ fits_with_id s d =
     fits_if (FitsAsked s) (may_have_id e) _ (λ c. (b, inr (a, c)))))
 
 -- and so does one with an id or without
-asked : (s : Settings) (d : Data) → IfSome (asked_event_at s d) (FitsAsked s)
+pub asked : (s : Settings) (d : Data) → IfSome (asked_event_at s d) (FitsAsked s)
 asked s d = fits_choice (FitsAsked s) (size_of d == 2) (event_with_id s d) _ (fits_with_id s d)
     (fits_map (IsEvent s) (FitsAsked s) _ (event_at s d) (event s d) (λ e b. (b, inl refl)))
 

@@ -54,3 +54,8 @@ mod AnswersFit
 mod AskedFit
 mod Receipts
 mod AskedText
+mod Questions
+mod Banked
+mod BankText
+mod NamedFit
+mod SentBack

@@ -1,6 +1,6 @@
 -- What other crates cite.
 pub mod Appended
+pub mod Banks
 pub mod Each
 pub mod IdText
 pub mod Listed
-pub mod Questions

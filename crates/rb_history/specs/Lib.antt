@@ -27,3 +27,4 @@ pub mod Messages
 pub mod Sites
 pub mod OnLines
 pub mod Questions
+pub mod Banks

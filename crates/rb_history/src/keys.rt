@@ -38,6 +38,8 @@ macro_rules! word {
     (deliver [$($done:literal)*] $($rest:tt)*) => { $crate::keys::spell!(@ [$($done)* "deliver"] $($rest)*) };
     (shadow [$($done:literal)*] $($rest:tt)*) => { $crate::keys::spell!(@ [$($done)* "shadow"] $($rest)*) };
     (token [$($done:literal)*] $($rest:tt)*) => { $crate::keys::spell!(@ [$($done)* "token"] $($rest)*) };
+    // The name of a bank.
+    (bank [$($done:literal)*] $($rest:tt)*) => { $crate::keys::spell!(@ [$($done)* "bank"] $($rest)*) };
     // Questions.
     (about [$($done:literal)*] $($rest:tt)*) => { $crate::keys::spell!(@ [$($done)* "about"] $($rest)*) };
     (resend [$($done:literal)*] $($rest:tt)*) => { $crate::keys::spell!(@ [$($done)* "resend"] $($rest)*) };

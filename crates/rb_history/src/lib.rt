@@ -7,6 +7,7 @@
 #![tactic(auto)]
 
 mod accounts;
+mod bank;
 mod counts;
 mod fast;
 mod fault;
@@ -19,6 +20,8 @@ mod read;
 mod refusals;
 pub mod write;
 
+ghost use Rattle.rb_history.specs.Banks.{NamedEventsFit, NamedQuestionsAreNoEvents, OtherBanksAskNothing};
+ghost use Rattle.rb_history.specs.Banks.{SentMessagesAreRead};
 ghost use Rattle.rb_history.specs.Commands.{CommandsAreRead};
 ghost use Rattle.rb_history.specs.ConfigLines.{ConfigsAreRead};
 ghost use Rattle.rb_history.specs.Fits.{EntriesAreRead, EventsAreRead, ReadEntriesFit};
@@ -28,15 +31,18 @@ ghost use Rattle.rb_history.specs.OneLine.{ConfigsAreLines, EntriesAreLines};
 ghost use Rattle.rb_history.specs.Questions.{QuestionsAreNoEvents};
 ghost use Rattle.rb_history.specs.Sites.{HeldNamesFitLines, ReadCommandsFit, ReadEventsFit, RepliesFitLines};
 
+pub use bank::BankName;
 pub use fault::LineFault;
-pub use id::{MOST_ID_BYTES, RequestId, may_be_asked, may_be_asked_by};
+pub use id::{MOST_ID_BYTES, RequestId, is_id, may_be_asked, may_be_asked_by};
+pub use lines::banked::read_event_to;
 pub use lines::command::read_command;
 pub use lines::entry::{read_asked_entry, read_entry, read_line};
 pub use lines::event::read_asked_event;
 pub use lines::migrated::append_migrated;
 pub use on_line::{open_command, open_config};
-pub use question::{Question, read_question};
+pub use question::{Question, read_question, read_question_to};
 pub use read::config::read_config;
+pub use write::banked::append_sent_message;
 pub use write::config::write_config;
 pub use write::entry::{append_asked_line, append_line, write_line};
 pub use write::event::append_event;
@@ -92,6 +98,26 @@ pub fn read_events_fit()
 /// No line is both a question and an event.
 pub fn questions_are_no_events()
     ensures { QuestionsAreNoEvents }
+{}
+
+/// No line is both a question and an event to a bank.
+pub fn named_questions_are_no_events()
+    ensures { NamedQuestionsAreNoEvents }
+{}
+
+/// No line of another bank is an event or a question to a bank.
+pub fn other_banks_ask_nothing()
+    ensures { OtherBanksAskNothing }
+{}
+
+/// Each event to a bank that is read from a line is one that `events_are_read` speaks of.
+pub fn named_events_fit()
+    ensures { NamedEventsFit }
+{}
+
+/// Each message that a site sends is read by the sites of a bank of the same name, or of none, as that message.
+pub fn sent_messages_are_read()
+    ensures { SentMessagesAreRead }
 {}
 
 /// Each command that is read from a line is a delivery, or an event of a site's own that `events_are_read` speaks of.

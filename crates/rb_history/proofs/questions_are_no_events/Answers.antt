@@ -1,4 +1,4 @@
-use Rattle.rb_history.proofs.Public.Questions.{question_no_event}
+use Rattle.rb_history.proofs.Questions.{question_no_event}
 use Rattle.rb_history.proofs.questions_are_no_events.Goals as goal
 
 pub returns : goal.returns

@@ -6,7 +6,7 @@ ghost use Rattle.rb_site.specs.declared.event.Event.TheVariants.{AsOf};
 ghost use Rattle.rb_history.specs.Commands.{teller_event_of, event_of};
 ghost use Rattle.rb_history.specs.Lines.{Gives};
 ghost use Rattle.rb_history.specs.declared.fault.LineFault.TheVariants.{Bad};
-ghost use Rattle.rb_history.specs.Entries.{asked_event_at};
+ghost use Rattle.rb_history.specs.Entries.{asked_event_at, event_with_id};
 ghost use Rattle.rb_history.specs.Recorded.{token_at, event_at, recorded_of};
 ghost use Rattle.rb_history.specs.Requests.{asked_of};
 
@@ -85,7 +85,7 @@ fn token(value: &Value) -> Option<TokenMessage>
 }
 
 /// An event, by a key of an object that may have others.
-fn recorded(alloc: Global, config: &Config, value: &Value) -> Result<Event, LineFault>
+pub fn recorded(alloc: Global, config: &Config, value: &Value) -> Result<Event, LineFault>
     ensures { Gives result (recorded_of config.now (view value.now)) }
 {
     if let Some(made) = value.get(key!(shadow)) {
@@ -113,6 +113,26 @@ pub fn event(alloc: Global, config: &Config, value: &Value) -> Result<Event, Lin
     recorded(alloc, config, value)
 }
 
+/// An event that may have an id, by a key of an object that has its id too. This takes the place of another.
+pub fn event_with_id(
+    alloc: Global,
+    config: &Config,
+    value: &Value,
+    id: &mut RequestId,
+) -> Result<Event, LineFault>
+    ensures { MatchResult result
+        (λ event. event_with_id config.now (view value.now) ≡ Some (record { id = id.new; event = event }))
+        (λ why. why ≡ Bad → event_with_id config.now (view value.now) ≡ None) }
+{
+    put_id(value, id)?;
+    let event = recorded(alloc, config, value)?;
+    if may_have_id(&event) {
+        Ok(event)
+    } else {
+        Err(LineFault::Bad)
+    }
+}
+
 /// An event, from an object of one member; or of two, of which one is its id, which takes the place of another. Without
 /// one there is none in its place.
 pub fn asked_event(
@@ -125,15 +145,9 @@ pub fn asked_event(
         (λ event. asked_event_at config.now (view value.now) ≡ Some (record { id = id.new; event = event }))
         (λ why. why ≡ Bad → asked_event_at config.now (view value.now) ≡ None) }
 {
-    if size(value) != 2 {
-        id.clear();
-        return event(alloc, config, value);
+    if size(value) == 2 {
+        return event_with_id(alloc, config, value, id);
     }
-    put_id(value, id)?;
-    let event = recorded(alloc, config, value)?;
-    if may_have_id(&event) {
-        Ok(event)
-    } else {
-        Err(LineFault::Bad)
-    }
+    id.clear();
+    event(alloc, config, value)
 }

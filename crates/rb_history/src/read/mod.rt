@@ -1,4 +1,5 @@
 //! What is read from the JSON value of a line. `None` and `Bad` mean that a value is nothing of the kind.
+pub mod banked;
 pub mod command;
 pub mod config;
 pub mod counts;

@@ -2,6 +2,7 @@
 //! memory; some of it may have been appended then.
 pub(crate) mod account;
 pub mod append;
+pub(crate) mod banked;
 pub(crate) mod config;
 pub(crate) mod counts;
 pub(crate) mod entry;

@@ -25,7 +25,7 @@ equal Equal value v e = refl
 equal Greater value v e = absurd (cc)
 
 -- the key that is found in an object of one member is the member's
-key_is : (k key : List ℕ) (value v : Data) → get k (one_json key value) ≡ Some v → k ≡ key
+pub key_is : (k key : List ℕ) (value v : Data) → get k (one_json key value) ≡ Some v → k ≡ key
 key_is k key value v e = (bytes_eq-Decides k key).0 (sym (is_eq-slice_cmp k key) ∙ equal (slice_cmp nat_cmp k key) value v e)
 
 -- an object of one member that asks is no event
@@ -39,7 +39,7 @@ by_key s key value None (Some n) q e f asked =
 by_key s key value None None q e f asked = absurd (cc)
 
 -- a question has one member, so it is no event with an id either
-no_event : (s : Settings) (d : Data) (q : Question) → question_of d ≡ Some q → asked_event_at s d ≡ None
+pub no_event : (s : Settings) (d : Data) (q : Question) → question_of d ≡ Some q → asked_event_at s d ≡ None
 no_event s null q e = absurd (cc)
 no_event s (boolean b) q e = absurd (cc)
 no_event s (number n) q e = absurd (cc)

@@ -1,0 +1,64 @@
+-- The line of a message to the sites of a bank is read by them as the message.
+use Rattle.std.proofs.Common.{◌≡◌, List, ℕ, None, Some, true, [], ◌∷◌, codes, refl, ap, ◌∙◌, arith}
+use Rattle.std.proofs.Common.{bytes_eq}
+use Rattle.std.proofs.lemmas.Slice.Eq.{bytes_eq-Decides}
+use Rattle.std.specs.Prelude.{if◌then◌else◌, option_and_then, option_map}
+use Rattle.serde_json.specs.Data.{string, object, member}
+use Rattle.serde_json.specs.Read.{read}
+use Rattle.serde_json.specs.Written.{compact_text}
+use Rattle.rb_money.specs.Settings.{IsConfigured, Settings}
+use Rattle.rb_site.specs.declared.event.Event.TheVariants.{Receive}
+use Rattle.rb_site.specs.declared.message.Message.{Message}
+use Rattle.rb_site.specs.declared.message.Message.TheVariants.{Shadow as ShadowMessage, Token as TokenOnItsWay}
+use Rattle.rb_history.specs.Banks.{SentMessagesAreRead, event_named, event_to, receipt_member, sent_json}
+use Rattle.rb_history.specs.Entries.{event_json, shadow_json, token_json}
+use Rattle.rb_history.specs.Fits.{IsEvent}
+use Rattle.rb_history.specs.Recorded.{event_at}
+use Rattle.rb_history.proofs.EntryBack.{event_back}
+use Rattle.rb_history.proofs.EntryText.{event_text}
+use Rattle.rb_history.proofs.EventLine.{event_line, without_id}
+use Rattle.rb_history.proofs.OneMember.{member_text}
+use Rattle.rb_history.proofs.Reading.{compact_read}
+use Rattle.rb_history.proofs.SentFits.{sends_fit}
+
+-- a text is itself
+same_text : (t : List ℕ) → bytes_eq t t ≡ true
+same_text t = (bytes_eq-Decides t t).1 refl
+
+-- the object of a message beside a name is the message to the bank of the name
+sent_named : (s : Settings) → IsConfigured s → (bank : List ℕ) (m : Message) → IsEvent s (Receive m)
+    → event_named s bank (object (member (codes "bank") (string bank) (receipt_member s m))) ≡ Some (without_id (Receive m))
+sent_named s c bank (ShadowMessage v) fits =
+    ap (λ b. if b then option_map without_id (event_at s (event_json s (Receive (ShadowMessage v)))) else None) (same_text bank)
+    ∙ ap (option_map without_id) (event_back s c (Receive (ShadowMessage v)) fits)
+sent_named s c bank (TokenOnItsWay m) fits =
+    ap (λ b. if b then option_map without_id (event_at s (event_json s (Receive (TokenOnItsWay m)))) else None) (same_text bank)
+    ∙ ap (option_map without_id) (event_back s c (Receive (TokenOnItsWay m)) fits)
+
+-- its text is read as the object
+sent_text : (s : Settings) (bank : List ℕ) (m : Message) → IsEvent s (Receive m)
+    → read (compact_text (object (member (codes "bank") (string bank) (receipt_member s m))))
+    ≡ Some (object (member (codes "bank") (string bank) (receipt_member s m)))
+sent_text s bank (ShadowMessage v) fits =
+    let value = member_text (codes "shadow") (shadow_json s v) (event_text s (Receive (ShadowMessage v)) fits) in
+    let shallow = value.shallow in
+    let d = object (member (codes "bank") (string bank) (receipt_member s (ShadowMessage v))) in
+    compact_read d d (tt, (value.numbers, tt)) (omega arith) (rw value.same refl)
+sent_text s bank (TokenOnItsWay m) fits =
+    let value = member_text (codes "token") (token_json m) (event_text s (Receive (TokenOnItsWay m)) fits) in
+    let shallow = value.shallow in
+    let d = object (member (codes "bank") (string bank) (receipt_member s (TokenOnItsWay m))) in
+    compact_read d d (tt, (value.numbers, tt)) (omega arith) (rw value.same refl)
+
+-- without a name, the line is that of the receipt
+alone_read : (s : Settings) → IsConfigured s → (m : Message) → IsEvent s (Receive m)
+    → event_to s [] (compact_text (sent_json s [] m)) ≡ Some (without_id (Receive m))
+alone_read s c (ShadowMessage v) fits = event_line s c (Receive (ShadowMessage v)) fits
+alone_read s c (TokenOnItsWay m) fits = event_line s c (Receive (TokenOnItsWay m)) fits
+
+-- each message that a site sends is read by the sites of a bank of the same name, or of none
+pub sent_read : SentMessagesAreRead
+sent_read s c me low es m sent [] named = alone_read s c m (sends_fit s c me low es m sent)
+sent_read s c me low es m sent (b ∷ bs) named =
+    let fits = sends_fit s c me low es m sent in
+    ap (option_and_then (event_named s (b ∷ bs))) (sent_text s (b ∷ bs) m fits) ∙ sent_named s c (b ∷ bs) m fits
