@@ -15,9 +15,9 @@ pub record SeenKept : Type 0 where
   pub answer : List ℕ
   pub entries : List ℕ
 
--- before any event: nothing was answered, and the journal begins with the line of the configuration
+-- before any event, of a bank without a name: nothing was answered, and the journal begins with the line of the configuration
 abbrev pub first_kept : Settings → ℕ → SeenKept
-first_kept s me = record { site = first_asked s me; answer = []; entries = line_of (config_json s) }
+first_kept s me = record { site = first_asked s me []; answer = []; entries = line_of (config_json s) }
 
 -- the line is an event or a question, which the site, which records each event, answers by this text, with the lines of
 -- the entries that it recorded
@@ -32,7 +32,7 @@ pub record ReplaysEntryLine (old new : SeenKept) (l : List ℕ) : Type 0 where
   pub node : SeenNode
   pub replayed : IsReplayedAs old.site node entry
   pub site : new.site ≡ node.site
-  pub answer : new.answer ≡ sent_line node.site.settings node.sent
+  pub answer : new.answer ≡ sent_line node.site.settings node.site.bank node.sent
   pub entries : new.entries ≡ []
 
 -- the line is no entry of the site, or has the id of an entry before

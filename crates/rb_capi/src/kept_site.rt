@@ -1,11 +1,12 @@
 //! A site with the texts of its last answer.
-ghost use Rattle.std.specs.Prelude.{◌≡◌, ◌<◌, ◌≤◌, [], Some, None, IfOk, Err, MatchResult, OnOk};
+ghost use Rattle.std.specs.Prelude.{◌≡◌, ◌<◌, ◌≤◌, [], Some, None, false, IfOk, Err, MatchResult, OnOk};
 ghost use Rattle.rb_money.specs.Settings.{Settings};
 ghost use Rattle.rb_history.specs.Configurations.{config_on};
-ghost use Rattle.rb_node.specs.Answers.{asked_event_on};
+ghost use Rattle.rb_node.specs.Answers.{asked_event_on, other_bank_on};
 ghost use Rattle.rb_node.specs.LineAnswers.{question_on};
 ghost use Rattle.rb_capi.specs.Sites.{AnswersSiteLine, IsNoEntryLine, IsWrongEntry, ReplaysEntryLine, first_kept};
 
+use rb_history::BankName;
 use rb_node::{Node, NodeFault};
 use std::alloc::Global;
 use std::marker::Model;
@@ -54,7 +55,7 @@ impl KeptSite {
         ensures no_site { result ≡ Err NodeFault.NoSite → (s : Settings) × (config_on config.now ≡ Some s)
             × (s.sites ≤ me) }
     {
-        let node = Node::open(alloc, config, me)?;
+        let node = Node::open(alloc, config, me, BankName::none(alloc))?;
         let entries = match node.config_line() {
             Ok(line) => line,
             Err(_) => {
@@ -78,8 +79,10 @@ impl KeptSite {
     /// Errors: `BadLine` if the line is none, and nothing has changed then; `OutOfMemory`.
     pub fn answer_line(&mut self, line: &[u8]) -> Result<(), NodeFault>
         ensures answered { OnOk result (AnswersSiteLine self.old self.new line.now) }
-        ensures bad { result ≡ Err NodeFault.BadLine → (asked_event_on self.old.site.settings line.now ≡ None)
-            × (question_on line.now ≡ None) × (self.new ≡ self.old) }
+        ensures bad { result ≡ Err NodeFault.BadLine
+            → (asked_event_on self.old.site.settings self.old.site.bank line.now ≡ None)
+            × (other_bank_on self.old.site.settings self.old.site.bank line.now ≡ false)
+            × (question_on self.old.site.bank line.now ≡ None) × (self.new ≡ self.old) }
     {
         self.node
             .answer(line, true, &mut self.next_answer, &mut self.next_entries)?;

@@ -1,8 +1,8 @@
 //! One site of a bank.
-ghost use Rattle.std.specs.Prelude.{◌≡◌, ◌≢◌, ◌<◌, ◌≤◌, ◌⊎◌, ◌↔◌, None, Some, pos};
+ghost use Rattle.std.specs.Prelude.{◌≡◌, ◌≢◌, ◌<◌, ◌≤◌, ◌⊎◌, ◌↔◌, None, Some, false, pos};
 ghost use Rattle.rb_money.specs.Settings.{Settings};
 ghost use Rattle.rb_history.specs.Configurations.{config_on};
-ghost use Rattle.rb_node.specs.Answers.{asked_event_on};
+ghost use Rattle.rb_node.specs.Answers.{asked_event_on, other_bank_on};
 ghost use Rattle.rb_node.specs.LineAnswers.{question_on};
 ghost use Rattle.rb_capi.specs.Copies.{Copies};
 ghost use Rattle.rb_capi.specs.Sites.{AnswersSiteLine, IsNoEntryLine, IsWrongEntry, ReplaysEntryLine, SeenKept};
@@ -67,8 +67,9 @@ pub extern "C" fn rbbank_site_answer(alloc: Global, site: &mut SiteHandle, line:
         × (site.new.value ≡ Some new) × AnswersSiteLine old new line.now }
     ensures none { (result ≡ pos 1) ↔ (site.old.value ≡ None) }
     ensures bad { result ≡ pos 2 → (old : SeenKept) × (site.old.value ≡ Some old)
-        × (asked_event_on old.site.settings line.now ≡ None) × (question_on line.now ≡ None)
-        × (site.new.value ≡ site.old.value) }
+        × (asked_event_on old.site.settings old.site.bank line.now ≡ None)
+        × (other_bank_on old.site.settings old.site.bank line.now ≡ false)
+        × (question_on old.site.bank line.now ≡ None) × (site.new.value ≡ site.old.value) }
     ensures ended { result ≡ pos 4 → site.new.value ≡ None }
     ensures still_none { site.old.value ≡ None → site.new.value ≡ None }
     ensures statuses { (result ≡ pos 0) ⊎ ((result ≡ pos 1) ⊎ ((result ≡ pos 2) ⊎ (result ≡ pos 4))) }

@@ -1,5 +1,5 @@
 -- The text of the answer to an id that is known, from its parts.
-use Rattle.std.proofs.Common.{◌≡◌, ◌≢◌, inl, inr, ℕ, List, decimal, length, take, [], ◌∷◌, ◌++◌, codes, true, refl, ap, subst, sym, ◌∙◌, append_assoc}
+use Rattle.std.proofs.Common.{◌≡◌, ◌≢◌, inl, inr, ℕ, List, decimal, length, take, [], ◌∷◌, ◌++◌, codes, true, refl, ap, subst, sym, append_assoc}
 use Rattle.std.specs.Prelude.{MatchResult, Result, Ok, Err}
 use Rattle.json.specs.Print.{escape_byte, quoted}
 use Rattle.serde_json.specs.Written.{compact_text}
@@ -28,9 +28,9 @@ abbrev pub again_head : List ℕ → List ℕ
 again_head id = codes "{\"again\":true,\"id\":\"" ++ (id ++ codes "\",\"reply\":")
 
 -- the reply, the messages, and the bracket of what follows
-abbrev pub rest_text : Settings → Reply → List Message → List ℕ
-rest_text s reply sent = compact_text (reply_json reply)
-    ++ (codes ",\"sends\":" ++ (compact_text (messages_json s sent) ++ codes ",\"then\":["))
+abbrev pub rest_text : Settings → List ℕ → Reply → List Message → List ℕ
+rest_text s bank reply sent = compact_text (reply_json reply)
+    ++ (codes ",\"sends\":" ++ (compact_text (messages_json s bank sent) ++ codes ",\"then\":["))
 
 again_parts : (id quoted reply sends : List ℕ) → quoted ≡ codes "\"" ++ (id ++ codes "\"")
     → ((codes "{\"again\":true,\"id\":\"" ++ (id ++ codes "\",\"reply\":"))
@@ -44,12 +44,12 @@ again_parts id quoted reply sends is =
     ++ (codes ",\"then\":" ++ (codes "[]" ++ codes "}")))))))) ++ 10 ∷ []) (sym is) (simp append_assoc)
 
 -- the parts are the answer's line
-pub again_line : (s : Settings) (id : List ℕ) (k : Known) → is_id id ≡ true
-    → (again_head id ++ rest_text s k.reply k.sent) ++ codes "]}\n" ≡ line_of (again_json s id k)
+pub again_line : (s : Settings) (bank id : List ℕ) (k : Known) → is_id id ≡ true
+    → (again_head id ++ rest_text s bank k.reply k.sent) ++ codes "]}\n" ≡ line_of (again_json s bank id k)
 unfolding escape_byte
-again_line s [] k is = absurd (id_some [] is refl)
-again_line s (b ∷ bs) k is = again_parts (b ∷ bs) (quoted (b ∷ bs)) (compact_text (reply_json k.reply))
-    (compact_text (messages_json s k.sent)) (id_in_quotes (b ∷ bs) is)
+again_line s bank [] k is = absurd (id_some [] is refl)
+again_line s bank (b ∷ bs) k is = again_parts (b ∷ bs) (quoted (b ∷ bs)) (compact_text (reply_json k.reply))
+    (compact_text (messages_json s bank k.sent)) (id_in_quotes (b ∷ bs) is)
 
 -- ---- another request
 
@@ -80,7 +80,7 @@ an_id id some (inr is) = is
 
 -- the same request was answered
 pub again_added : {A E : Type 0} (r : Result A E) (x : SeenAsked) (id : List ℕ) (e : Event) (kept : KnownRequest) (a b : List ℕ)
-    → IsKeptAs x id kept → kept.event ≡ e → Adds r a b (line_of (again_json x.settings id (known_again (asked_state x).ops kept)))
+    → IsKeptAs x id kept → kept.event ≡ e → Adds r a b (line_of (again_json x.settings x.bank id (known_again (asked_state x).ops kept)))
     → MatchResult r (λ _. KnownAdded x id e a b) (λ _. take (length a) b ≡ a)
 again_added (Ok y) x id e kept a b is same added = record {
   known = known_again (asked_state x).ops kept;

@@ -10,7 +10,7 @@ use Rattle.rb_node.specs.declared.fault.NodeFault.{NodeFault}
 use Rattle.rb_node.specs.declared.fault.NodeFault.TheVariants.{BadLine, OutOfMemory}
 use Rattle.rb_history.specs.Ids.{AskedEvent}
 use Rattle.rb_history.proofs.Public.Appended.{front_of_sum}
-use Rattle.rb_node.specs.Answers.{asked_event_on}
+use Rattle.rb_node.specs.Answers.{asked_event_on, line_of, other_bank_json, other_bank_on}
 use Rattle.rb_node.specs.Asked.{SeenAsked, known_of, without_ids}
 use Rattle.rb_node.specs.Faults.{IsLineFault}
 use Rattle.rb_node.specs.LineAnswers.{IsLineAnswer, question_on, question_text}
@@ -23,7 +23,7 @@ Adds all old new line answers answers_after entries entries_after = (text : List
 
 -- the answer to an event of an id that isn't known
 new_answered : (all : Bool) (old new : SeenAsked) (line : List ℕ) (x : AskedEvent) (a b k l : List ℕ)
-    → asked_event_on old.settings line ≡ Some x → known_of old x.id ≡ None → AnswersEvent all old new x.id x.event a b k l
+    → asked_event_on old.settings old.bank line ≡ Some x → known_of old x.id ≡ None → AnswersEvent all old new x.id x.event a b k l
     → Adds all old new line a b k l
 new_answered all old new line x a b k l is unknown h = (
   _,
@@ -65,7 +65,7 @@ rest_is a b x e = ap (drop (length a)) e ∙ drop_at a x (length a) refl
 
 -- the answer to a request whose id is known
 known_answered : (all : Bool) (old new : SeenAsked) (line : List ℕ) (x : AskedEvent) (a b k l : List ℕ)
-    → asked_event_on old.settings line ≡ Some x → KnownAdded old x.id x.event a b → new ≡ old → l ≡ k
+    → asked_event_on old.settings old.bank line ≡ Some x → KnownAdded old x.id x.event a b → new ≡ old → l ≡ k
     → Adds all old new line a b k l
 known_answered all old new line x a b k l is h same stays = (
   drop (length a) b,
@@ -86,7 +86,7 @@ known_answered all old new line x a b k l is h same stays = (
 
 -- the answer to an event with its id
 asked_answered : (all : Bool) (old new : SeenAsked) (line : List ℕ) (x : AskedEvent) (a b k l : List ℕ)
-    → asked_event_on old.settings line ≡ Some x → AnswersAsked all old new x a b k l → Adds all old new line a b k l
+    → asked_event_on old.settings old.bank line ≡ Some x → AnswersAsked all old new x a b k l → Adds all old new line a b k l
 asked_answered all old new line x a b k l is (New unknown h) = new_answered all old new line x a b k l is unknown h
 asked_answered all old new line x a b k l is (Again h same stays) = known_answered all old new line x a b k l is h same stays
 
@@ -113,31 +113,48 @@ answered_new (Err y) all old new x a b c k l none h = (subst (λ t. take (length
 
 -- the same, if there was an answer
 pub event_answered : {A : Type 0} (r : Result A NodeFault) (all : Bool) (old new : SeenAsked) (line : List ℕ) (x : AskedEvent)
-    (a b k l : List ℕ) → asked_event_on old.settings line ≡ Some x → OnOk r (AnswersAsked all old new x a b k l)
+    (a b k l : List ℕ) → asked_event_on old.settings old.bank line ≡ Some x → OnOk r (AnswersAsked all old new x a b k l)
     → OnOk r (Adds all old new line a b k l)
 event_answered (Ok y) all old new line x a b k l is h = asked_answered all old new line x a b k l is h
 event_answered (Err y) all old new line x a b k l is h = tt
 
 -- the answer to a question
 pub question_answered : {A : Type 0} (r : Result A NodeFault) (all : Bool) (old : SeenAsked) (line a b k : List ℕ)
-    → OnOk r ((q : Question) × (question_on line ≡ Some q) × (b ≡ a ++ question_text (without_ids old) q))
+    → OnOk r ((q : Question) × (question_on old.bank line ≡ Some q) × (b ≡ a ++ question_text old.bank (without_ids old) q))
     → OnOk r (Adds all old old line a b k k)
 question_answered (Ok x) all old line a b k h = (
-  question_text (without_ids old) h.0,
+  question_text old.bank (without_ids old) h.0,
   [],
-  inr (inr (record {
+  inr (inr (inl (record {
     question = h.0;
     is_question = h.1;
     text_is = refl;
     after = refl;
     entries_are = refl;
-  })),
+  }))),
   h.2,
   sym (append-nil k),
 )
 question_answered (Err x) all old line a b k h = tt
 
--- a question adds no entries
+-- the answer to a line of another bank
+pub other_answered : {A : Type 0} (r : Result A NodeFault) (all : Bool) (old : SeenAsked) (line a b k : List ℕ)
+    → other_bank_on old.settings old.bank line ≡ true → OnOk r (b ≡ a ++ line_of other_bank_json) → OnOk r (Adds all old old line a b k k)
+other_answered (Ok x) all old line a b k is h = (
+  line_of other_bank_json,
+  [],
+  inr (inr (inr (record {
+    is_other = is;
+    text_is = refl;
+    after = refl;
+    entries_are = refl;
+  }))),
+  h,
+  sym (append-nil k),
+)
+other_answered (Err x) all old line a b k is h = tt
+
+-- a question adds no entries, nor does a line of another bank
 pub entries_stay : {A : Type 0} (P : Type 0) (r : Result A NodeFault) (k : List ℕ) → OnErr r P → OnErr r (P × (k ≡ k))
 entries_stay P (Ok x) k h = tt
 entries_stay P (Err x) k h = (h, refl)

@@ -165,17 +165,17 @@ closed (Err y) old new a b c k l h front kept end = (front_of_front a b c front 
 -- ---- an answer
 
 -- what an answer begins with, behind its id
-abbrev pub rest_of_front : Settings → Reply → List Message → List ℕ
-rest_of_front s reply sent = compact_text (reply_json reply)
-    ++ (codes ",\"sends\":" ++ (compact_text (messages_json s sent) ++ codes ",\"then\":["))
+abbrev pub rest_of_front : Settings → List ℕ → Reply → List Message → List ℕ
+rest_of_front s bank reply sent = compact_text (reply_json reply)
+    ++ (codes ",\"sends\":" ++ (compact_text (messages_json s bank sent) ++ codes ",\"then\":["))
 
 -- its id, if it has one, and the key of the reply
 abbrev pub head_text : List ℕ → List ℕ
 head_text id = codes "{" ++ (between_if_any (codes "\"id\":\"") id (codes "\",") ++ codes "\"reply\":")
 
 -- what an answer begins with
-abbrev pub front_text : Settings → List ℕ → Reply → List Message → List ℕ
-front_text s id reply sent = head_text id ++ rest_of_front s reply sent
+abbrev pub front_text : Settings → List ℕ → List ℕ → Reply → List Message → List ℕ
+front_text s bank id reply sent = head_text id ++ rest_of_front s bank reply sent
 
 -- the parts of an answer without an id, one behind another
 parts : (reply sends later : List ℕ)
@@ -197,15 +197,15 @@ parts_with id quoted reply sends later is =
     ++ ((codes "[" ++ later) ++ codes "}")))))))) ++ 10 ∷ []) (sym is) (simp append_assoc)
 
 -- the parts are the answer's line
-whole_answer : (s : Settings) (id : List ℕ) (reply : Reply) (sent : List Message) (later : List Reply) → IsIdOrNone id →
-    front_text s id reply sent ++ (items_text false (items_of (map reply_json later)) ++ codes "}\n")
-    ≡ line_of (asked_answer_json s id reply sent later)
+whole_answer : (s : Settings) (bank id : List ℕ) (reply : Reply) (sent : List Message) (later : List Reply) → IsIdOrNone id →
+    front_text s bank id reply sent ++ (items_text false (items_of (map reply_json later)) ++ codes "}\n")
+    ≡ line_of (asked_answer_json s bank id reply sent later)
 unfolding escape_byte
-whole_answer s [] reply sent later is = parts (compact_text (reply_json reply)) (compact_text (messages_json s sent))
+whole_answer s bank [] reply sent later is = parts (compact_text (reply_json reply)) (compact_text (messages_json s bank sent))
     (items_text false (items_of (map reply_json later)))
-whole_answer s (b ∷ bs) reply sent later (inl none) = absurd (cc)
-whole_answer s (b ∷ bs) reply sent later (inr is) =
-    parts_with (b ∷ bs) (quoted (b ∷ bs)) (compact_text (reply_json reply)) (compact_text (messages_json s sent))
+whole_answer s bank (b ∷ bs) reply sent later (inl none) = absurd (cc)
+whole_answer s bank (b ∷ bs) reply sent later (inr is) =
+    parts_with (b ∷ bs) (quoted (b ∷ bs)) (compact_text (reply_json reply)) (compact_text (messages_json s bank sent))
     (items_text false (items_of (map reply_json later))) (ap (λ l. 34 ∷ (l ++ 34 ∷ [])) (id_escape (b ∷ bs) is))
 
 -- what was there is there before two texts that were added
@@ -213,12 +213,12 @@ front_stays_two : (k l m xs ys : List ℕ) → l ≡ k ++ xs → m ≡ l ++ ys �
 front_stays_two k l m xs ys e f = front_of_sum k m (xs ++ ys) (both k l m xs ys e f)
 
 -- an event was answered, and what was ready then applied
-pub answered : {A E : Type 0} (r : Result A E) (all : Bool) (s : Settings) (old mid new : SeenAsked) (id : List ℕ) (e : Event) (reply : Reply)
-    (sent : List Message) (a b c d k l m : List ℕ) → IsIdOrNone id → s ≡ old.settings → StepsKept all old mid id e reply k l
+pub answered : {A E : Type 0} (r : Result A E) (all : Bool) (s : Settings) (bank : List ℕ) (old mid new : SeenAsked) (id : List ℕ) (e : Event) (reply : Reply)
+    (sent : List Message) (a b c d k l m : List ℕ) → IsIdOrNone id → s ≡ old.settings → bank ≡ old.bank → StepsKept all old mid id e reply k l
     → sent ≡ sent_at old.settings (asked_state old) e
-    → b ≡ a ++ front_text s id reply sent → Applies mid new b c l m → Adds r c d (codes "}\n")
+    → b ≡ a ++ front_text s bank id reply sent → Applies mid new b c l m → Adds r c d (codes "}\n")
     → MatchResult r (λ _. AnswersEvent all old new id e a d k m) (λ _. (take (length a) d ≡ a) × (take (length k) m ≡ k))
-answered (Ok y) all s old mid new id e reply sent a b c d k l m is same step posted begun applies end =
+answered (Ok y) all s bank old mid new id e reply sent a b c d k l m is same named step posted begun applies end =
     let settings = old.settings in
     let x = without_ids old in
     let kept : mid.settings ≡ settings = ap (λ (y : SeenAsked). y.settings) step.recorded_are in
@@ -226,7 +226,7 @@ answered (Ok y) all s old mid new id e reply sent a b c d k l m is same step pos
     let t = asked_state mid in
     let events = map Apply applies.names in
     let later = items_text false (items_of (map reply_json applies.replies)) in
-    let front = front_text s id reply sent in
+    let front = front_text s bank id reply sent in
     let tags = map-append (with_id id) step.recorded applies.recorded in
     record {
       mid = without_ids mid;
@@ -238,11 +238,12 @@ answered (Ok y) all s old mid new id e reply sent a b c d k l m is same step pos
       text_is = end ∙ ap (λ y. y ++ codes "}\n") (applies.text_is ∙ ap (λ y. y ++ later) begun)
           ∙ ap (λ y. y ++ codes "}\n") (append_assoc a front later)
           ∙ append_assoc a (front ++ later) (codes "}\n")
-          ∙ ap (λ y. a ++ y) (append_assoc front later (codes "}\n") ∙ whole_answer s id reply sent applies.replies is)
-          ∙ ap (λ u. a ++ line_of (asked_answer_json u id reply sent applies.replies)) same
-          ∙ ap (λ u. a ++ line_of (asked_answer_json settings id u sent applies.replies)) step.reply_is
-          ∙ ap (λ u. a ++ line_of (asked_answer_json settings id (reply_kept all x e) u applies.replies)) posted
-          ∙ ap (λ u. a ++ line_of (asked_answer_json settings id (reply_kept all x e) (sent_at settings (asked_state old) e) u))
+          ∙ ap (λ y. a ++ y) (append_assoc front later (codes "}\n") ∙ whole_answer s bank id reply sent applies.replies is)
+          ∙ ap (λ u. a ++ line_of (asked_answer_json u bank id reply sent applies.replies)) same
+          ∙ ap (λ u. a ++ line_of (asked_answer_json settings u id reply sent applies.replies)) named
+          ∙ ap (λ u. a ++ line_of (asked_answer_json settings old.bank id u sent applies.replies)) step.reply_is
+          ∙ ap (λ u. a ++ line_of (asked_answer_json settings old.bank id (reply_kept all x e) u applies.replies)) posted
+          ∙ ap (λ u. a ++ line_of (asked_answer_json settings old.bank id (reply_kept all x e) (sent_at settings (asked_state old) e) u))
           (subst (λ r. applies.replies ≡ replies_to_events r t events) kept applies.applied.replies_are);
       recorded = step.recorded ++ applies.recorded;
       recorded_are = more_of_both old mid new (map (with_id id) step.recorded) (map (with_id id) applies.recorded) step.recorded_are
@@ -251,8 +252,8 @@ answered (Ok y) all s old mid new id e reply sent a b c d k l m is same step pos
           k l m kept me step.entries_are (applies.entries_are id)
           ∙ ap (λ ys. k ++ entry_lines settings old.me ys) (sym tags);
     }
-answered (Err y) all s old mid new id e reply sent a b c d k l m is same step posted begun applies end = (
-  front_stays a c d (front_text s id reply sent ++ items_text false (items_of (map reply_json applies.replies)))
-      (both a b c (front_text s id reply sent) _ begun applies.text_is) end,
+answered (Err y) all s bank old mid new id e reply sent a b c d k l m is same named step posted begun applies end = (
+  front_stays a c d (front_text s bank id reply sent ++ items_text false (items_of (map reply_json applies.replies)))
+      (both a b c (front_text s bank id reply sent) _ begun applies.text_is) end,
   front_stays_two k l m _ _ step.entries_are (applies.entries_are id),
 )

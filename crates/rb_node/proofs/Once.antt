@@ -1,5 +1,5 @@
 -- An id is that of one entry, however often a site is asked; and what is answered of it is the entry's.
-use Rattle.std.proofs.Common.{◌≡◌, ◌≢◌, ◌⊎◌, inl, inr, ℕ, Bool, true, false, cond, List, [], ◌∷◌, ◌++◌, map, true≢false}
+use Rattle.std.proofs.Common.{◌≡◌, ◌≢◌, inl, inr, ℕ, Bool, true, false, cond, List, [], ◌∷◌, ◌++◌, map, true≢false}
 use Rattle.std.proofs.Common.{refl, sym, ap, subst, ◌∙◌, append_assoc, append-nil}
 use Rattle.std.specs.Prelude.{bytes_eq, Some, None}
 use Rattle.std.proofs.lemmas.List.{append_cancel_left, map-append}
@@ -15,11 +15,10 @@ use Rattle.rb_site.specs.Seen.{SeenSite, entry, next_site, next_sites, state_of,
 use Rattle.rb_history.specs.Fits.{Each}
 use Rattle.rb_history.specs.Ids.{AskedEntry, AskedEvent, may_be_asked}
 use Rattle.rb_history.proofs.Public.Each.{each_both}
-use Rattle.rb_node.specs.Answers.{IsKnownAnswer, IsSiteAnswer, again_json, asked_event_on, is_kept, kept_events, line_of, other_request_json}
-use Rattle.rb_node.specs.Asked.{AreIdsOnce, Known, SeenAsked, asked_state, entries_alone, known_from, known_of, without_ids, with_id, with_more}
+use Rattle.rb_node.specs.Answers.{IsKnownAnswer, IsSiteAnswer, again_json, is_kept, line_of, other_request_json}
+use Rattle.rb_node.specs.Asked.{AreIdsOnce, Known, SeenAsked, asked_state, entries_alone, known_from, known_of, without_ids, with_id}
 use Rattle.rb_node.specs.Laws.{AnswersAreTheSame, IdsStayOnce}
-use Rattle.rb_node.specs.LineAnswers.{IsLineAnswer}
-use Rattle.rb_node.proofs.OneAnswer.{not_both}
+use Rattle.rb_node.proofs.OneAnswer.{not_both, not_other}
 
 -- ---- which entries have an id
 
@@ -261,7 +260,8 @@ ids_stay_once all old new line text entries (inl a) once =
     (once_behind old.asked (map (with_id a.asked.id) a.recorded) (new_all old a.asked.id a.recorded a.unknown) (to_once old.asked once)
     (once_one a.asked.id a.recorded (recorded_form all old new line text entries a))))
 ids_stay_once all old new line text entries (inr (inl a)) once = subst (λ (y : SeenAsked). AreIdsOnce y.asked) (sym a.after) once
-ids_stay_once all old new line text entries (inr (inr a)) once = subst (λ (y : SeenAsked). AreIdsOnce y.asked) (sym a.after) once
+ids_stay_once all old new line text entries (inr (inr (inl a))) once = subst (λ (y : SeenAsked). AreIdsOnce y.asked) (sym a.after) once
+ids_stay_once all old new line text entries (inr (inr (inr a))) once = subst (λ (y : SeenAsked). AreIdsOnce y.asked) (sym a.after) once
 
 -- what is known is one
 some_one : {A : Type 0} (x y : A) → Some x ≡ Some y → x ≡ y
@@ -274,14 +274,14 @@ known_not_none x e = absurd (cc)
 -- an answer to an id that is known, of the event on the line and of what is known
 said_of : (old new : SeenAsked) (line text entries : List ℕ) (asked : AskedEvent) (k : Known)
     (a : IsKnownAnswer old new line text entries) → a.asked ≡ asked → a.known ≡ k
-    → (new ≡ old) × (entries ≡ []) × (k.event ≡ asked.event → text ≡ line_of (again_json old.settings asked.id k))
+    → (new ≡ old) × (entries ≡ []) × (k.event ≡ asked.event → text ≡ line_of (again_json old.settings old.bank asked.id k))
     × (k.event ≢ asked.event → text ≡ line_of (other_request_json asked.id))
 said_of old new line text entries asked k a same is = (
   a.after,
   a.entries_are,
   λ e. a.again (ap (λ (q : Known). q.event) is ∙ e ∙ sym (ap (λ (q : AskedEvent). q.event) same))
-      ∙ ap (λ (q : AskedEvent). line_of (again_json old.settings q.id a.known)) same
-      ∙ ap (λ (q : Known). line_of (again_json old.settings asked.id q)) is,
+      ∙ ap (λ (q : AskedEvent). line_of (again_json old.settings old.bank q.id a.known)) same
+      ∙ ap (λ (q : Known). line_of (again_json old.settings old.bank asked.id q)) is,
   λ e. a.other (λ f. e (sym (ap (λ (q : Known). q.event) is) ∙ f ∙ ap (λ (q : AskedEvent). q.event) same))
       ∙ ap (λ (q : AskedEvent). line_of (other_request_json q.id)) same,
 )
@@ -301,5 +301,7 @@ answers_are_the_same all old new line text entries (inr (inl a)) once asked is s
     let one : a.asked ≡ asked = some_one a.asked asked (sym a.is_event ∙ is) in
     said_of old new line text entries asked k a one (some_one a.known k
     (sym a.is_known ∙ ap (λ (q : AskedEvent). known_of old q.id) one ∙ known_at old asked.id before later x some once split same))
-answers_are_the_same all old new line text entries (inr (inr a)) once asked is some before later x split same =
-    absurd (not_both old.settings line asked a.question is a.is_question)
+answers_are_the_same all old new line text entries (inr (inr (inl a))) once asked is some before later x split same =
+    absurd (not_both old.settings old.bank line asked a.question is a.is_question)
+answers_are_the_same all old new line text entries (inr (inr (inr a))) once asked is some before later x split same =
+    absurd (not_other old.settings old.bank line asked is a.is_other)

@@ -12,15 +12,15 @@ use Rattle.rb_site.specs.declared.event.Event.TheVariants.{Apply}
 use Rattle.rb_site.specs.Events.{ModelSite, after_event, after_events, is_full, replies_to_events, sent_at}
 use Rattle.rb_site.specs.Seen.{SeenSite, next_sites, state_of}
 use Rattle.rb_history.specs.declared.question.Question.{Question}
-use Rattle.rb_history.specs.Entries.{asked_event_of_line}
+use Rattle.rb_history.specs.Banks.{event_to, is_of_other, question_to}
+use Rattle.rb_history.proofs.Public.Banks.{question_none_to, nothing_asked}
 use Rattle.rb_history.specs.Ids.{AskedEvent}
-use Rattle.rb_history.specs.Questions.{question_of_line}
-use Rattle.rb_history.proofs.Public.Questions.{question_no_event}
-use Rattle.rb_node.specs.Answers.{AreReadyInTurn, IsAllApplied, IsKnownAnswer, IsNextName, IsSiteAnswer, again_json, asked_answer_json}
-use Rattle.rb_node.specs.Answers.{asked_event_on, entry_lines, kept_events, line_of, other_request_json, reply_kept}
+use Rattle.rb_node.specs.Answers.{AreReadyInTurn, IsAllApplied, IsKnownAnswer, IsNextName, IsOtherBankAnswer, IsSiteAnswer}
+use Rattle.rb_node.specs.Answers.{again_json, asked_answer_json, asked_event_on, entry_lines, kept_events, line_of}
+use Rattle.rb_node.specs.Answers.{other_bank_on, other_request_json, reply_kept}
 use Rattle.rb_node.specs.Asked.{Known, SeenAsked, known_of, without_ids, with_id, with_more}
-use Rattle.rb_node.specs.Laws.{AnswersAreOne}
-use Rattle.rb_node.specs.LineAnswers.{IsQuestionAnswer, question_on, question_text}
+use Rattle.rb_node.specs.Laws.{AnswersAreOne, OtherBanksAreRefused}
+use Rattle.rb_node.specs.LineAnswers.{IsLineAnswer, IsQuestionAnswer, question_on, question_text}
 use Rattle.rb_node.proofs.Recorded.{more-alone, which}
 use Rattle.rb_node.proofs.Replayed.{event_is}
 use Rattle.rb_node.proofs.Spelled.{some_is}
@@ -77,7 +77,7 @@ one_event all old new other line text words entries rows a b = (
         (subst Q (sym mid) b.all_applied)
 
     text_of : AskedEvent → SeenSite → List OpName → List ℕ
-    text_of q y xs = line_of (asked_answer_json s q.id (reply_kept all x q.event) (sent_at s (state_of x) q.event)
+    text_of q y xs = line_of (asked_answer_json s old.bank q.id (reply_kept all x q.event) (sent_at s (state_of x) q.event)
         (replies_to_events s (state_of y) (map Apply xs)))
 
     lines_of : AskedEvent → List Entry → List ℕ
@@ -121,9 +121,9 @@ one_known old new other line text words entries rows a b = (
     known = some_is a.known b.known
         (sym a.is_known ∙ ap (λ (q : AskedEvent). known_of old q.id) asked ∙ b.is_known)
 
-    again : line_of (again_json old.settings a.asked.id a.known) ≡ line_of (again_json old.settings b.asked.id b.known)
-    again = ap (λ (q : AskedEvent). line_of (again_json old.settings q.id a.known)) asked
-        ∙ ap (λ (k : Known). line_of (again_json old.settings b.asked.id k)) known
+    again : line_of (again_json old.settings old.bank a.asked.id a.known) ≡ line_of (again_json old.settings old.bank b.asked.id b.known)
+    again = ap (λ (q : AskedEvent). line_of (again_json old.settings old.bank q.id a.known)) asked
+        ∙ ap (λ (k : Known). line_of (again_json old.settings old.bank b.asked.id k)) known
 
     event : a.known.event ≡ a.asked.event → b.known.event ≡ b.asked.event
     event e = sym (ap (λ (k : Known). k.event) known) ∙ e ∙ ap (λ (q : AskedEvent). q.event) asked
@@ -132,29 +132,54 @@ one_known old new other line text words entries rows a b = (
     back f = ap (λ (k : Known). k.event) known ∙ f ∙ sym (ap (λ (q : AskedEvent). q.event) asked)
 
 -- an id isn't both known and not
-known_or_new : (old : SeenAsked) (line : List ℕ) (x y : AskedEvent) (k : Known) → asked_event_on old.settings line ≡ Some x
-    → asked_event_on old.settings line ≡ Some y → known_of old x.id ≡ None → known_of old y.id ≡ Some k → ⊥
+known_or_new : (old : SeenAsked) (line : List ℕ) (x y : AskedEvent) (k : Known) → asked_event_on old.settings old.bank line ≡ Some x
+    → asked_event_on old.settings old.bank line ≡ Some y → known_of old x.id ≡ None → known_of old y.id ≡ Some k → ⊥
 known_or_new old line x y k is same none some =
     let e : known_of old x.id ≡ Some k =
     ap (λ (q : AskedEvent). known_of old q.id) (some_is x y (sym is ∙ same)) ∙ some in
     cc
 
--- ---- questions
+-- ---- questions, and lines of other banks
 
 -- what is on a line, the line is
-question_is : (l : List ℕ) (q : Question) → question_on l ≡ Some q → question_of_line l ≡ Some q
+question_is : (bank l : List ℕ) (q : Question) → question_on bank l ≡ Some q → question_to bank l ≡ Some q
 unfolding question_on
-question_is l q is = at (is_utf8 l) is
+question_is bank l q is = at (is_utf8 l) is
   where
-    at : (b : Bool) → cond b (question_of_line l) None ≡ Some q → question_of_line l ≡ Some q
+    at : (b : Bool) → cond b (question_to bank l) None ≡ Some q → question_to bank l ≡ Some q
     at true h = h
     at false h = absurd (cc)
 
 -- a line isn't both a question and an event
-pub not_both : (s : Settings) (l : List ℕ) (x : AskedEvent) (q : Question) → asked_event_on s l ≡ Some x → question_on l ≡ Some q → ⊥
-not_both s l x q event question =
-    let none : asked_event_of_line s l ≡ None = question_no_event s l q (question_is l q question) in
-    let some : asked_event_of_line s l ≡ Some x = event_is s l x event in
+pub not_both : (s : Settings) (bank l : List ℕ) (x : AskedEvent) (q : Question)
+    → asked_event_on s bank l ≡ Some x → question_on bank l ≡ Some q → ⊥
+not_both s bank l x q event question =
+    let none : event_to s bank l ≡ None = question_none_to s bank l q (question_is bank l q question) in
+    let some : event_to s bank l ≡ Some x = event_is s bank l x event in
+    absurd (cc)
+
+other_is : (s : Settings) (bank l : List ℕ) → other_bank_on s bank l ≡ true → is_of_other s bank l ≡ true
+unfolding other_bank_on
+other_is s bank l is = at (is_utf8 l) is
+  where
+    at : (b : Bool) → cond b (is_of_other s bank l) false ≡ true → is_of_other s bank l ≡ true
+    at true h = h
+    at false h = absurd (cc)
+
+-- a line of another bank is no event
+pub not_other : (s : Settings) (bank l : List ℕ) (x : AskedEvent) → asked_event_on s bank l ≡ Some x
+    → other_bank_on s bank l ≡ true → ⊥
+not_other s bank l x event other =
+    let none : event_to s bank l ≡ None = (nothing_asked s bank l (other_is s bank l other)).0 in
+    let some : event_to s bank l ≡ Some x = event_is s bank l x event in
+    absurd (cc)
+
+-- and no question
+pub asks_nothing : (s : Settings) (bank l : List ℕ) (q : Question) → question_on bank l ≡ Some q
+    → other_bank_on s bank l ≡ true → ⊥
+asks_nothing s bank l q question other =
+    let none : question_to bank l ≡ None = (nothing_asked s bank l (other_is s bank l other)).1 in
+    let some : question_to bank l ≡ Some q = question_is bank l q question in
     absurd (cc)
 
 -- two answers to a question are one
@@ -162,10 +187,27 @@ one_question : (old new other : SeenAsked) (line text words entries rows : List 
     → IsQuestionAnswer old new line text entries → IsQuestionAnswer old other line words rows
     → (text ≡ words) × (entries ≡ rows) × (new ≡ other)
 one_question old new other line text words entries rows a b = (
-  a.text_is ∙ ap (question_text (without_ids old)) (some_is a.question b.question (sym a.is_question ∙ b.is_question)) ∙ sym b.text_is,
+  a.text_is ∙ ap (question_text old.bank (without_ids old)) (some_is a.question b.question (sym a.is_question ∙ b.is_question)) ∙ sym b.text_is,
   a.entries_are ∙ sym b.entries_are,
   a.after ∙ sym b.after,
 )
+
+-- two answers to a line of another bank are one
+one_other : (old new other : SeenAsked) (line text words entries rows : List ℕ)
+    → IsOtherBankAnswer old new line text entries → IsOtherBankAnswer old other line words rows
+    → (text ≡ words) × (entries ≡ rows) × (new ≡ other)
+one_other old new other line text words entries rows a b =
+    (a.text_is ∙ sym b.text_is, a.entries_are ∙ sym b.entries_are, a.after ∙ sym b.after)
+
+-- a line that is answered as one of another bank has no other answer
+pub of_other : (all : Bool) (old new : SeenAsked) (line text entries : List ℕ)
+    → IsLineAnswer all old new line text entries → other_bank_on old.settings old.bank line ≡ true
+    → IsOtherBankAnswer old new line text entries
+of_other all old new line text entries (inl a) is = absurd (not_other old.settings old.bank line a.asked a.is_event is)
+of_other all old new line text entries (inr (inl a)) is = absurd (not_other old.settings old.bank line a.asked a.is_event is)
+of_other all old new line text entries (inr (inr (inl a))) is =
+    absurd (asks_nothing old.settings old.bank line a.question a.is_question is)
+of_other all old new line text entries (inr (inr (inr a))) is = a
 
 -- two answers to a line are one
 pub one_answer : AnswersAreOne
@@ -173,17 +215,27 @@ one_answer all old new other line text words entries rows (inl a) (inl b) =
     one_event all old new other line text words entries rows a b
 one_answer all old new other line text words entries rows (inl a) (inr (inl b)) =
     absurd (known_or_new old line a.asked b.asked b.known a.is_event b.is_event a.unknown b.is_known)
-one_answer all old new other line text words entries rows (inl a) (inr (inr b)) =
-    absurd (not_both old.settings line a.asked b.question a.is_event b.is_question)
+one_answer all old new other line text words entries rows (inl a) (inr (inr (inl b))) =
+    absurd (not_both old.settings old.bank line a.asked b.question a.is_event b.is_question)
 one_answer all old new other line text words entries rows (inr (inl a)) (inl b) =
     absurd (known_or_new old line b.asked a.asked a.known b.is_event a.is_event b.unknown a.is_known)
 one_answer all old new other line text words entries rows (inr (inl a)) (inr (inl b)) =
     one_known old new other line text words entries rows a b
-one_answer all old new other line text words entries rows (inr (inl a)) (inr (inr b)) =
-    absurd (not_both old.settings line a.asked b.question a.is_event b.is_question)
-one_answer all old new other line text words entries rows (inr (inr a)) (inl b) =
-    absurd (not_both old.settings line b.asked a.question b.is_event a.is_question)
-one_answer all old new other line text words entries rows (inr (inr a)) (inr (inl b)) =
-    absurd (not_both old.settings line b.asked a.question b.is_event a.is_question)
-one_answer all old new other line text words entries rows (inr (inr a)) (inr (inr b)) =
+one_answer all old new other line text words entries rows (inr (inl a)) (inr (inr (inl b))) =
+    absurd (not_both old.settings old.bank line a.asked b.question a.is_event b.is_question)
+one_answer all old new other line text words entries rows (inr (inr (inl a))) (inl b) =
+    absurd (not_both old.settings old.bank line b.asked a.question b.is_event a.is_question)
+one_answer all old new other line text words entries rows (inr (inr (inl a))) (inr (inl b)) =
+    absurd (not_both old.settings old.bank line b.asked a.question b.is_event a.is_question)
+one_answer all old new other line text words entries rows (inr (inr (inl a))) (inr (inr (inl b))) =
     one_question old new other line text words entries rows a b
+one_answer all old new other line text words entries rows (inr (inr (inr a))) b =
+    one_other old new other line text words entries rows a (of_other all old other line words rows b a.is_other)
+one_answer all old new other line text words entries rows a (inr (inr (inr b))) =
+    one_other old new other line text words entries rows (of_other all old new line text entries a b.is_other) b
+
+-- so it changes nothing
+pub others_are_refused : OtherBanksAreRefused
+others_are_refused all old new line text entries answer is =
+    let a = of_other all old new line text entries answer is in
+    (a.text_is, a.after, a.entries_are)

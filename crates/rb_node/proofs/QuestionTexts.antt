@@ -20,18 +20,18 @@ use Rattle.rb_node.specs.declared.sent_entry.SentEntry.{SentEntry}
 -- ---- what entries sent, once more
 
 -- the line of an entry more
-pub line_written : (s : Settings) (us : List Shadow) (out new total : List ℕ) (xs : List SentEntry) (i : ℕ) (x : SentEntry) →
-    drop i xs ≡ x ∷ drop (i + 1) xs → new ≡ out ++ sent_line s (messages_of us x.sent) → out ++ lines_again s us (drop i xs) ≡ total
-    → new ++ lines_again s us (drop (i + 1) xs) ≡ total
-line_written s us out new total xs i x is e h =
-    let rest = lines_again s us (drop (i + 1) xs) in
-    ap (λ l. l ++ rest) e ∙ append_assoc out (sent_line s (messages_of us x.sent)) rest
-    ∙ ap (λ l. out ++ lines_again s us l) (sym is) ∙ h
+pub line_written : (s : Settings) (bank : List ℕ) (us : List Shadow) (out new total : List ℕ) (xs : List SentEntry) (i : ℕ) (x : SentEntry) →
+    drop i xs ≡ x ∷ drop (i + 1) xs → new ≡ out ++ sent_line s bank (messages_of us x.sent) → out ++ lines_again s bank us (drop i xs) ≡ total
+    → new ++ lines_again s bank us (drop (i + 1) xs) ≡ total
+line_written s bank us out new total xs i x is e h =
+    let rest = lines_again s bank us (drop (i + 1) xs) in
+    ap (λ l. l ++ rest) e ∙ append_assoc out (sent_line s bank (messages_of us x.sent)) rest
+    ∙ ap (λ l. out ++ lines_again s bank us l) (sym is) ∙ h
 
 -- all are written
-pub lines_written : (s : Settings) (us : List Shadow) (out total : List ℕ) (xs : List SentEntry) (i : ℕ) → length xs ≤ i →
-    out ++ lines_again s us (drop i xs) ≡ total → out ≡ total
-lines_written s us out total xs i h e = sym (append-nil out) ∙ ap (λ l. out ++ lines_again s us l) (sym (drop_all i xs h)) ∙ e
+pub lines_written : (s : Settings) (bank : List ℕ) (us : List Shadow) (out total : List ℕ) (xs : List SentEntry) (i : ℕ) → length xs ≤ i →
+    out ++ lines_again s bank us (drop i xs) ≡ total → out ≡ total
+lines_written s bank us out total xs i h e = sym (append-nil out) ∙ ap (λ l. out ++ lines_again s bank us l) (sym (drop_all i xs h)) ∙ e
 
 resent_parts : (n : List ℕ) → codes "{\"reply\":{\"resent\":" ++ (n ++ codes "},\"sends\":[],\"then\":[]}\n")
     ≡ (codes "{\"reply\":" ++ ((codes "{\"resent\":" ++ (n ++ codes "}")) ++ (codes ",\"sends\":" ++ (codes "[]" ++ (codes ",\"then\":"
@@ -64,11 +64,11 @@ about_parts : (deps entries epoch held site token : List ℕ) →
 about_parts deps entries epoch held site token = simp append_assoc
 
 -- the parts are the answer's line
-pub about_line : (x : SeenSite) → (applied_text (compact_text (deps_json x.settings.version (clock_of (state_of x).ops)))
+pub about_line : (bank : List ℕ) (x : SeenSite) → (applied_text (compact_text (deps_json x.settings.version (clock_of (state_of x).ops)))
     (decimal (length x.entries)) (decimal (state_of x).token.epoch) ++ held_text (decimal (length (state_of x).held)) (decimal x.me)
-    (compact_text (boolean (state_of x).token.held))) ++ codes "}},\"sends\":[],\"then\":[]}\n" ≡ question_text x About
+    (compact_text (boolean (state_of x).token.held))) ++ codes "}},\"sends\":[],\"then\":[]}\n" ≡ question_text bank x About
 unfolding escape_byte
-about_line x = about_parts (compact_text (deps_json x.settings.version (clock_of (state_of x).ops))) (decimal (length x.entries))
+about_line bank x = about_parts (compact_text (deps_json x.settings.version (clock_of (state_of x).ops))) (decimal (length x.entries))
     (decimal (state_of x).token.epoch) (decimal (length (state_of x).held)) (decimal x.me)
     (compact_text (boolean (state_of x).token.held))
 

@@ -1,5 +1,5 @@
 -- What one event leaves, and the line of its entry.
-use Rattle.std.proofs.Common.{◌≡◌, ◌<◌, ◌≤◌, ◌+◌, ◌-◌, ℕ, Bool, true, false, not, cond, ◌&&◌, ◌||◌, List, [], ◌∷◌, ◌++◌, length}
+use Rattle.std.proofs.Common.{◌≡◌, ◌≤◌, ◌+◌, ◌-◌, ℕ, Bool, true, false, not, cond, ◌&&◌, ◌||◌, List, [], ◌∷◌, ◌++◌, length}
 use Rattle.std.proofs.Common.{take, refl, sym, ap, subst, ◌∙◌, append-nil, append_assoc, length-append, arith}
 use Rattle.std.specs.Prelude.{codes, map, nat_le, Result, Ok, Err, MatchResult, OnErr, OnOk}
 use Rattle.std.proofs.lemmas.Bool.{and_parts, not-true}
@@ -24,7 +24,7 @@ use Rattle.rb_site.specs.declared.reply.Reply.{Reply}
 use Rattle.rb_site.specs.declared.reply.Reply.TheVariants.{Refused}
 use Rattle.rb_site.specs.Events.{Makes, MakesAll, ModelSite, Outcome, Refuses, changes, is_full, outcome_of, reply_of, reply_to, sent_at, sent_by}
 use Rattle.rb_site.specs.Events.{unless_full}
-use Rattle.rb_site.specs.Seen.{SeenSite, entry, next_site, next_sites, state_of, stepped}
+use Rattle.rb_site.specs.Seen.{SeenSite, entry, next_site, next_sites, state_of}
 use Rattle.rb_site.specs.Unchanging.{changes_site, next_if_changes, reply_if_changes}
 use Rattle.rb_history.specs.Entries.{asked_entry_json, entry_json}
 use Rattle.rb_history.specs.Adds.{Adds}

@@ -14,11 +14,12 @@ use Rattle.rb_site.specs.Histories.{events_of, with_replies}
 use Rattle.rb_site.specs.Seen.{SeenSite, entry, next_site, next_sites, state_of, stepped}
 use Rattle.rb_site.proofs.Public.Runs.{after_events-append}
 use Rattle.rb_site.proofs.Public.Seen.{settings-next, state-next, state-stepped}
-use Rattle.rb_history.specs.Entries.{asked_entry_json, asked_entry_of_line, asked_entry_on, asked_event_of_line}
+use Rattle.rb_history.specs.Entries.{asked_entry_json, asked_entry_of_line, asked_entry_on}
 use Rattle.rb_history.specs.Ids.{AskedEntry, AskedEvent, IsAsked, IsIdOrNone, is_id, may_be_asked, may_have_id}
 use Rattle.rb_history.specs.Fits.{Each, EntriesAreRead, IsEvent, IsReply}
 use Rattle.rb_history.specs.OneLine.{EntriesAreLines}
-use Rattle.rb_history.specs.Sites.{HeldNamesFitLines, ReadEventsFit, RepliesFitLines}
+use Rattle.rb_history.specs.Banks.{NamedEventsFit, event_to}
+use Rattle.rb_history.specs.Sites.{HeldNamesFitLines, RepliesFitLines}
 use Rattle.rb_node.specs.Answers.{AreReadyInTurn, IsSiteAnswer, asked_event_on, is_kept, kept_events}
 use Rattle.rb_node.specs.Asked.{SeenAsked, asked_state, known_of, without_ids, with_id, with_more}
 use Rattle.rb_node.specs.Laws.{AnswersAreReplayed, AreReplayed, IsRecorded}
@@ -29,7 +30,7 @@ use Rattle.rb_node.proofs.Recorded.{more-alone, more-none, next-free, next-full,
 pub record LineLaws : Type 0 where
   pub entries : EntriesAreRead
   pub lines : EntriesAreLines
-  pub events : ReadEventsFit
+  pub events : NamedEventsFit
   pub replies : RepliesFitLines
   pub held : HeldNamesFitLines
 
@@ -66,11 +67,11 @@ ready_fits held s c me low before (x ∷ xs) turn =
     )
 
 -- what is on a line, the line is
-pub event_is : (s : Settings) (l : List ℕ) (x : AskedEvent) → asked_event_on s l ≡ Some x → asked_event_of_line s l ≡ Some x
+pub event_is : (s : Settings) (bank l : List ℕ) (x : AskedEvent) → asked_event_on s bank l ≡ Some x → event_to s bank l ≡ Some x
 unfolding asked_event_on
-event_is s l x is = at (is_utf8 l) is
+event_is s bank l x is = at (is_utf8 l) is
   where
-    at : (b : Bool) → cond b (asked_event_of_line s l) None ≡ Some x → asked_event_of_line s l ≡ Some x
+    at : (b : Bool) → cond b (event_to s bank l) None ≡ Some x → event_to s bank l ≡ Some x
     at true h = h
     at false h = absurd (cc)
 
@@ -288,7 +289,7 @@ answer_replayed laws all old new line text entries is answer =
     names = answer.applied
 
     fits : IsEvent s answer.asked.event × MayHave answer.asked.id answer.asked.event
-    fits = laws.events s line answer.asked (event_is s line answer.asked answer.is_event)
+    fits = laws.events s old.bank line answer.asked (event_is s old.bank line answer.asked answer.is_event)
 
     by : (answer.mid ≡ without_ids old) ⊎ ((is_full s (asked_state old) ≡ false) × (answer.mid ≡ next_site (without_ids old) answer.asked.event))
         → AreReplayed old (map (with_id answer.asked.id) answer.recorded) new
@@ -319,5 +320,7 @@ answers_replayed laws all old new line text entries configured within (inl answe
 }
 answers_replayed laws all old new line text entries configured within (inr (inl known)) =
     nothing_recorded old new entries known.after known.entries_are
-answers_replayed laws all old new line text entries configured within (inr (inr question)) =
+answers_replayed laws all old new line text entries configured within (inr (inr (inl question))) =
     nothing_recorded old new entries question.after question.entries_are
+answers_replayed laws all old new line text entries configured within (inr (inr (inr other))) =
+    nothing_recorded old new entries other.after other.entries_are

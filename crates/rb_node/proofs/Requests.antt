@@ -198,21 +198,21 @@ found id (e ∷ es) = ap (λ o. cond (bytes_eq id e.0.items) (Some e.1) o) (foun
 -- ---- what is kept, as the site goes on
 
 -- the site, with the ids of its entries
-abbrev pub seen : SeenSite → List AskedEntry → SeenAsked
-seen x asked = record { settings = x.settings; me = x.me; asked = asked }
+abbrev pub seen : List ℕ → SeenSite → List AskedEntry → SeenAsked
+seen bank x asked = record { settings = x.settings; bank = bank; me = x.me; asked = asked }
 
 -- without its ids it is the site
-pub same_site : (x : SeenSite) (asked : List AskedEntry) (kept : Requests) → IsKeeping x asked kept → without_ids (seen x asked) ≡ x
+pub same_site : (x : SeenSite) (asked : List AskedEntry) (kept : Requests) → IsKeeping x asked kept → without_ids (seen [] x asked) ≡ x
 same_site x asked kept is = ap (λ es. let y : SeenSite = record { settings = x.settings; me = x.me; entries = es } in y) is.entries
 
 told_of : (x : SeenSite) (asked : List AskedEntry) (kept : Requests) (id : List ℕ) → Each HasItsId asked → IsKeeping x asked kept
-    → IsKnownBy (state_of (without_ids (seen x asked))).ops (find_request id kept) (known_of (seen x asked) id)
+    → IsKnownBy (state_of (without_ids (seen [] x asked))).ops (find_request id kept) (known_of (seen [] x asked) id)
 told_of x asked kept [] has is =
-    subst (λ o. IsKnownBy (state_of (without_ids (seen x asked))).ops o None)
+    subst (λ o. IsKnownBy (state_of (without_ids (seen [] x asked))).ops o None)
     (sym (ap (find_request []) is.requests ∙ none_without x.settings (first_site x.me) asked)) refl
 told_of x asked kept (b ∷ bs) has is =
-    let us = (state_of (without_ids (seen x asked))).ops in
-    subst (λ ks. IsKnownBy us (find_request (b ∷ bs) ks) (known_of (seen x asked) (b ∷ bs))) (sym is.requests)
+    let us = (state_of (without_ids (seen [] x asked))).ops in
+    subst (λ ks. IsKnownBy us (find_request (b ∷ bs) ks) (known_of (seen [] x asked) (b ∷ bs))) (sym is.requests)
     (kept_is_known x.settings (first_site x.me) us b bs asked has
     (subst (Replays x.settings (first_site x.me)) (sym is.entries) is.replays) ([], sym (append-nil us)))
 
@@ -222,12 +222,12 @@ lent x id None h = h
 lent x id (Some k) h = h
 
 -- what is found under an id is what is kept of the request
-pub known_found : (x : SeenSite) (asked : List AskedEntry) (kept : Requests) (view : SeenAsked) (id : List ℕ)
-    (o : Option (Bor KnownRequest)) → Each HasItsId asked → IsKeeping x asked kept → seen x asked ≡ view
+pub known_found : {bank : List ℕ} (x : SeenSite) (asked : List AskedEntry) (kept : Requests) (view : SeenAsked) (id : List ℕ)
+    (o : Option (Bor KnownRequest)) → Each HasItsId asked → IsKeeping x asked kept → seen bank x asked ≡ view
     → option_copied o ≡ find_request id kept → MatchOption o (known_of view id ≡ None) (λ k. IsKeptAs view id k.now)
-known_found x asked kept view id o has is at e =
+known_found {bank} x asked kept view id o has is at e =
     subst (λ (v : SeenAsked). MatchOption o (known_of v id ≡ None) (λ k. IsKeptAs v id k.now)) at
-    (lent (seen x asked) id o (subst (λ p. IsKnownBy (state_of (without_ids (seen x asked))).ops p (known_of (seen x asked) id)) (sym e)
+    (lent (seen bank x asked) id o (subst (λ p. IsKnownBy (state_of (without_ids (seen [] x asked))).ops p (known_of (seen [] x asked) id)) (sym e)
     (told_of x asked kept id has is)))
 
 -- under an id that isn't known nothing is found
@@ -235,10 +235,10 @@ unknown_kept : (us : List Shadow) (o : Option KnownRequest) (known : Option Know
 unknown_kept us None known h none = refl
 unknown_kept us (Some r) known h none = absurd (let q : None ≡ Some (known_again us r) = sym none ∙ h in cc)
 
-pub not_found : (x : SeenSite) (asked : List AskedEntry) (kept : Requests) (view : SeenAsked) (id : List ℕ) → Each HasItsId asked
-    → IsKeeping x asked kept → seen x asked ≡ view → known_of view id ≡ None → find_request id kept ≡ None
+pub not_found : {bank : List ℕ} (x : SeenSite) (asked : List AskedEntry) (kept : Requests) (view : SeenAsked) (id : List ℕ) → Each HasItsId asked
+    → IsKeeping x asked kept → seen bank x asked ≡ view → known_of view id ≡ None → find_request id kept ≡ None
 not_found x asked kept view id has is at none =
-    unknown_kept (state_of (without_ids (seen x asked))).ops (find_request id kept) (known_of (seen x asked) id)
+    unknown_kept (state_of (without_ids (seen [] x asked))).ops (find_request id kept) (known_of (seen [] x asked) id)
     (told_of x asked kept id has is) (ap (λ (v : SeenAsked). known_of v id) at ∙ none)
 
 -- before any event
@@ -337,26 +337,26 @@ still_keeps x new asked after kept kept_after id e reply is h =
     (subst (λ ks. IsKeeping (stepped x e) (asked ++ y ∷ []) ks) (sym requests) (keep_more x asked kept e id is)))
 
 -- the site as clients see it has the entry with its id more
-pub next_seen : (x new : SeenSite) (asked after : List AskedEntry) (kept kept_after : Requests) (view : SeenAsked) (id : List ℕ)
-    (e : Event) (reply : Reply) → seen x asked ≡ view → IsNotedAs x new asked after kept kept_after id e reply
-    → seen new after ≡ with_more view (with_id id (entry e reply) ∷ [])
-next_seen x new asked after kept kept_after view id e reply at h =
-    ap (λ (z : SeenSite). seen z after) h.site
-    ∙ ap (λ s. let v : SeenAsked = record { settings = s; me = (next_site x e).me; asked = after } in v) (settings-next x e)
-    ∙ ap (λ n. let v : SeenAsked = record { settings = x.settings; me = n; asked = after } in v) (me-next x e)
-    ∙ ap (λ l. seen x l) h.entry_noted ∙ ap (λ (v : SeenAsked). with_more v (with_id id (entry e reply) ∷ [])) at
+pub next_seen : {bank : List ℕ} (x new : SeenSite) (asked after : List AskedEntry) (kept kept_after : Requests) (view : SeenAsked) (id : List ℕ)
+    (e : Event) (reply : Reply) → seen bank x asked ≡ view → IsNotedAs x new asked after kept kept_after id e reply
+    → seen bank new after ≡ with_more view (with_id id (entry e reply) ∷ [])
+next_seen {bank} x new asked after kept kept_after view id e reply at h =
+    ap (λ (z : SeenSite). seen bank z after) h.site
+    ∙ ap (λ s. let v : SeenAsked = record { settings = s; bank = bank; me = (next_site x e).me; asked = after } in v) (settings-next x e)
+    ∙ ap (λ n. let v : SeenAsked = record { settings = x.settings; bank = bank; me = n; asked = after } in v) (me-next x e)
+    ∙ ap (λ l. seen bank x l) h.entry_noted ∙ ap (λ (v : SeenAsked). with_more v (with_id id (entry e reply) ∷ [])) at
 
 -- and without its ids it is the site after the event
-pub next_alone : (x new : SeenSite) (asked after : List AskedEntry) (kept kept_after : Requests) (view : SeenAsked) (id : List ℕ)
-    (e : Event) (reply : Reply) → IsKeeping x asked kept → seen x asked ≡ view
-    → IsNotedAs x new asked after kept kept_after id e reply → without_ids (seen new after) ≡ next_site (without_ids view) e
+pub next_alone : {bank : List ℕ} (x new : SeenSite) (asked after : List AskedEntry) (kept kept_after : Requests) (view : SeenAsked) (id : List ℕ)
+    (e : Event) (reply : Reply) → IsKeeping x asked kept → seen bank x asked ≡ view
+    → IsNotedAs x new asked after kept kept_after id e reply → without_ids (seen bank new after) ≡ next_site (without_ids view) e
 next_alone x new asked after kept kept_after view id e reply is at h =
     same_site new after kept_after (still_keeps x new asked after kept kept_after id e reply is h) ∙ h.site
     ∙ ap (λ (z : SeenSite). next_site z e) (sym (same_site x asked kept is) ∙ ap (λ (v : SeenAsked). without_ids v) at)
 
 -- a site with no entry more
 pub same_seen : (view : SeenAsked) → view ≡ with_more view []
-same_seen view = ap (λ l. let v : SeenAsked = record { settings = view.settings; me = view.me; asked = l } in v)
+same_seen view = ap (λ l. let v : SeenAsked = record { settings = view.settings; bank = view.bank; me = view.me; asked = l } in v)
     (sym (append-nil view.asked))
 
 -- a request that is noted isn't kept yet

@@ -180,17 +180,17 @@ read_kept s t before m us (x ∷ xs) all = kept_more s t before m us x xs (later
 
 -- ---- lines, and how many
 
-line_of_some : (s : Settings) (ms : List Message) → flat_map (sent_line s) (some_of ms) ≡ sent_line s ms
-line_of_some s [] = refl
-line_of_some s (m ∷ ms) = append-nil (sent_line s (m ∷ ms))
+line_of_some : (s : Settings) (bank : List ℕ) (ms : List Message) → flat_map (sent_line s bank) (some_of ms) ≡ sent_line s bank ms
+line_of_some s bank [] = refl
+line_of_some s bank (m ∷ ms) = append-nil (sent_line s bank (m ∷ ms))
 
-lines_of_senders : (s : Settings) (t : ModelSite) (k : ℕ) (xs : List Entry) → flat_map (sent_line s) (senders s t k xs) ≡ resent s t k xs
-lines_of_senders s t k [] = refl
-lines_of_senders s t zero (x ∷ xs) =
-    flat_map-append (sent_line s) (some_of (sent_at s t x.event)) (senders s (after_event s t x.event) zero xs)
-    ∙ ap (λ l. l ++ flat_map (sent_line s) (senders s (after_event s t x.event) zero xs)) (line_of_some s (sent_at s t x.event))
-    ∙ ap (λ l. sent_line s (sent_at s t x.event) ++ l) (lines_of_senders s (after_event s t x.event) zero xs)
-lines_of_senders s t (suc k) (x ∷ xs) = lines_of_senders s (after_event s t x.event) k xs
+lines_of_senders : (s : Settings) (bank : List ℕ) (t : ModelSite) (k : ℕ) (xs : List Entry) → flat_map (sent_line s bank) (senders s t k xs) ≡ resent s bank t k xs
+lines_of_senders s bank t k [] = refl
+lines_of_senders s bank t zero (x ∷ xs) =
+    flat_map-append (sent_line s bank) (some_of (sent_at s t x.event)) (senders s (after_event s t x.event) zero xs)
+    ∙ ap (λ l. l ++ flat_map (sent_line s bank) (senders s (after_event s t x.event) zero xs)) (line_of_some s bank (sent_at s t x.event))
+    ∙ ap (λ l. sent_line s bank (sent_at s t x.event) ++ l) (lines_of_senders s bank (after_event s t x.event) zero xs)
+lines_of_senders s bank t (suc k) (x ∷ xs) = lines_of_senders s bank (after_event s t x.event) k xs
 
 count_some : (ms : List Message) → length (some_of ms) ≡ one_if_any ms
 count_some [] = refl
@@ -205,9 +205,9 @@ count_senders s t zero (x ∷ xs) =
 count_senders s t (suc k) (x ∷ xs) = count_senders s (after_event s t x.event) k xs
 
 -- lines of the messages of entries
-lines_behind : (s : Settings) (us : List Shadow) (xs : List SentEntry) → lines_again s us xs ≡ flat_map (sent_line s) (map (behind us) xs)
-lines_behind s us [] = refl
-lines_behind s us (x ∷ xs) = ap (λ l. sent_line s (behind us x) ++ l) (lines_behind s us xs)
+lines_behind : (s : Settings) (bank : List ℕ) (us : List Shadow) (xs : List SentEntry) → lines_again s bank us xs ≡ flat_map (sent_line s bank) (map (behind us) xs)
+lines_behind s bank us [] = refl
+lines_behind s bank us (x ∷ xs) = ap (λ l. sent_line s bank (behind us x) ++ l) (lines_behind s bank us xs)
 
 -- ---- a part of the index
 
@@ -227,7 +227,7 @@ point_kept p (x ∷ xs) (suc i) low high =
 
 -- the lines of the entries behind the point, and how many they are
 pub record AreSince (x : SeenSite) (m : ℕ) (since : List SentEntry) : Type 0 where
-  pub lines : lines_again x.settings (state_of x).ops since ≡ resent x.settings (first_site x.me) m x.entries
+  pub lines : (bank : List ℕ) → lines_again x.settings bank (state_of x).ops since ≡ resent x.settings bank (first_site x.me) m x.entries
   pub count : length since ≡ resent_count x.settings (first_site x.me) m x.entries
 
 pub since : (x : SeenSite) (m i : ℕ) → AllWithin (λ y. nat_lt y.before m ≡ true) (index_of x) 0 i
@@ -241,7 +241,7 @@ since x m i low high =
     ap (map (behind us)) (sym kept) ∙ read_kept s t 0 m us x.entries ([], sym (append-nil us))
     ∙ ap (λ k. senders s t k x.entries) (let q : m - 0 ≡ m = omega arith in q) in
     record {
-      lines = lines_behind s us (drop i (index_of x)) ∙ ap (flat_map (sent_line s)) read ∙ lines_of_senders s t m x.entries;
+      lines = λ bank. lines_behind s bank us (drop i (index_of x)) ∙ ap (flat_map (sent_line s bank)) read ∙ lines_of_senders s bank t m x.entries;
       count = sym (length-map (drop i (index_of x)) (behind us)) ∙ ap length read ∙ count_senders s t m x.entries;
     }
 

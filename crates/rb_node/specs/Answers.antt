@@ -13,7 +13,7 @@ use Rattle.rb_shadow.specs.declared.shadow.Shadow.{Shadow}
 use Rattle.rb_inbox.specs.Held.{IsFirstReady, IsReady}
 use Rattle.rb_site.specs.declared.entry.Entry.{Entry}
 use Rattle.rb_site.specs.declared.event.Event.{Event}
-use Rattle.rb_site.specs.declared.event.Event.TheVariants.{Apply, Receive}
+use Rattle.rb_site.specs.declared.event.Event.TheVariants.{Apply}
 use Rattle.rb_site.specs.declared.message.Message.{Message}
 use Rattle.rb_site.specs.declared.reply.Reply.{Reply}
 use Rattle.rb_site.specs.Events.{ModelSite, after_event, after_events, is_full, replies_to_events, reply_to, sent_at}
@@ -22,7 +22,8 @@ use Rattle.rb_site.specs.Unchanging.{changes_site, reply_if_changes}
 use Rattle.rb_history.specs.Ids.{AskedEntry, AskedEvent, id_member}
 use Rattle.rb_history.specs.Replies.{reply_json}
 use Rattle.rb_history.specs.Values.{list_json, number_json, one_json}
-use Rattle.rb_history.specs.Entries.{asked_entry_json, asked_event_of_line, entry_json, event_json}
+use Rattle.rb_history.specs.Banks.{event_to, is_of_other, sent_json}
+use Rattle.rb_history.specs.Entries.{asked_entry_json, entry_json}
 use Rattle.rb_node.specs.Asked.{Known, SeenAsked, asked_state, known_of, without_ids, with_id, with_more}
 
 -- ---- a site by lines, as clients see it
@@ -34,45 +35,57 @@ pub record SeenNode : Type 0 where
 
 -- ---- lines
 
--- the event on a line with its id, at these settings: it has to be UTF-8
-unfoldable pub asked_event_on : Settings → List ℕ → Option AskedEvent
-asked_event_on s l = if is_utf8 l then asked_event_of_line s l else None
+-- the event on a line to the bank of this name with its id, at these settings: it has to be UTF-8
+unfoldable pub asked_event_on : Settings → List ℕ → List ℕ → Option AskedEvent
+asked_event_on s bank l = if is_utf8 l then event_to s bank l else None
+
+-- the line is of another bank than the one of this name
+unfoldable pub other_bank_on : Settings → List ℕ → List ℕ → Bool
+other_bank_on s bank l = if is_utf8 l then is_of_other s bank l else false
 
 -- the line of a value, with its line feed
 abbrev pub line_of : Data → List ℕ
 line_of d = compact_text d ++ 10 ∷ []
 
--- messages, each as the event of a site that it goes to
-abbrev pub messages_json : Settings → List Message → Data
-messages_json s ms = list_json (λ m. event_json s (Receive m)) ms
+-- messages, each as the event of a site that it goes to, with the bank's name, if it has one
+abbrev pub messages_json : Settings → List ℕ → List Message → Data
+messages_json s bank ms = list_json (sent_json s bank) ms
 
 -- the reply, the messages that were sent, and the replies to the applications that followed
-abbrev pub answer_members : Settings → Reply → List Message → List Reply → Members
-answer_members s reply sent later =
+abbrev pub answer_members : Settings → List ℕ → Reply → List Message → List Reply → Members
+answer_members s bank reply sent later =
     member (codes "reply") (reply_json reply)
-    (member (codes "sends") (messages_json s sent)
+    (member (codes "sends") (messages_json s bank sent)
     (member (codes "then") (list_json reply_json later) no_members))
 
 -- an answer, with the id of the event, if it has one; the keys in byte order
-abbrev pub asked_answer_json : Settings → List ℕ → Reply → List Message → List Reply → Data
-asked_answer_json s id reply sent later = object (id_member id (answer_members s reply sent later))
+abbrev pub asked_answer_json : Settings → List ℕ → List ℕ → Reply → List Message → List Reply → Data
+asked_answer_json s bank id reply sent later = object (id_member id (answer_members s bank reply sent later))
 
 -- the answer to a request that was made before
-abbrev pub again_json : Settings → List ℕ → Known → Data
-again_json s id known =
-    object (member (codes "again") (boolean true) (id_member id (answer_members s known.reply known.sent [])))
+abbrev pub again_json : Settings → List ℕ → List ℕ → Known → Data
+again_json s bank id known =
+    object (member (codes "again") (boolean true) (id_member id (answer_members s bank known.reply known.sent [])))
+
+-- a refusal by this number, and nothing that was sent or applied
+abbrev pub refusal_members : ℕ → Members
+refusal_members n =
+    member (codes "reply") (one_json (codes "refused") (number_json n))
+    (member (codes "sends") (array no_items)
+    (member (codes "then") (array no_items) no_members))
 
 -- the answer to another request of a known id: it is refused by 25, which is no refusal of a site
 abbrev pub other_request_json : List ℕ → Data
-other_request_json id = object (id_member id
-    (member (codes "reply") (one_json (codes "refused") (number_json 25))
-    (member (codes "sends") (array no_items)
-    (member (codes "then") (array no_items) no_members))))
+other_request_json id = object (id_member id (refusal_members 25))
+
+-- the answer to a line of another bank: it is refused by 26, which is no refusal of a site
+abbrev pub other_bank_json : Data
+other_bank_json = object (refusal_members 26)
 
 -- the line of what is sent again; there is none if nothing was sent
-abbrev pub sent_line : Settings → List Message → List ℕ
-sent_line s [] = []
-sent_line s (m ∷ ms) = line_of (one_json (codes "sends") (messages_json s (m ∷ ms)))
+abbrev pub sent_line : Settings → List ℕ → List Message → List ℕ
+sent_line s bank [] = []
+sent_line s bank (m ∷ ms) = line_of (one_json (codes "sends") (messages_json s bank (m ∷ ms)))
 
 -- the lines of entries of a site
 abbrev pub entry_lines : Settings → ℕ → List AskedEntry → List ℕ
@@ -126,7 +139,7 @@ reply_kept all x e = if all then reply_to x.settings (state_of x) e else reply_i
 -- the entries that it recorded: of the event, if it is recorded, with its id, if it was made, and of what was applied then
 pub record IsSiteAnswer (all : Bool) (old new : SeenAsked) (line text entries : List ℕ) : Type 0 where
   pub asked : AskedEvent
-  pub is_event : asked_event_on old.settings line ≡ Some asked
+  pub is_event : asked_event_on old.settings old.bank line ≡ Some asked
   pub unknown : known_of old asked.id ≡ None
   pub mid : SeenSite
   pub mid_is : mid ≡ next_sites (without_ids old) (kept_events all (without_ids old) asked.event)
@@ -134,7 +147,7 @@ pub record IsSiteAnswer (all : Bool) (old new : SeenAsked) (line text entries : 
   pub in_turn : AreReadyInTurn old.settings (state_of mid) applied
   pub all_applied : IsAllApplied old.settings (after_events old.settings (state_of mid) (map Apply applied))
   pub after : without_ids new ≡ next_sites mid (map Apply applied)
-  pub text_is : text ≡ line_of (asked_answer_json old.settings asked.id (reply_kept all (without_ids old) asked.event)
+  pub text_is : text ≡ line_of (asked_answer_json old.settings old.bank asked.id (reply_kept all (without_ids old) asked.event)
       (sent_at old.settings (asked_state old) asked.event)
       (replies_to_events old.settings (state_of mid) (map Apply applied)))
   pub recorded : List Entry
@@ -145,10 +158,17 @@ pub record IsSiteAnswer (all : Bool) (old new : SeenAsked) (line text entries : 
 -- once more; or it is another, and is refused. The site stays as it was, and records nothing
 pub record IsKnownAnswer (old new : SeenAsked) (line text entries : List ℕ) : Type 0 where
   pub asked : AskedEvent
-  pub is_event : asked_event_on old.settings line ≡ Some asked
+  pub is_event : asked_event_on old.settings old.bank line ≡ Some asked
   pub known : Known
   pub is_known : known_of old asked.id ≡ Some known
-  pub again : known.event ≡ asked.event → text ≡ line_of (again_json old.settings asked.id known)
+  pub again : known.event ≡ asked.event → text ≡ line_of (again_json old.settings old.bank asked.id known)
   pub other : known.event ≢ asked.event → text ≡ line_of (other_request_json asked.id)
+  pub after : new ≡ old
+  pub entries_are : entries ≡ []
+
+-- the site refuses a line of another bank by this text. It stays as it was, and records nothing
+pub record IsOtherBankAnswer (old new : SeenAsked) (line text entries : List ℕ) : Type 0 where
+  pub is_other : other_bank_on old.settings old.bank line ≡ true
+  pub text_is : text ≡ line_of other_bank_json
   pub after : new ≡ old
   pub entries_are : entries ≡ []

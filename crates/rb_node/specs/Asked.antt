@@ -11,15 +11,16 @@ use Rattle.rb_history.specs.Ids.{AskedEntry, may_be_asked}
 
 -- ---- the site
 
--- the configuration, the site's number, and its entries with their ids
+-- the configuration, the site's number, the name of its bank (no bytes if it has none), and its entries with their ids
 pub record SeenAsked : Type 0 where
   pub settings : Settings
   pub me : ℕ
+  pub bank : List ℕ
   pub asked : List AskedEntry
 
 -- a site before any event
-abbrev pub first_asked : Settings → ℕ → SeenAsked
-first_asked s me = record { settings = s; me = me; asked = [] }
+abbrev pub first_asked : Settings → ℕ → List ℕ → SeenAsked
+first_asked s me bank = record { settings = s; me = me; bank = bank; asked = [] }
 
 -- the entries, their ids left out
 abbrev pub entries_alone : List AskedEntry → List Entry

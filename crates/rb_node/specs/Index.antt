@@ -37,5 +37,5 @@ abbrev pub index_of : SeenSite → List SentEntry
 index_of x = index_from x.settings (first_site x.me) 0 (events_of x.entries)
 
 -- the lines of the messages of entries, once more
-abbrev pub lines_again : Settings → List Shadow → List SentEntry → List ℕ
-lines_again s us xs = flat_map (λ x. sent_line s (messages_of us x.sent)) xs
+abbrev pub lines_again : Settings → List ℕ → List Shadow → List SentEntry → List ℕ
+lines_again s bank us xs = flat_map (λ x. sent_line s bank (messages_of us x.sent)) xs

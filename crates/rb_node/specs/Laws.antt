@@ -1,13 +1,14 @@
 -- Every answer: its entries' lines are a journal's, and they are replayed; there is no other; and what it says
 -- of an id.
-use Rattle.std.specs.Prelude.{◌≡◌, ◌≢◌, ℕ, ◌<◌, Bool, List, [], ◌∷◌, ◌++◌, All, Some, slice_index}
+use Rattle.std.specs.Prelude.{◌≡◌, ◌≢◌, ℕ, ◌<◌, Bool, List, [], ◌∷◌, ◌++◌, All, Some, slice_index, true}
 use Rattle.serde_json.specs.Written.{compact_text}
 use Rattle.rb_money.specs.Settings.{IsConfigured, Settings}
 use Rattle.rb_site.specs.Events.{sent_at}
 use Rattle.rb_history.specs.ConfigLines.{config_json}
 use Rattle.rb_history.specs.Entries.{asked_entry_json}
 use Rattle.rb_history.specs.Ids.{AskedEntry, AskedEvent, IsIdOrNone}
-use Rattle.rb_node.specs.Answers.{SeenNode, again_json, asked_event_on, entry_lines, line_of, other_request_json}
+use Rattle.rb_node.specs.Answers.{SeenNode, again_json, asked_event_on, entry_lines, line_of, other_bank_json}
+use Rattle.rb_node.specs.Answers.{other_bank_on, other_request_json}
 use Rattle.rb_node.specs.Asked.{AreIdsOnce, SeenAsked, asked_state, with_more}
 use Rattle.rb_node.specs.LineAnswers.{IsLineAnswer}
 use Rattle.rb_node.specs.Replays.{IsReadBack, IsReplayedAs}
@@ -67,12 +68,19 @@ IdsStayOnce = (all : Bool) (old new : SeenAsked) (line text entries : List ℕ) 
 -- refused else; the site stays as it was
 abbrev pub AnswersAreTheSame : Type 0
 AnswersAreTheSame = (all : Bool) (old new : SeenAsked) (line text entries : List ℕ) → IsLineAnswer all old new line text entries
-    → AreIdsOnce old.asked → (asked : AskedEvent) → asked_event_on old.settings line ≡ Some asked → asked.id ≢ []
+    → AreIdsOnce old.asked → (asked : AskedEvent) → asked_event_on old.settings old.bank line ≡ Some asked → asked.id ≢ []
     → (before later : List AskedEntry) (x : AskedEntry) → old.asked ≡ before ++ x ∷ later → x.id ≡ asked.id
     → (new ≡ old) × (entries ≡ [])
-    × (x.entry.event ≡ asked.event → text ≡ line_of (again_json old.settings asked.id (record {
+    × (x.entry.event ≡ asked.event → text ≡ line_of (again_json old.settings old.bank asked.id (record {
       event = x.entry.event;
       reply = x.entry.reply;
       sent = sent_at old.settings (asked_state (record old { asked = before })) x.entry.event;
     })))
     × (x.entry.event ≢ asked.event → text ≡ line_of (other_request_json asked.id))
+
+-- ---- other banks
+
+-- the answer to a line of another bank is a refusal; the site stays as it was
+abbrev pub OtherBanksAreRefused : Type 0
+OtherBanksAreRefused = (all : Bool) (old new : SeenAsked) (line text entries : List ℕ) → IsLineAnswer all old new line text entries
+    → other_bank_on old.settings old.bank line ≡ true → (text ≡ line_of other_bank_json) × (new ≡ old) × (entries ≡ [])

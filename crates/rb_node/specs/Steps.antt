@@ -86,7 +86,7 @@ pub record AnswersEvent (all : Bool) (old new : SeenAsked) (id : List ℕ) (e : 
   pub in_turn : AreReadyInTurn old.settings (state_of mid) applied
   pub all_applied : IsAllApplied old.settings (after_events old.settings (state_of mid) (map Apply applied))
   pub after : without_ids new ≡ next_sites mid (map Apply applied)
-  pub text_is : text_after ≡ text ++ line_of (asked_answer_json old.settings id (reply_kept all (without_ids old) e)
+  pub text_is : text_after ≡ text ++ line_of (asked_answer_json old.settings old.bank id (reply_kept all (without_ids old) e)
       (sent_at old.settings (asked_state old) e) (replies_to_events old.settings (state_of mid) (map Apply applied)))
   pub recorded : List Entry
   pub recorded_are : new ≡ with_more old (map (with_id id) recorded)
@@ -96,7 +96,7 @@ pub record AnswersEvent (all : Bool) (old new : SeenAsked) (id : List ℕ) (e : 
 pub record KnownAdded (old : SeenAsked) (id : List ℕ) (e : Event) (text text_after : List ℕ) : Type 0 where
   pub known : Known
   pub is_known : known_of old id ≡ Some known
-  pub again : known.event ≡ e → text_after ≡ text ++ line_of (again_json old.settings id known)
+  pub again : known.event ≡ e → text_after ≡ text ++ line_of (again_json old.settings old.bank id known)
   pub other : known.event ≢ e → text_after ≡ text ++ line_of (other_request_json id)
 
 -- after `true` it was answered so; after `false` the id isn't known, and nothing was added

@@ -56,7 +56,8 @@ impl Node {
 
     /// The line of the answer.
     pub(crate) fn append_about(&self, out: &mut Vec<u8>) -> Result<(), AllocError>
-        ensures { Adds result out.old.items out.new.items (question_text (without_ids self.now.site) About) }
+        ensures { Adds result out.old.items out.new.items (question_text self.now.site.bank
+            (without_ids self.now.site) About) }
     {
         self.append_applied(out)?;
         self.append_held(out)?;

@@ -111,14 +111,20 @@ impl Node {
     ) -> Result<(), AllocError>
         requires { id.now ≢ [] }
         ensures { Adds result out.old.items out.new.items
-            (line_of (again_json self.now.site.settings id.now
+            (line_of (again_json self.now.site.settings self.now.site.bank id.now
             (known_again (asked_state self.now.site).ops known.now))) }
     {
         let operations = self.site.site().ledger().entries();
         let messages = messages_again(self.alloc, operations, known.first, known.end)?;
         let reply = reply_again(self.alloc, &known.event, messages.as_slice())?;
         append_with_id(out, "{\"again\":true,\"id\":\"", id, "\",\"reply\":")?;
-        append_rest(out, &self.config, &reply, messages.as_slice())?;
+        append_rest(
+            out,
+            &self.config,
+            self.site.bank(),
+            &reply,
+            messages.as_slice(),
+        )?;
         append(out, "]}\n")
     }
 

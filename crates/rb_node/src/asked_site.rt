@@ -13,16 +13,18 @@ use crate::erased_asked::{ErasedAsked, note_entry};
 use crate::indexed_site::IndexedSite;
 use crate::known_request::{KnownRequest, copy_asked, note_request, request_of, reserve_request};
 use indexmap::IndexMap;
-use rb_history::RequestId;
+use rb_history::{BankName, RequestId};
 use rb_kit::reserve_one;
 use rb_money::{Config, Refusal};
 use rb_site::{Event, Message, Reply};
 use std::alloc::{AllocError, Global};
 use std::marker::Model;
 
-/// A site, the ids of its entries, and the requests that were made by an id. Clients see the site and the ids.
+/// A site, its bank's name, the ids of its entries, and the requests that were made by an id. Clients see the site, the
+/// name and the ids.
 pub struct AskedSite {
     alloc: Global,
+    bank: BankName,
     site: IndexedSite,
     asked: Vec<ErasedAsked>,
     by_id: IndexMap<Vec<u8>, KnownRequest>,
@@ -36,24 +38,42 @@ impl Model for AskedSite {
 
     ghost Value = { SeenAsked };
 
-    ghost view = { λ s. record { settings = s.site.settings; me = s.site.me; asked = map entry_erased s.asked.items } };
+    ghost view = { λ s. record {
+      settings = s.site.settings;
+      me = s.site.me;
+      bank = s.bank;
+      asked = map entry_erased s.asked.items;
+    } };
 
     ghost invariant = { λ s. IsKeeping s.site (map entry_erased s.asked.items) (by_bytes s.by_id.entries) };
 }
 
 impl AskedSite {
-    /// A site of the configuration, before any event. `Err` means out of memory.
-    pub fn open(alloc: Global, config: &Config, me: u8) -> Result<AskedSite, AllocError>
+    /// A site of the configuration, before any event, and the name of its bank. `Err` means out of memory.
+    pub fn open(
+        alloc: Global,
+        config: &Config,
+        me: u8,
+        bank: BankName,
+    ) -> Result<AskedSite, AllocError>
         requires { me < config.now.sites }
-        ensures { IfOk result (λ site. site ≡ first_asked config.now me) }
+        ensures { IfOk result (λ site. site ≡ first_asked config.now me bank) }
     {
         let site = IndexedSite::open(alloc, config, me)?;
         Ok(AskedSite {
             alloc,
+            bank,
             site,
             asked: Vec::new(alloc),
             by_id: IndexMap::new(alloc),
         })
+    }
+
+    /// The name of its bank.
+    pub fn bank(&self) -> &BankName
+        ensures { result.now ≡ self.now.bank }
+    {
+        &self.bank
     }
 
     /// The site, without its ids.
@@ -160,6 +180,7 @@ impl AskedSite {
     pub fn close(self) {
         let AskedSite {
             alloc: _,
+            bank: _,
             site,
             asked: _,
             by_id: _,

@@ -1,26 +1,29 @@
 //! The line of an event, answered.
 ghost use Rattle.std.specs.Prelude.{◌≡◌, ◌++◌, codes, List, ℕ, Some, None, false, map, length, take, Err, IfErr};
 ghost use Rattle.std.specs.Prelude.{IfNone, IfSome};
-ghost use Rattle.std.specs.Prelude.{OnErr, OnOk, MatchResult};
+ghost use Rattle.std.specs.Prelude.{OnErr, OnOk, MatchOption, MatchResult, true};
 ghost use Rattle.std.specs.Option.{OnSome};
 ghost use Rattle.std.specs.Str.{is_utf8};
 ghost use Rattle.serde_json.specs.View.{items_of};
 ghost use Rattle.serde_json.specs.Written.{compact_text, items_text};
-ghost use Rattle.rb_site.specs.declared.event.Event.TheVariants.{Receive as Receipt};
 ghost use Rattle.rb_site.specs.Events.{is_full};
 ghost use Rattle.rb_history.specs.Adds.{Adds};
 ghost use Rattle.rb_history.specs.Replies.{reply_json};
-ghost use Rattle.rb_history.specs.Entries.{event_json};
+ghost use Rattle.rb_history.specs.Banks.{sent_json};
 ghost use Rattle.rb_history.specs.Ids.{IsIdOrNone, between_if_any};
 ghost use Rattle.rb_node.specs.Answers.{IsAllApplied, IsNextName, asked_event_on, messages_json};
+ghost use Rattle.rb_node.specs.Answers.{other_bank_on};
 ghost use Rattle.rb_node.specs.Asked.{asked_state, known_of};
 ghost use Rattle.rb_node.specs.Faults.{IsLineFault};
 ghost use Rattle.rb_node.specs.LineAnswers.{IsLineAnswer, question_on};
 ghost use Rattle.rb_node.specs.Steps.{AnswersAsked, AnswersEvent, Applies, AppliesOne};
 
+use crate::other_bank::append_other_bank;
 use crate::{Node, NodeFault};
 use rb_history::write::append::append;
-use rb_history::{LineFault, RequestId, append_event, append_value, read_asked_event};
+use rb_history::{
+    BankName, LineFault, RequestId, append_sent_message, append_value, read_event_to,
+};
 use rb_lines::text_on;
 use rb_money::Config;
 use rb_shadow::OpName;
@@ -32,27 +35,29 @@ fn append_message(
     out: &mut Vec<u8>,
     comma: &str,
     config: &Config,
-    message: Message,
+    bank: &BankName,
+    message: &Message,
 ) -> Result<(), AllocError>
     ensures { Adds result out.old.items out.new.items
-        (comma.now ++ compact_text (event_json config.now (Receipt message))) }
+        (comma.now ++ compact_text (sent_json config.now bank.now message.now)) }
 {
     append(out, comma)?;
-    append_event(out, config, &Event::Receive(message))
+    append_sent_message(out, config, bank, message)
 }
 
 /// The messages, each as the event of the sites that it goes to, with the closing bracket of their list.
 pub(crate) fn append_messages(
     out: &mut Vec<u8>,
     config: &Config,
+    bank: &BankName,
     messages: &[Message],
 ) -> Result<(), AllocError>
     ensures { Adds result out.old.items out.new.items
-        (items_text false (items_of (map (λ m. event_json config.now (Receipt m)) messages.now))) }
+        (items_text false (items_of (map (sent_json config.now bank.now) messages.now))) }
 {
     let mut comma = "";
     for message in messages {
-        append_message(out, comma, config, *message)?;
+        append_message(out, comma, config, bank, message)?;
         comma = ",";
     }
     append(out, "]")
@@ -84,33 +89,38 @@ fn append_answer_head(out: &mut Vec<u8>, id: &RequestId) -> Result<(), AllocErro
 pub(crate) fn append_rest(
     out: &mut Vec<u8>,
     config: &Config,
+    bank: &BankName,
     reply: &Reply,
     sent: &[Message],
 ) -> Result<(), AllocError>
     ensures { Adds result out.old.items out.new.items (compact_text (reply_json reply.now)
-        ++ (codes ",\"sends\":" ++ (compact_text (messages_json config.now sent.now) ++ codes ",\"then\":["))) }
+        ++ (codes ",\"sends\":" ++ (compact_text (messages_json config.now bank.now sent.now)
+        ++ codes ",\"then\":["))) }
 {
     append_value(out, reply)?;
     append(out, ",\"sends\":[")?;
-    append_messages(out, config, sent)?;
+    append_messages(out, config, bank, sent)?;
     append(out, ",\"then\":[")
 }
 
 impl Node {
-    /// The event on a line, and its id in its place.
-    #[tactic(auto, unfolding(crate::specs::Answers::asked_event_on))]
-    fn event_of(&self, line: &[u8], id: &mut RequestId) -> Result<Event, NodeFault>
+    /// The event on a line, and its id in its place. `None` if the line is of another bank.
+    #[tactic(auto, unfolding(crate::specs::Answers::asked_event_on, crate::specs::Answers::other_bank_on))]
+    fn event_of(&self, line: &[u8], id: &mut RequestId) -> Result<Option<Event>, NodeFault>
         ensures read { MatchResult result
-            (λ event. asked_event_on self.now.site.settings line.now ≡ Some (record { id = id.new; event = event }))
-            (λ why. (why ≡ NodeFault.BadLine → asked_event_on self.now.site.settings line.now ≡ None)
-            × IsLineFault why) }
+            (λ found. MatchOption found (other_bank_on self.now.site.settings self.now.site.bank line.now ≡ true)
+            (λ event. asked_event_on self.now.site.settings self.now.site.bank line.now
+            ≡ Some (record { id = id.new; event = event })))
+            (λ why. (why ≡ NodeFault.BadLine
+            → (asked_event_on self.now.site.settings self.now.site.bank line.now ≡ None)
+            × (other_bank_on self.now.site.settings self.now.site.bank line.now ≡ false)) × IsLineFault why) }
         ensures not_text { is_utf8 line.now ≡ false → result ≡ Err NodeFault.BadLine }
     {
         let Some(text) = text_on(line) else {
             return Err(NodeFault::BadLine);
         };
-        match read_asked_event(self.alloc, &self.config, text, id) {
-            Ok(event) => Ok(event),
+        match read_event_to(self.alloc, &self.config, self.site.bank(), text, id) {
+            Ok(found) => Ok(found),
             Err(LineFault::Bad) => Err(NodeFault::BadLine),
             Err(LineFault::OutOfMemory) => Err(NodeFault::OutOfMemory),
         }
@@ -183,7 +193,13 @@ impl Node {
     {
         let reply = self.step(all, id, event, entries)?;
         append_answer_head(text, id)?;
-        append_rest(text, &self.config, &reply, self.sent.as_slice())?;
+        append_rest(
+            text,
+            &self.config,
+            self.site.bank(),
+            &reply,
+            self.sent.as_slice(),
+        )?;
         self.apply_ready(text, entries)?;
         append(text, "}\n")
     }
@@ -251,6 +267,9 @@ impl Node {
     /// entry have it too. It is known once the request is made; then the same request is answered by its reply and its
     /// messages once more, `{"again":true,"id":..}`, and another one of the id by refusal 25. Neither changes anything.
     ///
+    /// If the bank has a name, a message that comes must have it as the member `"bank"`, and any other line may. A line
+    /// that has another text there, or a message without it, is refused by 26. It changes nothing and isn't recorded.
+    ///
     /// A question leaves the site as it was, and isn't recorded. `{"about":"site"}` has a reply `{"about":..}` of what
     /// the site applied and holds, and `{"resend":N}` (N 0 to 100,000,000) a reply `{"resent":K}` behind K lines
     /// `{"sends":[M..]}`, one for each of the last N entries that sent any message.
@@ -269,15 +288,18 @@ impl Node {
         ensures answered { OnOk result ((text : List ℕ) × (lines : List ℕ)
             × IsLineAnswer all self.old.site self.new.site line.now text lines
             × (answers.new.items ≡ answers.old.items ++ text) × (entries.new.items ≡ entries.old.items ++ lines)) }
-        ensures bad { result ≡ Err NodeFault.BadLine → (asked_event_on self.old.site.settings line.now ≡ None)
-            × (question_on line.now ≡ None) × (self.new ≡ self.old) }
+        ensures bad { result ≡ Err NodeFault.BadLine
+            → (asked_event_on self.old.site.settings self.old.site.bank line.now ≡ None)
+            × (other_bank_on self.old.site.settings self.old.site.bank line.now ≡ false)
+            × (question_on self.old.site.bank line.now ≡ None) × (self.new ≡ self.old) }
         ensures not_text { is_utf8 line.now ≡ false → result ≡ Err NodeFault.BadLine }
         ensures err { OnErr result ((answers.new.items ≡ answers.old.items) × (entries.new.items ≡ entries.old.items)) }
         ensures refusals { IfErr result IsLineFault }
     {
         let mut id = RequestId::none(self.alloc);
         match self.event_of(line, &mut id) {
-            Ok(event) => self.answer_whole(all, &id, event, answers, entries),
+            Ok(Some(event)) => self.answer_whole(all, &id, event, answers, entries),
+            Ok(None) => append_other_bank(answers),
             Err(NodeFault::BadLine) => self.answer_question(line, answers),
             Err(fault) => Err(fault),
         }

@@ -1,7 +1,7 @@
 //! A site that keeps no history, with an index of the messages of its entries. The operations that it made are in its
 //! ledger, each behind those that were applied before it, so the index says which they are; it keeps the token's
 //! messages.
-ghost use Rattle.std.specs.Prelude.{◌≡◌, ◌<◌, ◌≤◌, ◌+◌, ◌++◌, ◌&&◌, not, false, IfOk, OnErr, OnOk, length};
+ghost use Rattle.std.specs.Prelude.{◌≡◌, ◌<◌, ◌≤◌, ◌+◌, ◌++◌, ◌&&◌, not, false, IfOk, OnErr, OnOk, length, List, ℕ};
 ghost use Rattle.std.specs.Prelude.{vec_len, vec_capacity};
 ghost use Rattle.rb_site.specs.Events.{first_site, is_full, reply_to, sent_at};
 ghost use Rattle.rb_site.specs.Seen.{first_seen, next_site, state_of};
@@ -136,8 +136,8 @@ impl IndexedSite {
 
     /// The entries that sent any message, of those that have at least this number before them.
     pub fn sent_since(&self, before: u32) -> &[SentEntry]
-        ensures lines { lines_again self.now.settings (state_of self.now).ops result.now
-            ≡ resent self.now.settings (first_site self.now.me) before self.now.entries }
+        ensures lines { (bank : List ℕ) → lines_again self.now.settings bank (state_of self.now).ops result.now
+            ≡ resent self.now.settings bank (first_site self.now.me) before self.now.entries }
         ensures count { length result.now ≡ resent_count self.now.settings (first_site self.now.me) before
             self.now.entries }
     {

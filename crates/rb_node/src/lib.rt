@@ -12,6 +12,7 @@ mod fault;
 mod indexed_site;
 mod known_request;
 mod node;
+mod other_bank;
 mod question;
 mod replay;
 mod resend;
@@ -19,7 +20,7 @@ mod sent_entry;
 mod step;
 
 ghost use Rattle.rb_node.specs.Laws.{AnswersAreOne, AnswersAreReplayed, AnswersAreTheSame, ConfigsAreJournalLines};
-ghost use Rattle.rb_node.specs.Laws.{EntriesAreJournalLines, IdsStayOnce};
+ghost use Rattle.rb_node.specs.Laws.{EntriesAreJournalLines, IdsStayOnce, OtherBanksAreRefused};
 
 pub use fault::NodeFault;
 pub use node::Node;
@@ -40,7 +41,7 @@ pub fn replays_back()
 {
     rb_history::entries_are_read();
     rb_history::lines_are_single();
-    rb_history::read_events_fit();
+    rb_history::named_events_fit();
     rb_history::replies_fit();
 }
 
@@ -48,6 +49,11 @@ pub fn replays_back()
 /// entries and the site after it.
 pub fn answers_are_one()
     ensures { AnswersAreOne }
+{}
+
+/// A line of another bank is answered by refusal 26. It changes nothing and is never recorded.
+pub fn other_banks_are_refused()
+    ensures { OtherBanksAreRefused }
 {}
 
 /// No two entries of a site have one id, if its lines are answered: an answer leaves none where there were none. And an

@@ -8,7 +8,7 @@ ghost use Rattle.rb_node.specs.Asked.{first_asked};
 
 use crate::asked_site::AskedSite;
 use crate::fault::NodeFault;
-use rb_history::{LineFault, open_config, write_config};
+use rb_history::{BankName, LineFault, open_config, write_config};
 use rb_money::Config;
 use rb_site::Message;
 use std::alloc::{AllocError, Global};
@@ -38,12 +38,13 @@ impl Model for Node {
 }
 
 impl Node {
-    /// The site `me` (0 to 15) of the configuration on a line, before any event.
+    /// The site `me` (0 to 15) of the configuration on a line, before any event. If the bank has a name, each message
+    /// has it: those that are sent, and those that come.
     ///
     /// Errors: `BadConfig` if the line is none; `NoSite` if it has no such site; `OutOfMemory`.
-    pub fn open(alloc: Global, line: &[u8], me: u8) -> Result<Node, NodeFault>
+    pub fn open(alloc: Global, line: &[u8], me: u8, bank: BankName) -> Result<Node, NodeFault>
         ensures opened { IfOk result (λ node. (s : Settings) × (config_on line.now ≡ Some s) × (me < s.sites)
-            × (node.site ≡ first_asked s me)) }
+            × (node.site ≡ first_asked s me bank)) }
         ensures bad { result ≡ Err NodeFault.BadConfig → config_on line.now ≡ None }
         ensures no_site { result ≡ Err NodeFault.NoSite → (s : Settings) × (config_on line.now ≡ Some s)
             × (s.sites ≤ me) }
@@ -58,7 +59,7 @@ impl Node {
         if me >= config.sites() {
             return Err(NodeFault::NoSite);
         }
-        let site = AskedSite::open(alloc, &config, me)?;
+        let site = AskedSite::open(alloc, &config, me, bank)?;
         Ok(Node {
             alloc,
             config,

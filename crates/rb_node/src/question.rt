@@ -8,7 +8,7 @@ ghost use Rattle.rb_node.specs.Asked.{without_ids};
 ghost use Rattle.rb_node.specs.LineAnswers.{question_on, question_text};
 
 use crate::{Node, NodeFault};
-use rb_history::{LineFault, Question, read_question};
+use rb_history::{LineFault, Question, read_question_to};
 use rb_lines::text_on;
 use std::alloc::AllocError;
 
@@ -17,14 +17,14 @@ impl Node {
     #[tactic(auto, unfolding(crate::specs::LineAnswers::question_on))]
     fn question_of(&self, line: &[u8]) -> Result<Question, NodeFault>
         ensures read { MatchResult result
-            (λ question. question_on line.now ≡ Some question)
-            (λ why. (why ≡ NodeFault.BadLine → question_on line.now ≡ None) × IsLineFault why) }
+            (λ question. question_on self.now.site.bank line.now ≡ Some question)
+            (λ why. (why ≡ NodeFault.BadLine → question_on self.now.site.bank line.now ≡ None) × IsLineFault why) }
         ensures not_text { is_utf8 line.now ≡ false → result ≡ Err NodeFault.BadLine }
     {
         let Some(text) = text_on(line) else {
             return Err(NodeFault::BadLine);
         };
-        match read_question(self.alloc, text) {
+        match read_question_to(self.alloc, self.site.bank(), text) {
             Ok(question) => Ok(question),
             Err(LineFault::Bad) => Err(NodeFault::BadLine),
             Err(LineFault::OutOfMemory) => Err(NodeFault::OutOfMemory),
@@ -33,7 +33,8 @@ impl Node {
 
     /// The text of the answer to a question.
     fn append_question_text(&self, out: &mut Vec<u8>, question: Question) -> Result<(), AllocError>
-        ensures { Adds result out.old.items out.new.items (question_text (without_ids self.now.site) question) }
+        ensures { Adds result out.old.items out.new.items
+            (question_text self.now.site.bank (without_ids self.now.site) question) }
     {
         match question {
             Question::About => self.append_about(out),
@@ -49,9 +50,10 @@ impl Node {
         line: &[u8],
         answers: &mut Vec<u8>,
     ) -> Result<(), NodeFault>
-        ensures answered { OnOk result ((question : TheQuestion) × (question_on line.now ≡ Some question)
-            × (answers.new.items ≡ answers.old.items ++ question_text (without_ids self.now.site) question)) }
-        ensures bad { result ≡ Err NodeFault.BadLine → question_on line.now ≡ None }
+        ensures answered { OnOk result ((question : TheQuestion)
+            × (question_on self.now.site.bank line.now ≡ Some question) × (answers.new.items ≡ answers.old.items
+            ++ question_text self.now.site.bank (without_ids self.now.site) question)) }
+        ensures bad { result ≡ Err NodeFault.BadLine → question_on self.now.site.bank line.now ≡ None }
         ensures not_text { is_utf8 line.now ≡ false → result ≡ Err NodeFault.BadLine }
         ensures err { OnErr result (answers.new.items ≡ answers.old.items) }
         ensures refusals { IfErr result IsLineFault }

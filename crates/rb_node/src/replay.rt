@@ -14,7 +14,7 @@ ghost use Rattle.rb_node.specs.Replays.{IsNotNext, IsReadBack, IsReplayedAs};
 use crate::event_line::append_messages;
 use crate::{Node, NodeFault};
 use rb_history::write::append::append;
-use rb_history::{LineFault, RequestId, append_asked_line, read_asked_entry};
+use rb_history::{BankName, LineFault, RequestId, append_asked_line, read_asked_entry};
 use rb_lines::text_on;
 use rb_money::{Config, Refusal};
 use rb_site::{Entry, Event, Message, Reply};
@@ -24,15 +24,16 @@ use std::alloc::AllocError;
 pub(crate) fn append_sends(
     out: &mut Vec<u8>,
     config: &Config,
+    bank: &BankName,
     messages: &[Message],
 ) -> Result<(), AllocError>
-    ensures { Adds result out.old.items out.new.items (sent_line config.now messages.now) }
+    ensures { Adds result out.old.items out.new.items (sent_line config.now bank.now messages.now) }
 {
     if messages.is_empty() {
         return Ok(());
     }
     append(out, "{\"sends\":[")?;
-    append_messages(out, config, messages)?;
+    append_messages(out, config, bank, messages)?;
     append(out, "}\n")
 }
 
@@ -163,11 +164,12 @@ impl Node {
     /// Adds the line `{"sends":[M..]}` of what the last entry sent, with its line feed; nothing if it sent nothing.
     /// An `Err` means out of memory, and adds nothing.
     pub fn append_sent(&self, out: &mut Vec<u8>) -> Result<(), AllocError>
-        ensures ok { OnOk result (out.new.items ≡ out.old.items ++ sent_line self.now.site.settings self.now.sent) }
+        ensures ok { OnOk result (out.new.items ≡ out.old.items ++ sent_line self.now.site.settings
+            self.now.site.bank self.now.sent) }
         ensures err { OnErr result (out.new.items ≡ out.old.items) }
     {
         let before = out.len();
-        match append_sends(out, &self.config, self.sent.as_slice()) {
+        match append_sends(out, &self.config, self.site.bank(), self.sent.as_slice()) {
             Ok(()) => Ok(()),
             Err(refused) => {
                 out.truncate(before);

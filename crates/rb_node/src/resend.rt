@@ -59,17 +59,17 @@ impl Node {
         sent: Sent,
     ) -> Result<(), AllocError>
         ensures { Adds result out.old.items out.new.items
-            (sent_line self.now.site.settings (messages_of (asked_state self.now.site).ops sent)) }
+            (sent_line self.now.site.settings self.now.site.bank (messages_of (asked_state self.now.site).ops sent)) }
     {
         messages.clear();
         push_sent(messages, self.site.site().ledger().entries(), sent)?;
-        append_sends(out, &self.config, messages.as_slice())
+        append_sends(out, &self.config, self.site.bank(), messages.as_slice())
     }
 
     /// The lines of the messages of entries.
     fn append_all_again(&self, out: &mut Vec<u8>, entries: &[SentEntry]) -> Result<(), AllocError>
         ensures { Adds result out.old.items out.new.items
-            (lines_again self.now.site.settings (asked_state self.now.site).ops entries.now) }
+            (lines_again self.now.site.settings self.now.site.bank (asked_state self.now.site).ops entries.now) }
     {
         let mut messages = Vec::new(self.alloc);
         for entry in entries {
@@ -81,7 +81,8 @@ impl Node {
     /// The messages of up to `most` of the last entries, a line for each that sent any, and then the answer's line,
     /// which says how many these are.
     pub(crate) fn append_resent(&self, out: &mut Vec<u8>, most: u32) -> Result<(), AllocError>
-        ensures { Adds result out.old.items out.new.items (question_text (without_ids self.now.site) (Resend most)) }
+        ensures { Adds result out.old.items out.new.items (question_text self.now.site.bank
+            (without_ids self.now.site) (Resend most)) }
     {
         let skipped = self.site.site().len().saturating_sub(most);
         let entries = self.site.site().sent_since(skipped);

@@ -31,11 +31,11 @@ first_known : (input : Option (List ℕ)) (config : List ℕ) (number : ℕ) (pe
 first_known None config number pending left w = tt
 first_known (Some all) config number pending left w = (number, lines_of (pending ++ w.rest), w.behind)
 
-module _ (all : Bool) (me most number : ℕ) (input left : Option (List ℕ)) (file config pending : List ℕ)
+module _ (all : Bool) (me : ℕ) (bank : List ℕ) (most number : ℕ) (input left : Option (List ℕ)) (file config pending : List ℕ)
     (x : SeenAsked) (first sends : List ℕ)
-    (opens : OpensSite config me most file x first sends) (waits : IfSome input (WaitsBehind config number pending left)) where
+    (opens : OpensSite config me bank most file x first sends) (waits : IfSome input (WaitsBehind config number pending left)) where
   -- the site that was opened is the one that the input and the journal say
-  pub starts : Starts me input (recovered file) x
+  pub starts : Starts me bank input (recovered file) x
   starts = record {
     config = config;
     is_of = opens.is_of;
@@ -48,7 +48,7 @@ module _ (all : Bool) (me most number : ℕ) (input left : Option (List ℕ)) (f
 
   -- what it may leave at any moment is what the whole run may leave
   pub run_behind : (output c d : List ℕ) → IsNewOrAnswered all (recovered file) x sends number (served_input pending left) output c d
-      → IsSiteRun all me most input file output c d
+      → IsSiteRun all me bank most input file output c d
   run_behind output c d (inl still) = inl (inr (record { start = x; starts = starts; still_new = still }))
   run_behind output c d (inr has) = inr (record {
     start = x;
@@ -62,7 +62,7 @@ module _ (all : Bool) (me most number : ℕ) (input left : Option (List ℕ)) (f
   -- how it ends is how the whole run ends
   pub ends_behind : (output : List ℕ) (still : Option (List ℕ)) (now : List (List ℕ)) (said : List ℕ) (ended : Result ℕ ServeFault)
       → AnswersAll all x sends number (served_input pending left) still output now said ended
-      → AnswersBehind all me most input still (recovered file) output now said ended
+      → AnswersBehind all me bank most input still (recovered file) output now said ended
   ends_behind output still now said ended a = record {
     start = x;
     starts = starts;
@@ -74,7 +74,7 @@ module _ (all : Bool) (me most number : ℕ) (input left : Option (List ℕ)) (f
 
   -- where the site's journal is full, the whole run's is
   pub full_behind : IsFull (SiteAnswers all) number (served_input pending left) x (journal_of x)
-      → IsFullBehind all me input (recovered file)
+      → IsFullBehind all me bank input (recovered file)
   full_behind full = record {
     start = x;
     starts = starts;

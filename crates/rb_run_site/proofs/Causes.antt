@@ -33,19 +33,19 @@ first_line_is (Some all) (Some rest) number p e n w len fits at_front end =
     )
 
 -- no first line was found
-pub first_cause : (me : ℕ) (input left : Option (List ℕ)) (file pending : List ℕ) (why : SiteFault) → IsFirstLineFault why
-    → IfSome input (λ all. FindsFirst (Err why) all pending left) → IsOpeningCause me input left file why
-first_cause me None left file p NoConfig is found = tt
-first_cause me (Some all) left file p NoConfig is found = found.0
-first_cause me input left file p (LongLine k) is found = found
-first_cause me input left file p Read is found = found
-first_cause me input left file p OutOfMemory is found = tt
-first_cause me input left file p _ is found = absurd is
+pub first_cause : (me : ℕ) (bank : List ℕ) (input left : Option (List ℕ)) (file pending : List ℕ) (why : SiteFault) → IsFirstLineFault why
+    → IfSome input (λ all. FindsFirst (Err why) all pending left) → IsOpeningCause me bank input left file why
+first_cause me bank None left file p NoConfig is found = tt
+first_cause me bank (Some all) left file p NoConfig is found = found.0
+first_cause me bank input left file p (LongLine k) is found = found
+first_cause me bank input left file p Read is found = found
+first_cause me bank input left file p OutOfMemory is found = tt
+first_cause me bank input left file p _ is found = absurd is
 
-module _ (me : ℕ) (input left : Option (List ℕ)) (file : List ℕ) (number : ℕ) (line : List ℕ)
+module _ (me : ℕ) (bank : List ℕ) (input left : Option (List ℕ)) (file : List ℕ) (number : ℕ) (line : List ℕ)
     (first : IfSome input (λ all. (later : List (List ℕ)) × IsBehindBlanks number (line ∷ later) all)) where
   -- the line is no configuration, or has no such site
-  pub node_cause : (why : SiteFault) → EndsNode line number me why → IsOpeningCause me input left file why
+  pub node_cause : (why : SiteFault) → EndsNode line number me why → IsOpeningCause me bank input left file why
   node_cause (BadConfig n) ends = record { number = number; line = line; first = first; holds = ends }
   node_cause NoSite ends = record { number = number; line = line; first = first; holds = ends }
   node_cause NoConfig ends = absurd ends
@@ -59,9 +59,9 @@ module _ (me : ℕ) (input left : Option (List ℕ)) (file : List ℕ) (number :
   node_cause _ ends = tt
 
   -- the file isn't replayed
-  pub file_cause : (old : SeenAsked) → IsOf line me old → old ≡ first_asked old.settings me → (why : SiteFault)
+  pub file_cause : (old : SeenAsked) → IsOf line me bank old → old ≡ first_asked old.settings me bank → (why : SiteFault)
       → EndsFile old file why
-      → IsOpeningCause me input left file why
+      → IsOpeningCause me bank input left file why
   file_cause old is begins AnotherJournal ends = record {
     number = number;
     line = line;

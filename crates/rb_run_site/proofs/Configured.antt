@@ -42,30 +42,31 @@ behind (Some all) (Some rest) number p e n w len fits at_front end =
     }
 
 -- a site before any event has nothing to replay
-pub first_replayed : (old : SeenAsked) (me : ℕ) → me < old.settings.sites → old ≡ first_asked old.settings me
+pub first_replayed : (old : SeenAsked) (me : ℕ) (bank : List ℕ) → me < old.settings.sites → old ≡ first_asked old.settings me bank
     → IsReplayed (without_ids old)
-first_replayed old me low begins =
+first_replayed old me bank low begins =
     subst (λ x. IsReplayed (without_ids x)) (sym begins) (record { within = low; replays = tt; room = omega arith })
 
-first_read : (old : SeenAsked) (me : ℕ) → old ≡ first_asked old.settings me → IsReadWhole old
-first_read old me begins = subst IsReadWhole (sym begins) tt
+first_read : (old : SeenAsked) (me : ℕ) (bank : List ℕ) → old ≡ first_asked old.settings me bank → IsReadWhole old
+first_read old me bank begins = subst IsReadWhole (sym begins) tt
 
 -- nor has it an id
-pub first_once : (old : SeenAsked) (me : ℕ) → old ≡ first_asked old.settings me → AreIdsOnce old.asked
-first_once old me begins = subst (λ (x : SeenAsked). AreIdsOnce x.asked) (sym begins) none_once
+pub first_once : (old : SeenAsked) (me : ℕ) (bank : List ℕ) → old ≡ first_asked old.settings me bank → AreIdsOnce old.asked
+first_once old me bank begins = subst (λ (x : SeenAsked). AreIdsOnce x.asked) (sym begins) none_once
 
 -- the site that a file is replayed at is the configuration's
-pub opened : (config : List ℕ) (me most : ℕ) (old new : SeenAsked) (file first sends : List ℕ) → IsOf config me old
-    → old ≡ first_asked old.settings me → OpensFile old new file first sends most → OpensSite config me most file new first sends
-opened config me most old new file first sends is begins o = record {
+pub opened : (config : List ℕ) (me : ℕ) (bank : List ℕ) (most : ℕ) (old new : SeenAsked) (file first sends : List ℕ) → IsOf config me bank old
+    → old ≡ first_asked old.settings me bank → OpensFile old new file first sends most → OpensSite config me bank most file new first sends
+opened config me bank most old new file first sends is begins o = record {
   is_of = record {
     configured = is.configured ∙ ap Some (sym o.settings);
     me_is = o.me ∙ is.me_is;
+    bank_is = o.bank ∙ is.bank_is;
     within = subst (λ c. me < c.sites) (sym o.settings) is.within;
   };
-  replayed = o.replayed (first_replayed old me is.within begins);
-  read = o.read (first_read old me begins);
-  once = o.once (first_once old me begins);
+  replayed = o.replayed (first_replayed old me bank is.within begins);
+  read = o.read (first_read old me bank begins);
+  once = o.once (first_once old me bank begins);
   journal = o.journal;
   begins = o.begins;
   undamaged = o.undamaged;

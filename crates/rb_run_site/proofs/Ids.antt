@@ -106,15 +106,15 @@ once_more x y none once before between later p q e same = by first.mid first.is 
         last second.mid (is ∙ ap (λ a. before ++ a ∷ mid) at ∙ ap (λ l. before ++ p ∷ l) second.is) second.rest_is
 
 -- where no two entries have one id, that of an entry isn't known before it
-pub unknown_before : (s : Settings) (me : ℕ) (ys zs : List AskedEntry) (y : AskedEntry) → AreIdsOnce (ys ++ y ∷ zs)
-    → known_of (record { settings = s; me = me; asked = ys }) y.id ≡ None
-unknown_before s me ys zs y once = by y.id refl
+pub unknown_before : (s : Settings) (me : ℕ) (bank : List ℕ) (ys zs : List AskedEntry) (y : AskedEntry) → AreIdsOnce (ys ++ y ∷ zs)
+    → known_of (record { settings = s; me = me; bank = bank; asked = ys }) y.id ≡ None
+unknown_before s me bank ys zs y once = by y.id refl
   where
     behind : (before later : List AskedEntry) (p : AskedEntry) → ys ≡ before ++ p ∷ later
         → ys ++ y ∷ zs ≡ before ++ p ∷ (later ++ y ∷ zs)
     behind before later p e = ap (λ l. l ++ y ∷ zs) e ∙ append_assoc before (p ∷ later) (y ∷ zs)
 
-    by : (id : List ℕ) → y.id ≡ id → known_of (record { settings = s; me = me; asked = ys }) id ≡ None
+    by : (id : List ℕ) → y.id ≡ id → known_of (record { settings = s; me = me; bank = bank; asked = ys }) id ≡ None
     by [] is = refl
     by (b ∷ bs) is = none_from s (first_site me) (b ∷ bs) ys
         (λ before later p e same. absurd (cc (once before later zs p y (behind before later p e) (same ∙ sym is), same)))

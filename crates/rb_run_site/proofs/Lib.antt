@@ -19,3 +19,4 @@ mod Served
 mod Stepped
 mod Taken
 mod Turned
+mod Refused

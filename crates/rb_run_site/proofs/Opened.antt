@@ -19,12 +19,13 @@ use Rattle.rb_run_site.proofs.Stepped.{all_replayed}
 
 -- the lines of a file that isn't damaged are replayed: it is the journal of the site after them
 pub replayed_file : (old new : SeenAsked) (file entries sends sends_after : List ℕ) (most count : ℕ)
-    → old ≡ first_asked old.settings old.me
+    → old ≡ first_asked old.settings old.me old.bank
     → IsIntact file → BeginsWith file (journal_head old.settings) entries → count ≡ length (recovered entries) → sends ≡ []
     → ReplaysLines old new (recovered entries) (count - most) sends sends_after → OpensFile old new file [] sends_after most
 replayed_file old new file entries sends sends_after most count first intact begins counted none r =
     let s : new.settings ≡ old.settings = ap (λ (x : SeenAsked). x.settings) r.goes_on.entries in
     let m : new.me ≡ old.me = ap (λ (x : SeenAsked). x.me) r.goes_on.entries in
+    let k : new.bank ≡ old.bank = ap (λ (x : SeenAsked). x.bank) r.goes_on.entries in
     let has : new.asked ≡ r.entries =
     ap (λ (x : SeenAsked). x.asked) r.goes_on.entries ∙ ap (λ (x : SeenAsked). x.asked ++ r.entries) first in
     let alone : entries_alone new.asked ≡ entries_alone r.entries = ap entries_alone has in
@@ -39,6 +40,7 @@ replayed_file old new file entries sends sends_after most count first intact beg
     record {
       settings = s;
       me = m;
+      bank = k;
       replayed = λ was. subst IsReplayed (sym r.goes_on.after) (all_replayed (without_ids old) (events_of (entries_alone r.entries)) was);
       read = λ was. subst (Each (IsReadBack new.settings new.me)) (sym has)
           (subst (λ i. Each (IsReadBack new.settings i) r.entries) (sym m)
@@ -47,10 +49,11 @@ replayed_file old new file entries sends sends_after most count first intact beg
       journal = inr journal;
       begins = inr (journal, refl);
       undamaged = inr (λ nothing. absurd (cc (journal, nothing)), intact);
-      sends_are = r.sends_are ∙ ap (λ l. l ++ resent old.settings (asked_state old) (count - most) (entries_alone r.entries)) none
-          ∙ ap (λ t. resent old.settings t (count - most) (entries_alone r.entries)) (ap asked_state first)
-          ∙ ap (λ n. resent old.settings (first_site old.me) (n - most) (entries_alone r.entries)) many
-          ∙ sym (ap (λ c. resent c (first_site new.me) (length (entries_alone new.asked) - most) (entries_alone new.asked)) s
-          ∙ ap (λ i. resent old.settings (first_site i) (length (entries_alone new.asked) - most) (entries_alone new.asked)) m
-          ∙ ap (λ xs. resent old.settings (first_site old.me) (length (entries_alone new.asked) - most) xs) alone);
+      sends_are = r.sends_are ∙ ap (λ l. l ++ resent old.settings old.bank (asked_state old) (count - most) (entries_alone r.entries)) none
+          ∙ ap (λ t. resent old.settings old.bank t (count - most) (entries_alone r.entries)) (ap asked_state first)
+          ∙ ap (λ n. resent old.settings old.bank (first_site old.me) (n - most) (entries_alone r.entries)) many
+          ∙ sym (ap (λ c. resent c new.bank (first_site new.me) (length (entries_alone new.asked) - most) (entries_alone new.asked)) s
+          ∙ ap (λ b. resent old.settings b (first_site new.me) (length (entries_alone new.asked) - most) (entries_alone new.asked)) k
+          ∙ ap (λ i. resent old.settings old.bank (first_site i) (length (entries_alone new.asked) - most) (entries_alone new.asked)) m
+          ∙ ap (λ xs. resent old.settings old.bank (first_site old.me) (length (entries_alone new.asked) - most) xs) alone);
     }

@@ -37,7 +37,7 @@ pub record Replaying (old now : SeenAsked) (lines rest : List ℕ) (skipped left
   pub number_is : number ≡ 2 + length entries
   pub few : number + length rest ≤ 2 + length lines
   pub left_is : left ≡ skipped - length entries
-  pub sends_are : sends_now ≡ sends ++ resent old.settings (asked_state old) skipped (entries_alone entries)
+  pub sends_are : sends_now ≡ sends ++ resent old.settings old.bank (asked_state old) skipped (entries_alone entries)
 
 -- ---- one entry more
 
@@ -81,23 +81,23 @@ goes_on_more old mid new xs x g free unknown reply is = record {
 }
 
 -- what was sent again, once an entry more is replayed
-resent_more : (s : Settings) (t : ModelSite) (k : ℕ) (xs : List Entry) (x : Entry) → resent s t k (xs ++ x ∷ [])
-    ≡ resent s t k xs ++ (if (k - length xs) == 0 then sent_line s (sent_at s (after_events s t (events_of xs)) x.event) else [])
-resent_more s t zero [] x = append-nil _
-resent_more s t (suc k) [] x =
+resent_more : (s : Settings) (bank : List ℕ) (t : ModelSite) (k : ℕ) (xs : List Entry) (x : Entry) → resent s bank t k (xs ++ x ∷ [])
+    ≡ resent s bank t k xs ++ (if (k - length xs) == 0 then sent_line s bank (sent_at s (after_events s t (events_of xs)) x.event) else [])
+resent_more s bank t zero [] x = append-nil _
+resent_more s bank t (suc k) [] x =
     let more : (suc k - 0) ≡ suc k = omega arith in
     let some : (suc k == 0) ≡ false = grind (arith, nat_tests) in
-    sym (ap (λ n. if n == 0 then sent_line s (sent_at s t x.event) else []) more
-    ∙ ap (λ b. if b then sent_line s (sent_at s t x.event) else []) some)
-resent_more s t zero (y ∷ xs) x =
-    ap (λ l. sent_line s (sent_at s t y.event) ++ l) (resent_more s (after_event s t y.event) zero xs x)
-    ∙ ap (λ n. sent_line s (sent_at s t y.event) ++ (resent s (after_event s t y.event) zero xs
-    ++ (if n == 0 then sent_line s (sent_at s (after_events s (after_event s t y.event) (events_of xs)) x.event) else [])))
+    sym (ap (λ n. if n == 0 then sent_line s bank (sent_at s t x.event) else []) more
+    ∙ ap (λ b. if b then sent_line s bank (sent_at s t x.event) else []) some)
+resent_more s bank t zero (y ∷ xs) x =
+    ap (λ l. sent_line s bank (sent_at s t y.event) ++ l) (resent_more s bank (after_event s t y.event) zero xs x)
+    ∙ ap (λ n. sent_line s bank (sent_at s t y.event) ++ (resent s bank (after_event s t y.event) zero xs
+    ++ (if n == 0 then sent_line s bank (sent_at s (after_events s (after_event s t y.event) (events_of xs)) x.event) else [])))
     (let less : 0 - length xs ≡ 0 - length (y ∷ xs) = omega arith in less)
-    ∙ sym (append_assoc (sent_line s (sent_at s t y.event)) (resent s (after_event s t y.event) zero xs) _)
-resent_more s t (suc k) (y ∷ xs) x = resent_more s (after_event s t y.event) k xs x
-    ∙ ap (λ n. resent s (after_event s t y.event) k xs
-    ++ (if n == 0 then sent_line s (sent_at s (after_events s (after_event s t y.event) (events_of xs)) x.event) else []))
+    ∙ sym (append_assoc (sent_line s bank (sent_at s t y.event)) (resent s bank (after_event s t y.event) zero xs) _)
+resent_more s bank t (suc k) (y ∷ xs) x = resent_more s bank (after_event s t y.event) k xs x
+    ∙ ap (λ n. resent s bank (after_event s t y.event) k xs
+    ++ (if n == 0 then sent_line s bank (sent_at s (after_events s (after_event s t y.event) (events_of xs)) x.event) else []))
     (let same : k - length xs ≡ suc k - length (y ∷ xs) = omega arith in same)
 
 -- one line more is replayed
@@ -113,16 +113,18 @@ one_more old mid new lines rest line later skipped left number again sends mid_s
     let many : length ys ≡ length xs = length-map xs (λ (y : AskedEntry). y.entry) in
     let s : mid.settings ≡ old.settings = ap (λ (y : SeenAsked). y.settings) i.goes_on.entries in
     let m : mid.me ≡ old.me = ap (λ (y : SeenAsked). y.me) i.goes_on.entries in
+    let k : mid.bank ≡ old.bank = ap (λ (y : SeenAsked). y.bank) i.goes_on.entries in
     let t : asked_state mid ≡ after_events old.settings (asked_state old) (events_of ys) =
     ap state_of i.goes_on.after ∙ state_after (without_ids old) (events_of ys) in
-    let word : List ℕ = if again then sent_line mid.settings (sent_at mid.settings (asked_state mid) x.entry.event) else [] in
+    let word : List ℕ = if again then sent_line mid.settings mid.bank (sent_at mid.settings (asked_state mid) x.entry.event) else [] in
     let left_is : left ≡ skipped - length ys = i.left_is ∙ ap (λ n. skipped - n) (sym many) in
-    let said : (if again then sent_line mid.settings (sent_at mid.settings (asked_state mid) x.entry.event) else [])
+    let said : (if again then sent_line mid.settings mid.bank (sent_at mid.settings (asked_state mid) x.entry.event) else [])
     ≡ (if (skipped - length ys) == 0
-    then sent_line old.settings (sent_at old.settings (after_events old.settings (asked_state old) (events_of ys)) x.entry.event) else []) =
-    ap (λ b. if b then sent_line mid.settings (sent_at mid.settings (asked_state mid) x.entry.event) else []) (test ∙ ap (λ n. n == 0) left_is)
-    ∙ ap (λ c. if (skipped - length ys) == 0 then sent_line c (sent_at c (asked_state mid) x.entry.event) else []) s
-    ∙ ap (λ u. if (skipped - length ys) == 0 then sent_line old.settings (sent_at old.settings u x.entry.event) else []) t in
+    then sent_line old.settings old.bank (sent_at old.settings (after_events old.settings (asked_state old) (events_of ys)) x.entry.event) else []) =
+    ap (λ b. if b then sent_line mid.settings mid.bank (sent_at mid.settings (asked_state mid) x.entry.event) else []) (test ∙ ap (λ n. n == 0) left_is)
+    ∙ ap (λ c. if (skipped - length ys) == 0 then sent_line c mid.bank (sent_at c (asked_state mid) x.entry.event) else []) s
+    ∙ ap (λ b. if (skipped - length ys) == 0 then sent_line old.settings b (sent_at old.settings (asked_state mid) x.entry.event) else []) k
+    ∙ ap (λ u. if (skipped - length ys) == 0 then sent_line old.settings old.bank (sent_at old.settings u x.entry.event) else []) t in
     record {
       entries = xs ++ x ∷ [];
       goes_on = goes_on_more old mid new.site xs x i.goes_on r.replayed.free r.replayed.unknown r.replayed.reply r.replayed.site;
@@ -139,8 +141,8 @@ one_more old mid new lines rest line later skipped left number again sends mid_s
       few = omega (arith, i.few, split.shorter);
       left_is = omega (arith, i.left_is, longer);
       sends_are = r.sends_are ∙ ap (λ l. l ++ word) i.sends_are
-          ∙ append_assoc sends (resent old.settings (asked_state old) skipped ys) word
-          ∙ ap (λ l. sends ++ (resent old.settings (asked_state old) skipped ys ++ l)) said
-          ∙ ap (λ l. sends ++ l) (sym (resent_more old.settings (asked_state old) skipped ys x.entry))
-          ∙ ap (λ es. sends ++ resent old.settings (asked_state old) skipped es) (sym (map-append (λ (y : AskedEntry). y.entry) xs (x ∷ [])));
+          ∙ append_assoc sends (resent old.settings old.bank (asked_state old) skipped ys) word
+          ∙ ap (λ l. sends ++ (resent old.settings old.bank (asked_state old) skipped ys ++ l)) said
+          ∙ ap (λ l. sends ++ l) (sym (resent_more old.settings old.bank (asked_state old) skipped ys x.entry))
+          ∙ ap (λ es. sends ++ resent old.settings old.bank (asked_state old) skipped es) (sym (map-append (λ (y : AskedEntry). y.entry) xs (x ∷ [])));
     }

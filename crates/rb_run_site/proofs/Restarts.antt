@@ -61,7 +61,7 @@ turn_read replays x t is (all, a) read = by (is_long t.line) a.answered
     by : (b : Bool) → IsAnswer all b x t.number t.line t.added t.text t.after → IsReadWhole t.after
     by true bad = subst IsReadWhole (sym bad.same) read
     by false (inl answer) = own answer
-    by false (inr bad) = subst IsReadWhole (sym bad.2.same) read
+    by false (inr bad) = subst IsReadWhole (sym bad.3.same) read
 
 turns_read : AnswersAreReplayed → (x : SeenAsked) (turns : List (Turn SeenAsked)) → IsReplayed (without_ids x)
     → AreTurns AnswersEither x turns
@@ -84,7 +84,7 @@ turn_once stay x t (all, a) once = by (is_long t.line) a.answered
     by : (b : Bool) → IsAnswer all b x t.number t.line t.added t.text t.after → AreIdsOnce t.after.asked
     by true bad = same bad.same
     by false (inl answer) = stay all x t.after t.line t.text (concat t.added) answer once
-    by false (inr bad) = same bad.2.same
+    by false (inr bad) = same bad.3.same
 
 -- nor do all turns
 pub turns_once : IdsStayOnce → (x : SeenAsked) (turns : List (Turn SeenAsked)) → AreTurns AnswersEither x turns
@@ -114,11 +114,11 @@ same_settings reads s t c d e =
     let read : Some s ≡ Some t = sym (reads s c) ∙ ap config_at text ∙ reads t d in
     cc
 
--- sites of one number that have one journal, and are read back, are the same
-same_site : ConfigsAreRead → (x y : SeenAsked) → IsConfigured x.settings → IsConfigured y.settings → x.me ≡ y.me
+-- sites of one number and one bank that have one journal, and are read back, are the same
+same_site : ConfigsAreRead → (x y : SeenAsked) → IsConfigured x.settings → IsConfigured y.settings → x.me ≡ y.me → x.bank ≡ y.bank
     → IsReadWhole x
     → IsReadWhole y → journal_of x ≡ journal_of y → x ≡ y
-same_site reads x y c d m h k e =
+same_site reads x y c d m b h k e =
     let head : journal_head x.settings ≡ journal_head y.settings = cc in
     let s : x.settings ≡ y.settings = same_settings reads x.settings y.settings c d head in
     let rest : lines_of_entries x.settings x.me x.asked ≡ lines_of_entries y.settings y.me y.asked = cc in
@@ -127,7 +127,7 @@ same_site reads x y c d m h k e =
     let whole : Each (IsReadBack x.settings x.me) y.asked =
     subst (λ i. Each (IsReadBack x.settings i) y.asked) (sym m) (subst (λ t. Each (IsReadBack t y.me) y.asked) (sym s) k) in
     let same : x.asked ≡ y.asked = same_entries x.settings x.me x.asked y.asked h whole lines in
-    λ i. record { settings = s i; me = m i; asked = same i }
+    λ i. record { settings = s i; me = m i; bank = b i; asked = same i }
 
 -- ---- the laws
 
@@ -148,15 +148,16 @@ config_is l s e = at (is_utf8 l) e
     at false e = absurd (cc)
 
 -- a site that a run starts with is of a configuration
-is_configured : ReadConfigsAreConfigured → (me : ℕ) (input : Option (List ℕ)) (lines : List (List ℕ)) (x : SeenAsked)
-    → Starts me input lines x → IsConfigured x.settings
-is_configured read me input lines x starts =
+is_configured : ReadConfigsAreConfigured → (me : ℕ) (bank : List ℕ) (input : Option (List ℕ)) (lines : List (List ℕ)) (x : SeenAsked)
+    → Starts me bank input lines x → IsConfigured x.settings
+is_configured read me bank input lines x starts =
     read starts.config x.settings (config_is starts.config x.settings starts.is_of.configured)
 
 -- what all runs so far come to
-record Whole (me : ℕ) (start : SeenAsked) (turns : List (Turn SeenAsked)) (file : List ℕ) : Type 0 where
+record Whole (me : ℕ) (bank : List ℕ) (start : SeenAsked) (turns : List (Turn SeenAsked)) (file : List ℕ) : Type 0 where
   configured : IsConfigured start.settings
   number : start.me ≡ me
+  named : start.bank ≡ bank
   replayed : IsReplayed (without_ids start)
   read : IsReadWhole start
   once : AreIdsOnce start.asked
@@ -165,25 +166,26 @@ record Whole (me : ℕ) (start : SeenAsked) (turns : List (Turn SeenAsked)) (fil
   intact : IsIntact file
 
 -- a file that isn't without lines is the journal of the site that a run starts with
-its_journal : (me : ℕ) (input : Option (List ℕ)) (lines : List (List ℕ)) (x y : SeenAsked) → Starts me input lines x
+its_journal : (me : ℕ) (bank : List ℕ) (input : Option (List ℕ)) (lines : List (List ℕ)) (x y : SeenAsked) → Starts me bank input lines x
     → lines ≡ journal_of y → journal_of x ≡ journal_of y
-its_journal me input lines x y starts is = by starts.journal
+its_journal me bank input lines x y starts is = by starts.journal
   where
-    by : ((lines ≡ []) × (x ≡ first_asked x.settings x.me)) ⊎ (lines ≡ journal_of x) → journal_of x ≡ journal_of y
+    by : ((lines ≡ []) × (x ≡ first_asked x.settings x.me x.bank)) ⊎ (lines ≡ journal_of x) → journal_of x ≡ journal_of y
     by (inl none) = absurd (let e : [] ≡ journal_of y = sym none.0 ∙ is in cc)
     by (inr same) = sym same ∙ is
 
 -- a run starts with the site that the turns led to
-next_is : RestartLaws → (me : ℕ) (start : SeenAsked) (turns : List (Turn SeenAsked)) (file : List ℕ)
-    → Whole me start turns file
-    → (input : Option (List ℕ)) (x : SeenAsked) → Starts me input (recovered file) x → x ≡ state_after start turns
-next_is laws me start turns file w input x starts =
+next_is : RestartLaws → (me : ℕ) (bank : List ℕ) (start : SeenAsked) (turns : List (Turn SeenAsked)) (file : List ℕ)
+    → Whole me bank start turns file
+    → (input : Option (List ℕ)) (x : SeenAsked) → Starts me bank input (recovered file) x → x ≡ state_after start turns
+next_is laws me bank start turns file w input x starts =
     let last = state_after start turns in
     let all : TakesTurns start.settings start turns = turns_taken start.settings start turns refl w.replayed w.are in
-    same_site laws.configs x last (is_configured laws.configured me input (recovered file) x starts)
-    (subst IsConfigured (sym all.settings) w.configured) (starts.is_of.me_is ∙ sym (all.me ∙ w.number)) starts.read
+    same_site laws.configs x last (is_configured laws.configured me bank input (recovered file) x starts)
+    (subst IsConfigured (sym all.settings) w.configured) (starts.is_of.me_is ∙ sym (all.me ∙ w.number))
+    (starts.is_of.bank_is ∙ sym (all.bank ∙ w.named)) starts.read
     (turns_read laws.replays start turns w.replayed w.are w.read)
-    (its_journal me input (recovered file) x last starts (w.lines_are ∙ sym all.journal))
+    (its_journal me bank input (recovered file) x last starts (w.lines_are ∙ sym all.journal))
 
 turns_both : (x : SeenAsked) (ts us : List (Turn SeenAsked)) → AreTurns AnswersEither x ts
     → AreTurns AnswersEither (state_after x ts) us
@@ -192,17 +194,18 @@ turns_both x [] us h k = k
 turns_both x (t ∷ ts) us h k = (h.0, turns_both t.after ts us h.1 k)
 
 -- one run more
-longer : RestartLaws → (all : Bool) (me most : ℕ) (input : Option (List ℕ)) (start : SeenAsked) (turns : List (Turn SeenAsked)) (file output c d : List ℕ)
-    → Whole me start turns file → (run : HasRun all me most input (recovered file) output c d)
-    → Whole me start (turns ++ run.answered.turns) c
-longer laws all me most input start turns file output c d w run =
+longer : RestartLaws → (all : Bool) (me : ℕ) (bank : List ℕ) (most : ℕ) (input : Option (List ℕ)) (start : SeenAsked) (turns : List (Turn SeenAsked)) (file output c d : List ℕ)
+    → Whole me bank start turns file → (run : HasRun all me bank most input (recovered file) output c d)
+    → Whole me bank start (turns ++ run.answered.turns) c
+longer laws all me bank most input start turns file output c d w run =
     let us = run.answered.turns in
     let added : List (List ℕ) = lines_added us in
-    let same : run.start ≡ state_after start turns = next_is laws me start turns file w input run.start run.starts in
+    let same : run.start ≡ state_after start turns = next_is laws me bank start turns file w input run.start run.starts in
     let taken : TakesTurns start.settings start turns = turns_taken start.settings start turns refl w.replayed w.are in
     record {
       configured = w.configured;
       number = w.number;
+      named = w.named;
       replayed = w.replayed;
       read = w.read;
       once = w.once;
@@ -214,12 +217,13 @@ longer laws all me most input start turns file output c d w run =
       intact = run.answered.intact;
     }
 
-whole : RestartLaws → (me : ℕ) (start : SeenAsked) (turns : List (Turn SeenAsked)) (file : List ℕ)
-    → HasRestarted me start turns file
-    → Whole me start turns file
-whole laws me start turns file (Once {all = all} run) = record {
-  configured = is_configured laws.configured me _ _ run.start run.starts;
+whole : RestartLaws → (me : ℕ) (bank : List ℕ) (start : SeenAsked) (turns : List (Turn SeenAsked)) (file : List ℕ)
+    → HasRestarted me bank start turns file
+    → Whole me bank start turns file
+whole laws me bank start turns file (Once {all = all} run) = record {
+  configured = is_configured laws.configured me bank _ _ run.start run.starts;
   number = run.starts.is_of.me_is;
+  named = run.starts.is_of.bank_is;
   replayed = run.starts.replayed;
   read = run.starts.read;
   once = run.starts.once;
@@ -227,42 +231,44 @@ whole laws me start turns file (Once {all = all} run) = record {
   lines_are = run.answered.lines_are;
   intact = run.answered.intact;
 }
-whole laws me start turns file (Again {all = all} {turns = ts} {file = f} {most = k} {input = i} {output = o} {d = d} before run) =
-    longer laws all me k i start ts f o file d (whole laws me start ts f before) run
+whole laws me bank start turns file (Again {all = all} {turns = ts} {file = f} {most = k} {input = i} {output = o} {d = d} before run) =
+    longer laws all me bank k i start ts f o file d (whole laws me bank start ts f before) run
 
 -- a run over the file that the last crash left starts with the site that the turns led to
 pub goes_on : RestartLaws → RestartsGoOn
-goes_on laws me start turns file runs input x starts = next_is laws me start turns file (whole laws me start turns file runs) input x starts
+goes_on laws me bank start turns file runs input x starts = next_is laws me bank start turns file (whole laws me bank start turns file runs) input x starts
 
 -- all runs are one
 pub one_run : RestartLaws → RestartedRunsAreOne
-one_run laws me start turns file runs =
-    let w = whole laws me start turns file runs in
+one_run laws me bank start turns file runs =
+    let w = whole laws me bank start turns file runs in
     (w.are, are_steps start turns file w.replayed w.are w.lines_are)
 
 -- the file that the last crash left is never at fault
 pub is_taken : RestartLaws → RestartsAreTaken
-is_taken laws me start turns file runs config number fault of is (s, on, low, ends) =
-    let w = whole laws me start turns file runs in
+is_taken laws me bank start turns file runs config number fault of is (s, on, low, ends) =
+    let w = whole laws me bank start turns file runs in
     let last = state_after start turns in
     let all : TakesTurns start.settings start turns = turns_taken start.settings start turns refl w.replayed w.are in
     let same : Some s ≡ Some start.settings = sym on ∙ of in
     let settings : s ≡ last.settings = let e : s ≡ start.settings = cc in e ∙ sym all.settings in
     let number_is : me ≡ last.me = sym (all.me ∙ w.number) in
     let read = turns_read laws.replays start turns w.replayed w.are w.read in
-    let same_settings = subst (λ c. EndsFile (first_asked c me) file fault) settings ends in
+    let named : bank ≡ last.bank = sym (all.bank ∙ w.named) in
+    let same_settings = subst (λ c. EndsFile (first_asked c me bank) file fault) settings ends in
+    let same_bank = subst (λ b. EndsFile (first_asked last.settings me b) file fault) named same_settings in
     not_at_fault last file (w.lines_are ∙ sym all.journal) w.intact all.replayed read (turns_once laws.ids start turns w.are w.once) fault is
-    (subst (λ i. EndsFile (first_asked last.settings i) file fault) number_is same_settings)
+    (subst (λ i. EndsFile (first_asked last.settings i last.bank) file fault) number_is same_bank)
 
 -- nor is the one that a crash left of a new journal
 pub new_is_taken : NewJournalsAreTaken
-new_is_taken me input lines output c d run config number fault of is (s, on, low, ends) =
+new_is_taken me bank input lines output c d run config number fault of is (s, on, low, ends) =
     let same : Some s ≡ Some run.start.settings = sym on ∙ of in
     let settings : s ≡ run.start.settings = cc in
-    new_not_at_fault (first_asked s me) c (subst (λ t. IsNew c (journal_head t)) (sym settings) run.still_new.is_new) fault is ends
+    new_not_at_fault (first_asked s me bank) c (subst (λ t. IsNew c (journal_head t)) (sym settings) run.still_new.is_new) fault is ends
 
 -- however often a site ran and crashed, no two entries have one id
 pub asked_once : RestartLaws → AskedOnce
-asked_once laws me start turns file runs =
-    let w = whole laws me start turns file runs in
+asked_once laws me bank start turns file runs =
+    let w = whole laws me bank start turns file runs in
     turns_once laws.ids start turns w.are w.once

@@ -22,7 +22,7 @@ nothing_added old new added grown same =
 -- the answer to a line whose id an entry has
 same_answer : AnswersAreTheSame → (old : SeenAsked) (t : Turn SeenAsked) → AreIdsOnce old.asked
     → AnswersEither old t.number t.line t.added t.text t.after → is_long t.line ≡ false
-    → (asked : AskedEvent) → asked_event_on old.settings t.line ≡ Some asked → asked.id ≢ []
+    → (asked : AskedEvent) → asked_event_on old.settings old.bank t.line ≡ Some asked → asked.id ≢ []
     → (before behind : List AskedEntry) (x : AskedEntry) → old.asked ≡ before ++ x ∷ behind → x.id ≡ asked.id
     → IsSameAnswer old before x asked t
 same_answer law old t once (all, a) short asked on some before behind x at id =

@@ -12,7 +12,7 @@ use Rattle.rb_site.specs.Events.{replies_to_events, sent_at}
 use Rattle.rb_site.specs.Seen.{SeenSite, next_sites, state_of}
 use Rattle.rb_journal.specs.Turns.{Answers, AreTurns, Turn, state_after}
 use Rattle.rb_history.specs.Ids.{AskedEntry, AskedEvent, may_be_asked}
-use Rattle.rb_node.specs.Answers.{IsSiteAnswer, asked_answer_json, asked_event_on, kept_events, line_of, reply_kept}
+use Rattle.rb_node.specs.Answers.{IsOtherBankAnswer, IsSiteAnswer, asked_answer_json, asked_event_on, kept_events, line_of, reply_kept}
 use Rattle.rb_node.specs.Asked.{SeenAsked, asked_state, entries_alone, without_ids, with_id, with_more}
 use Rattle.rb_node.specs.LineAnswers.{IsQuestionAnswer, question_text}
 use Rattle.rb_run_site.specs.Asking.{AskingIsServing, IsKnownLine, IsLineWithoutId, IsStruckLine}
@@ -20,7 +20,7 @@ use Rattle.rb_run_site.specs.Asking.{IsTurnOfKnown, IsTurnWithoutId, ServesWitho
 use Rattle.rb_run_site.specs.Journals.{AnswersEither, IsAnswer, IsBadAnswer, SiteAnswers, journal_of, lines_of_entries}
 use Rattle.rb_run_site.proofs.EntryLines.{joined_lines}
 use Rattle.rb_run_site.proofs.SameAnswers.{nothing_added}
-use Rattle.rb_run_site.proofs.Stepped.{no_event}
+use Rattle.rb_run_site.proofs.Stepped.{no_event, other_no_event}
 use Rattle.rb_run_site.proofs.Turned.{journal_grows, recorded_with}
 
 -- ---- a site without its ids
@@ -48,7 +48,7 @@ struck_recorded id (x ∷ xs) =
 -- a site with more entries, without ids
 struck_more : (x : SeenAsked) (more : List AskedEntry)
     → strike (with_more x more) ≡ with_more (strike x) (map struck_id more)
-struck_more x more = ap (λ ys. record { settings = x.settings; me = x.me; asked = ys }) (map-append struck_id x.asked more)
+struck_more x more = ap (λ ys. record { settings = x.settings; me = x.me; bank = x.bank; asked = ys }) (map-append struck_id x.asked more)
 
 -- ---- one turn
 
@@ -86,7 +86,7 @@ module _ (all : Bool) (x : SeenAsked) (t : Turn SeenAsked)
     added = lines_of_entries x.settings x.me xs
 
     abbrev text_by : SeenSite → List ℕ
-    text_by y = line_of (asked_answer_json x.settings [] (reply_kept all y event) (sent_at x.settings (state_of y) event)
+    text_by y = line_of (asked_answer_json x.settings x.bank [] (reply_kept all y event) (sent_at x.settings (state_of y) event)
         (replies_to_events x.settings (state_of own.mid) (map Apply own.applied)))
 
     abbrev text : List ℕ
@@ -144,7 +144,7 @@ module _ (all : Bool) (x : SeenAsked) (t : Turn SeenAsked)
     }
 
   -- a turn that leaves the site as it was, by the same text to the same line
-  same_line : (asked_event_on x.settings t.line ≡ None) ⊎ (is_long t.line ≡ true) → t.after ≡ x
+  same_line : (asked_event_on x.settings x.bank t.line ≡ None) ⊎ (is_long t.line ≡ true) → t.after ≡ x
       → IsAnswer all (is_long t.line) (strike x) t.number t.line [] t.text (strike t.after) → Struck (SiteAnswers all) x t t.line
   same_line why same answer = record {
     added = [];
@@ -174,28 +174,40 @@ module _ (all : Bool) (x : SeenAsked) (t : Turn SeenAsked)
   question_struck q = record {
     question = q.question;
     is_question = q.is_question;
-    text_is = q.text_is ∙ ap (λ y. question_text y q.question) (sym (same_struck x));
+    text_is = q.text_is ∙ ap (λ y. question_text x.bank y q.question) (sym (same_struck x));
     after = ap strike q.after;
     entries_are = refl;
   }
 
+  other_struck : IsOtherBankAnswer x t.after t.line t.text (concat t.added)
+      → IsOtherBankAnswer (strike x) (strike t.after) t.line t.text []
+  other_struck o = record {
+    is_other = o.is_other;
+    text_is = o.text_is;
+    after = ap strike o.after;
+    entries_are = refl;
+  }
+
   -- a line without an event, or one that is too long
-  no_request : (asked_event_on x.settings t.line ≡ None) ⊎ (is_long t.line ≡ true) → Struck (SiteAnswers all) x t t.line
+  no_request : (asked_event_on x.settings x.bank t.line ≡ None) ⊎ (is_long t.line ≡ true) → Struck (SiteAnswers all) x t t.line
   no_request why = by (is_long t.line) refl why a.answered
     where
       to : (b : Bool) → is_long t.line ≡ b → IsAnswer all b (strike x) t.number t.line [] t.text (strike t.after)
           → IsAnswer all (is_long t.line) (strike x) t.number t.line [] t.text (strike t.after)
       to b is answer = subst (λ c. IsAnswer all c (strike x) t.number t.line [] t.text (strike t.after)) (sym is) answer
 
-      by : (b : Bool) → is_long t.line ≡ b → (asked_event_on x.settings t.line ≡ None) ⊎ (is_long t.line ≡ true)
+      by : (b : Bool) → is_long t.line ≡ b → (asked_event_on x.settings x.bank t.line ≡ None) ⊎ (is_long t.line ≡ true)
           → IsAnswer all b x t.number t.line t.added t.text t.after → Struck (SiteAnswers all) x t t.line
       by true long none bad = same_line (inr long) bad.same (to true long (bad_struck _ bad))
       by false short (inr long) answer = absurd (cc (short, long))
       by false short (inl none) (inl (inl own)) = absurd (cc (none, own.is_event))
       by false short (inl none) (inl (inr (inl known))) = absurd (cc (none, known.is_event))
-      by false short (inl none) (inl (inr (inr q))) = same_line (inl none) q.after (to false short (inl (inr (inr (question_struck q)))))
+      by false short (inl none) (inl (inr (inr (inl q)))) =
+          same_line (inl none) q.after (to false short (inl (inr (inr (inl (question_struck q))))))
+      by false short (inl none) (inl (inr (inr (inr o)))) =
+          same_line (inl none) o.after (to false short (inl (inr (inr (inr (other_struck o))))))
       by false short (inl none) (inr bad) =
-          same_line (inl none) bad.2.same (to false short (inr (none, bad.1, bad_struck _ bad.2)))
+          same_line (inl none) bad.3.same (to false short (inr (none, bad.1, bad.2, bad_struck _ bad.3)))
 
   -- a request whose id isn't known
   request : (struck : List ℕ) → IsStruckLine x t.line struck → Struck (SiteAnswers all) x t struck
@@ -206,7 +218,8 @@ module _ (all : Bool) (x : SeenAsked) (t : Turn SeenAsked)
       by (inl (inr (inl known))) =
           let same : known.asked ≡ is.asked = (let e : Some known.asked ≡ Some is.asked = sym known.is_event ∙ is.is_event in cc e) in
           absurd (cc (same, known.is_known, is.unknown))
-      by (inl (inr (inr q))) = absurd (cc (no_event x.settings t.line q.question q.is_question, is.is_event))
+      by (inl (inr (inr (inl q)))) = absurd (cc (no_event x.settings x.bank t.line q.question q.is_question, is.is_event))
+      by (inl (inr (inr (inr o)))) = absurd (cc (other_no_event x.settings x.bank t.line o.is_other, is.is_event))
       by (inr bad) = absurd (cc (bad.0, is.is_event))
 
   -- each turn but one of a known id is a turn without its id
@@ -227,7 +240,8 @@ module _ (all : Bool) (x : SeenAsked) (t : Turn SeenAsked)
         after = again.after;
         none = nothing_added x t.after t.added a.after again.after;
       }
-      by (inl (inr (inr q))) = absurd (cc (no_event x.settings t.line q.question q.is_question, on))
+      by (inl (inr (inr (inl q)))) = absurd (cc (no_event x.settings x.bank t.line q.question q.is_question, on))
+      by (inl (inr (inr (inr o)))) = absurd (cc (other_no_event x.settings x.bank t.line o.is_other, on))
       by (inr bad) = absurd (cc (bad.0, on))
 
 -- ---- turns

@@ -23,11 +23,10 @@ use Rattle.rb_journal.specs.Turns.{AreTurns, Turn, lines_added, state_after}
 use Rattle.std.proofs.Common.{Some, None}
 use Rattle.std.specs.Str.{is_utf8}
 use Rattle.rb_history.specs.declared.question.Question.{Question}
-use Rattle.rb_history.specs.Entries.{asked_event_of_line}
 use Rattle.rb_history.specs.Ids.{AskedEntry}
-use Rattle.rb_history.specs.Questions.{question_of_line}
-use Rattle.rb_history.proofs.Public.Questions.{question_no_event}
-use Rattle.rb_node.specs.Answers.{IsSiteAnswer, asked_event_on, is_kept}
+use Rattle.rb_history.specs.Banks.{event_to, is_of_other, question_to}
+use Rattle.rb_history.proofs.Public.Banks.{question_none_to, nothing_asked}
+use Rattle.rb_node.specs.Answers.{IsSiteAnswer, asked_event_on, is_kept, other_bank_on}
 use Rattle.rb_node.specs.Asked.{SeenAsked, entries_alone, without_ids}
 use Rattle.rb_node.specs.LineAnswers.{question_on}
 use Rattle.rb_lines.specs.Lines.{is_long}
@@ -130,17 +129,27 @@ events_recorded s x (e ∷ es) k r same is =
 -- the events that a turn recorded lead to the site after it
 record HasEvents (x : SeenAsked) (t : Turn SeenAsked) : Type 0 where
   events : List Event
-  on_line : AreEventsOf x.settings t.line events
+  on_line : AreEventsOf x.settings x.bank t.line events
   after : without_ids t.after ≡ next_sites (without_ids x) events
+  bank : t.after.bank ≡ x.bank
 
 -- a question is no event
-pub no_event : (s : Settings) (l : List ℕ) (q : Question) → question_on l ≡ Some q → asked_event_on s l ≡ None
+pub no_event : (s : Settings) (bank l : List ℕ) (q : Question) → question_on bank l ≡ Some q → asked_event_on s bank l ≡ None
 unfolding question_on asked_event_on
-no_event s l q asked = at (is_utf8 l) asked
+no_event s bank l q asked = at (is_utf8 l) asked
   where
-    at : (b : Bool) → cond b (question_of_line l) None ≡ Some q → cond b (asked_event_of_line s l) None ≡ None
-    at true asked = question_no_event s l q asked
+    at : (b : Bool) → cond b (question_to bank l) None ≡ Some q → cond b (event_to s bank l) None ≡ None
+    at true asked = question_none_to s bank l q asked
     at false asked = refl
+
+-- nor is a line of another bank
+pub other_no_event : (s : Settings) (bank l : List ℕ) → other_bank_on s bank l ≡ true → asked_event_on s bank l ≡ None
+unfolding other_bank_on asked_event_on
+other_no_event s bank l other = at (is_utf8 l) other
+  where
+    at : (b : Bool) → cond b (is_of_other s bank l) false ≡ true → cond b (event_to s bank l) None ≡ None
+    at true other = (nothing_asked s bank l other).0
+    at false other = refl
 
 -- a site after two lists of events
 sites_both : (x : SeenSite) (es fs : List Event) → next_sites x (es ++ fs) ≡ next_sites (next_sites x es) fs
@@ -166,26 +175,26 @@ events_kept all x t entries own =
       events = es ++ names;
       on_line = inl (own.asked, own.applied, own.is_event, kept_or_not keep e own.applied);
       after = own.after ∙ ap (λ m. next_sites m names) own.mid_is ∙ sym (sites_both (without_ids x) es names);
+      bank = ap (λ (y : SeenAsked). y.bank) own.recorded_are;
     }
 
 events_in : (x : SeenAsked) (t : Turn SeenAsked) → AnswersEither x t.number t.line t.added t.text t.after
     → HasEvents x t
 events_in x t (all, a) = by (is_long t.line) refl a.answered
   where
+    same : t.after ≡ x → AreEventsOf x.settings x.bank t.line [] → HasEvents x t
+    same is on =
+        record { events = []; on_line = on; after = ap without_ids is; bank = ap (λ (y : SeenAsked). y.bank) is }
+
     by : (b : Bool) → is_long t.line ≡ b → IsAnswer all b x t.number t.line t.added t.text t.after → HasEvents x t
-    by true long bad = record { events = []; on_line = inr (refl, inr long); after = ap without_ids bad.same }
+    by true long bad = same bad.same (inr (refl, inr long))
     by false short (inl (inl own)) = events_kept all x t (concat t.added) own
-    by false short (inl (inr (inl known))) = record {
-      events = [];
-      on_line = inl (known.asked, [], known.is_event, inr refl);
-      after = ap without_ids known.after;
-    }
-    by false short (inl (inr (inr asked))) = record {
-      events = [];
-      on_line = inr (refl, inl (no_event x.settings t.line asked.question asked.is_question));
-      after = ap without_ids asked.after;
-    }
-    by false short (inr bad) = record { events = []; on_line = inr (refl, inl bad.0); after = ap without_ids bad.2.same }
+    by false short (inl (inr (inl known))) = same known.after (inl (known.asked, [], known.is_event, inr refl))
+    by false short (inl (inr (inr (inl asked)))) =
+        same asked.after (inr (refl, inl (no_event x.settings x.bank t.line asked.question asked.is_question)))
+    by false short (inl (inr (inr (inr o)))) =
+        same o.after (inr (refl, inl (other_no_event x.settings x.bank t.line o.is_other)))
+    by false short (inr bad) = same bad.3.same (inr (refl, inl bad.0))
 
 -- the steps of a turn lead from a site that restarts to one that does
 pub record TakesTurn (s : Settings) (x : SeenAsked) (t : Turn SeenAsked) : Type 0 where
@@ -196,6 +205,7 @@ pub record TakesTurn (s : Settings) (x : SeenAsked) (t : Turn SeenAsked) : Type 
   pub replayed : IsReplayed (without_ids t.after)
   pub settings : t.after.settings ≡ x.settings
   pub me : t.after.me ≡ x.me
+  pub bank : t.after.bank ≡ x.bank
 
 -- a turn is steps
 pub turn_taken : (s : Settings) (x : SeenAsked) (t : Turn SeenAsked) → s ≡ x.settings → IsReplayed (without_ids x)
@@ -211,6 +221,7 @@ turn_taken s x t same is a = record {
   replayed = subst IsReplayed (sym next) (all_replayed (without_ids x) es is);
   settings = ap (λ (y : SeenSite). y.settings) next ∙ settings_kept (without_ids x) es;
   me = ap (λ (y : SeenSite). y.me) next ∙ me_kept (without_ids x) es;
+  bank = (events_in x t a).bank;
 }
   where
     es : List Event
@@ -257,6 +268,7 @@ pub record TakesTurns (s : Settings) (x : SeenAsked) (turns : List (Turn SeenAsk
   pub replayed : IsReplayed (without_ids (state_after x turns))
   pub settings : (state_after x turns).settings ≡ x.settings
   pub me : (state_after x turns).me ≡ x.me
+  pub bank : (state_after x turns).bank ≡ x.bank
   pub journal : journal_of (state_after x turns) ≡ journal_of x ++ lines_added turns
 
 -- turns are steps
@@ -271,6 +283,7 @@ turns_taken s x [] same is are = record {
   replayed = is;
   settings = refl;
   me = refl;
+  bank = refl;
   journal = sym (append-nil (journal_of x));
 }
 turns_taken s x (t ∷ turns) same is are =
@@ -285,6 +298,7 @@ turns_taken s x (t ∷ turns) same is are =
       replayed = rest.replayed;
       settings = rest.settings ∙ one.settings;
       me = rest.me ∙ one.me;
+      bank = rest.bank ∙ one.bank;
       journal = rest.journal ∙ ap (λ ls. ls ++ lines_added turns) are.0.1.after
           ∙ append_assoc (journal_of x) t.added (lines_added turns);
     }
@@ -304,8 +318,8 @@ on_disk s me x lines f g is same = record {
   entries_are = sym (ap (λ t. with_replies t (first_site me) (take (length x.asked) (events_of ys))) (sym f)
       ∙ ap (λ i. with_replies x.settings (first_site i) (take (length x.asked) (events_of ys))) (sym g)
       ∙ ap (with_replies x.settings (first_site x.me)) whole ∙ entries_replayed x.settings (first_site x.me) ys is.replays);
-  lines_are = same ∙ ap (λ t. journal_of (record { settings = t; me = x.me; asked = x.asked })) f
-      ∙ ap (λ i. journal_of (record { settings = s; me = i; asked = x.asked })) g;
+  lines_are = same ∙ ap (λ t. journal_of (record { settings = t; me = x.me; bank = []; asked = x.asked })) f
+      ∙ ap (λ i. journal_of (record { settings = s; me = i; bank = []; asked = x.asked })) g;
 }
   where
     ys : List Entry
@@ -334,10 +348,10 @@ are_steps x turns file is are lines =
     }
 
 -- what has run is steps
-pub stepped_run : (all : Bool) (me most : ℕ) (input : Option (List ℕ)) (file output c d : List ℕ)
-    → IsSiteRun all me most input file output c d → IsRunOfSteps all me most input file output c d
-stepped_run all me most input file output c d (inl at) = inl at
-stepped_run all me most input file output c d (inr run) = inr (
+pub stepped_run : (all : Bool) (me : ℕ) (bank : List ℕ) (most : ℕ) (input : Option (List ℕ)) (file output c d : List ℕ)
+    → IsSiteRun all me bank most input file output c d → IsRunOfSteps all me bank most input file output c d
+stepped_run all me bank most input file output c d (inl at) = inl at
+stepped_run all me bank most input file output c d (inr run) = inr (
   run,
   are_steps run.start run.answered.turns c run.starts.replayed (by_either all run.start run.answered.turns run.answered.are)
       run.answered.lines_are,

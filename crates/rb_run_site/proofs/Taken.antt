@@ -81,7 +81,7 @@ record IsWhole (x : SeenAsked) (file : List ℕ) : Type 0 where
 
 module _ (x : SeenAsked) (file entries : List ℕ) (number : ℕ) (w : IsWhole x file)
     (begins : BeginsWith file (journal_head x.settings) entries)
-    (P : SeenAsked → List ℕ → Type 0) (stop : StopsReplay (first_asked x.settings x.me) (recovered entries) number P) where
+    (P : SeenAsked → List ℕ → Type 0) (stop : StopsReplay (first_asked x.settings x.me x.bank) (recovered entries) number P) where
   -- where a replay of it would stop
   at_entry : StopsAt x.settings x.me x.asked stop.entries stop.line
   at_entry =
@@ -91,18 +91,18 @@ module _ (x : SeenAsked) (file entries : List ℕ) (number : ℕ) (w : IsWhole x
       stops_at x.settings x.me x.asked stop.entries stop.line stop.later w.read stop.read (sym lines ∙ stop.lines_are)
 
   -- the site there has the entries before
-  mid_is : stop.mid ≡ record { settings = x.settings; me = x.me; asked = stop.entries }
+  mid_is : stop.mid ≡ record { settings = x.settings; me = x.me; bank = x.bank; asked = stop.entries }
   mid_is = stop.goes_on.entries
 
 -- no line of it is no entry
 no_bad_entry : (x : SeenAsked) (file entries : List ℕ) (number : ℕ) → IsWhole x file
     → BeginsWith file (journal_head x.settings) entries
-    → StopsReplay (first_asked x.settings x.me) (recovered entries) number IsNoEntry → ⊥
+    → StopsReplay (first_asked x.settings x.me x.bank) (recovered entries) number IsNoEntry → ⊥
 no_bad_entry x file entries number w begins stop =
     let at = at_entry x file entries number w begins IsNoEntry stop in
-    let none : IsNoEntry (record { settings = x.settings; me = x.me; asked = stop.entries }) stop.line =
+    let none : IsNoEntry (record { settings = x.settings; me = x.me; bank = x.bank; asked = stop.entries }) stop.line =
     subst (λ y. IsNoEntry y stop.line) (mid_is x file entries number w begins IsNoEntry stop) stop.stops in
-    let unknown = unknown_before x.settings x.me stop.entries at.rest at.next (subst AreIdsOnce at.is w.once) in
+    let unknown = unknown_before x.settings x.me x.bank stop.entries at.rest at.next (subst AreIdsOnce at.is w.once) in
     none at.next (ap (asked_entry_on x.settings) at.line_is ∙ at.read) unknown at.line_is
 
 -- the entries before it aren't a full history
@@ -117,18 +117,18 @@ not_full x mid ys y zs is was s has parts full =
 -- each is the site's next
 no_wrong_reply : (x : SeenAsked) (file entries : List ℕ) (number : ℕ) → IsWhole x file
     → BeginsWith file (journal_head x.settings) entries
-    → StopsReplay (first_asked x.settings x.me) (recovered entries) number IsOtherwise → ⊥
+    → StopsReplay (first_asked x.settings x.me x.bank) (recovered entries) number IsOtherwise → ⊥
 no_wrong_reply x file entries number w begins stop =
     by (subst (λ y. IsOtherwise y stop.line) (mid_is x file entries number w begins IsOtherwise stop) stop.stops)
   where
     old : SeenSite
-    old = without_ids (first_asked x.settings x.me)
+    old = without_ids (first_asked x.settings x.me x.bank)
 
     ys : List Entry
     ys = entries_alone stop.entries
 
     mid : SeenAsked
-    mid = record { settings = x.settings; me = x.me; asked = stop.entries }
+    mid = record { settings = x.settings; me = x.me; bank = x.bank; asked = stop.entries }
 
     at : StopsAt x.settings x.me x.asked stop.entries stop.line
     at = at_entry x file entries number w begins IsOtherwise stop
@@ -141,7 +141,7 @@ no_wrong_reply x file entries number w begins stop =
 
     was : IsReplayed (without_ids mid)
     was = subst IsReplayed (sym after)
-        (all_replayed old (events_of ys) (first_replayed (first_asked x.settings x.me) x.me w.replayed.within refl))
+        (all_replayed old (events_of ys) (first_replayed (first_asked x.settings x.me x.bank) x.me x.bank w.replayed.within refl))
 
     parts : entries_alone x.asked ≡ ys ++ at.next.entry ∷ entries_alone at.rest
     parts = ap entries_alone at.is ∙ map-append (λ (e : AskedEntry). e.entry) stop.entries (at.next ∷ at.rest)
@@ -169,7 +169,7 @@ no_wrong_reply x file entries number w begins stop =
 pub not_at_fault : (x : SeenAsked) (file : List ℕ) → recovered file ≡ journal_of x → IsIntact file
     → IsReplayed (without_ids x)
     → IsReadWhole x → AreIdsOnce x.asked → (fault : SiteFault) → IsFileFault fault
-    → EndsFile (first_asked x.settings x.me) file fault → ⊥
+    → EndsFile (first_asked x.settings x.me x.bank) file fault → ⊥
 not_at_fault x file lines intact is read once AnotherJournal of ends = ends.0 _ lines
 not_at_fault x file lines intact is read once (Damaged n) of (inl ends) = absurd (cc (lines, ends.1.0))
 not_at_fault x file lines intact is read once (Damaged n) of (inr ends) = ends.damaged intact

@@ -11,17 +11,16 @@ use Rattle.rb_site.specs.declared.event.Event.{Event}
 use Rattle.rb_site.specs.Events.{is_full}
 use Rattle.rb_site.specs.Seen.{SeenSite, next_site, next_sites, state_of, stepped}
 use Rattle.rb_site.proofs.Public.Seen.{settings-next}
-use Rattle.rb_history.specs.Entries.{asked_event_of_line}
 use Rattle.rb_history.specs.Ids.{AskedEntry, AskedEvent, IsIdOrNone, is_id, may_have_id}
 use Rattle.rb_history.specs.OneLine.{EntriesAreLines}
-use Rattle.rb_history.specs.Sites.{ReadEventsFit}
+use Rattle.rb_history.specs.Banks.{NamedEventsFit, event_to}
 use Rattle.rb_journal.specs.Lines.{IsBatch, recovered}
 use Rattle.rb_journal.specs.Turns.{IsTurn}
 use Rattle.rb_lines.specs.Lines.{is_long}
 use Rattle.rb_lines.specs.declared.limits.TheConstants.{LINE_LIMIT}
 use Rattle.std.proofs.Common.{◌≤◌, length, arith}
 use Rattle.std.proofs.lemmas.Bool.Decides.{nat_tests}
-use Rattle.rb_node.specs.Answers.{IsKnownAnswer, IsSiteAnswer, asked_event_on, line_of}
+use Rattle.rb_node.specs.Answers.{IsKnownAnswer, IsOtherBankAnswer, IsSiteAnswer, asked_event_on, line_of, other_bank_on}
 use Rattle.rb_node.specs.Asked.{SeenAsked, with_id, with_more}
 use Rattle.rb_node.specs.LineAnswers.{IsLineAnswer, IsQuestionAnswer, question_on}
 use Rattle.rb_run_site.specs.Journals.{IsAnswer, IsBadAnswer, SiteAnswers, bad_json, journal_head, journal_of, lines_of_entries}
@@ -55,27 +54,28 @@ abbrev pub recorded_with : List ℕ → List Entry → List AskedEntry
 recorded_with id xs = map (with_id id) xs
 
 -- the id that is read from a line is one, or there is none
-pub id_read : ReadEventsFit → (s : Settings) (l : List ℕ) (x : AskedEvent) → asked_event_on s l ≡ Some x
+pub id_read : NamedEventsFit → (s : Settings) (bank l : List ℕ) (x : AskedEvent) → asked_event_on s bank l ≡ Some x
     → IsIdOrNone x.id
 unfolding asked_event_on
-id_read fit s l x is = at (is_utf8 l) is
+id_read fit s bank l x is = at (is_utf8 l) is
   where
     of : (x.id ≡ []) ⊎ ((is_id x.id ≡ true) × (may_have_id x.event ≡ true)) → IsIdOrNone x.id
     of (inl none) = inl none
     of (inr some) = inr some.0
 
-    at : (b : Bool) → cond b (asked_event_of_line s l) None ≡ Some x → IsIdOrNone x.id
-    at true h = of (fit s l x h).1
+    at : (b : Bool) → cond b (event_to s bank l) None ≡ Some x → IsIdOrNone x.id
+    at true h = of (fit s bank l x h).1
     at false h = absurd (cc)
 
 -- what a site adds to the entries are lines of a journal
-pub batched : EntriesAreLines → ReadEventsFit → (all : Bool) (old new : SeenAsked) (line text entries : List ℕ)
+pub batched : EntriesAreLines → NamedEventsFit → (all : Bool) (old new : SeenAsked) (line text entries : List ℕ)
     → IsConfigured old.settings → IsLineAnswer all old new line text entries → IsBatch entries
 batched are fit all old new line text entries ok (inl a) =
-    let ids = ids_had a.asked.id a.recorded (id_read fit old.settings line a.asked a.is_event) in
+    let ids = ids_had a.asked.id a.recorded (id_read fit old.settings old.bank line a.asked a.is_event) in
     subst IsBatch (sym a.entries_are) (are_theirs are old.settings ok old.me (recorded_with a.asked.id a.recorded) ids).batch
 batched are fit all old new line text entries ok (inr (inl a)) = subst IsBatch (sym a.entries_are) refl
-batched are fit all old new line text entries ok (inr (inr a)) = subst IsBatch (sym a.entries_are) refl
+batched are fit all old new line text entries ok (inr (inr (inl a))) = subst IsBatch (sym a.entries_are) refl
+batched are fit all old new line text entries ok (inr (inr (inr a))) = subst IsBatch (sym a.entries_are) refl
 
 -- a line that isn't too long
 pub short_line : (l : List ℕ) → length l ≤ LINE_LIMIT → is_long l ≡ false
@@ -85,13 +85,13 @@ module _ (all : Bool) (old new : SeenAsked) (number : ℕ) (line words entries t
     (batch batch_after : List (List ℕ)) (ok : IsConfigured old.settings) (short : is_long line ≡ false)
     (said : text_after ≡ text ++ words) (more : batch_after ≡ batch ++ recovered entries) where
   -- the site took the line of an event: it is a turn
-  event_turned : EntriesAreLines → ReadEventsFit → IsSiteAnswer all old new line words entries
+  event_turned : EntriesAreLines → NamedEventsFit → IsSiteAnswer all old new line words entries
       → IsTurn (SiteAnswers all) old new (journal_of old) (journal_of new) batch batch_after number line text text_after
   event_turned are fit a =
       let xs = recorded_with a.asked.id a.recorded in
       let added = lines_of_entries old.settings old.me xs in
       let theirs = are_theirs are old.settings ok old.me xs
-      (ids_had a.asked.id a.recorded (id_read fit old.settings line a.asked a.is_event)) in
+      (ids_had a.asked.id a.recorded (id_read fit old.settings old.bank line a.asked a.is_event)) in
       let lines : recovered entries ≡ added = ap recovered a.entries_are ∙ theirs.lines in
       let grown : journal_of new ≡ journal_of old ++ added = ap journal_of a.recorded_are ∙ journal_grows old xs in
       let bytes : entries ≡ concat added = a.entries_are ∙ sym (joined_lines old.settings old.me xs) in
@@ -128,13 +128,15 @@ module _ (all : Bool) (old new : SeenAsked) (number : ℕ) (line words entries t
       }
 
   -- the site answered a line: it is a turn
-  pub turned : EntriesAreLines → ReadEventsFit → IsLineAnswer all old new line words entries
+  pub turned : EntriesAreLines → NamedEventsFit → IsLineAnswer all old new line words entries
       → IsTurn (SiteAnswers all) old new (journal_of old) (journal_of new) batch batch_after number line text text_after
   turned are fit (inl a) = event_turned are fit a
   turned are fit (inr (inl a)) =
       same_turned a.after a.entries_are (λ none. inr (inl (subst (IsKnownAnswer old new line words) none a)))
-  turned are fit (inr (inr a)) =
-      same_turned a.after a.entries_are (λ none. inr (inr (subst (IsQuestionAnswer old new line words) none a)))
+  turned are fit (inr (inr (inl a))) =
+      same_turned a.after a.entries_are (λ none. inr (inr (inl (subst (IsQuestionAnswer old new line words) none a))))
+  turned are fit (inr (inr (inr a))) =
+      same_turned a.after a.entries_are (λ none. inr (inr (inr (subst (IsOtherBankAnswer old new line words) none a))))
 
 -- the site answered that a line is bad, for this reason: it is a turn that changes nothing
 not_taken : (all : Bool) (old new : SeenAsked) (number : ℕ) (why line text text_after : List ℕ) (batch batch_after : List (List ℕ)) → IsConfigured old.settings
@@ -152,14 +154,15 @@ not_taken all old new number why line text text_after batch batch_after ok is sa
       text_is = said;
     }
 
--- the line is no event and no question
+-- the line is no event, no question and of no other bank
 pub bad_line : (all : Bool) (old new : SeenAsked) (number : ℕ) (line text text_after : List ℕ) (batch batch_after : List (List ℕ)) → IsConfigured old.settings
-    → is_long line ≡ false → asked_event_on old.settings line ≡ None → question_on line ≡ None → new ≡ old
+    → is_long line ≡ false → asked_event_on old.settings old.bank line ≡ None
+    → other_bank_on old.settings old.bank line ≡ false → question_on old.bank line ≡ None → new ≡ old
     → text_after ≡ text ++ line_of (bad_json (codes "line") number) → batch_after ≡ batch
     → IsTurn (SiteAnswers all) old new (journal_of old) (journal_of new) batch batch_after number line text text_after
-bad_line all old new number line text text_after batch batch_after ok short none unasked same said kept =
+bad_line all old new number line text text_after batch batch_after ok short none own unasked same said kept =
     not_taken all old new number (codes "line") line text text_after batch batch_after ok
-    (λ bad. subst (λ b. IsAnswer all b old number line [] (line_of (bad_json (codes "line") number)) new) (sym short) (inr (none, unasked, bad)))
+    (λ bad. subst (λ b. IsAnswer all b old number line [] (line_of (bad_json (codes "line") number)) new) (sym short) (inr (none, own, unasked, bad)))
     same said kept
 
 -- the line is too long

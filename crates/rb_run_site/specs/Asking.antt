@@ -16,8 +16,8 @@ use Rattle.rb_run_site.specs.Restarts.{HasRestarted}
 
 -- however often a site ran and crashed, no two entries of its journal have one id
 abbrev pub AskedOnce : Type 0
-AskedOnce = (me : ℕ) (start : SeenAsked) (turns : List (Turn SeenAsked)) (file : List ℕ)
-    → HasRestarted me start turns file → AreIdsOnce (state_after start turns).asked
+AskedOnce = (me : ℕ) (bank : List ℕ) (start : SeenAsked) (turns : List (Turn SeenAsked)) (file : List ℕ)
+    → HasRestarted me bank start turns file → AreIdsOnce (state_after start turns).asked
 
 -- ---- the same answer
 
@@ -28,7 +28,7 @@ pub record IsSameAnswer (old : SeenAsked) (before : List AskedEntry) (x : AskedE
     Type 0 where
   pub after : t.after ≡ old
   pub none : t.added ≡ []
-  pub again : x.entry.event ≡ asked.event → t.text ≡ line_of (again_json old.settings asked.id (record {
+  pub again : x.entry.event ≡ asked.event → t.text ≡ line_of (again_json old.settings old.bank asked.id (record {
     event = x.entry.event;
     reply = x.entry.reply;
     sent = sent_at old.settings (asked_state (record old { asked = before })) x.entry.event;
@@ -39,7 +39,7 @@ pub record IsSameAnswer (old : SeenAsked) (before : List AskedEntry) (x : AskedE
 abbrev pub SameAnswer : Type 0
 SameAnswer = (start : SeenAsked) (earlier : List (Turn SeenAsked)) (t : Turn SeenAsked) (later : List (Turn SeenAsked))
     → AreIdsOnce start.asked → AreTurns AnswersEither start (earlier ++ t ∷ later) → is_long t.line ≡ false
-    → (asked : AskedEvent) → asked_event_on (state_after start earlier).settings t.line ≡ Some asked → asked.id ≢ []
+    → (asked : AskedEvent) → asked_event_on (state_after start earlier).settings (state_after start earlier).bank t.line ≡ Some asked → asked.id ≢ []
     → (before behind : List AskedEntry) (x : AskedEntry) → (state_after start earlier).asked ≡ before ++ x ∷ behind
     → x.id ≡ asked.id → IsSameAnswer (state_after start earlier) before x asked t
 
@@ -56,22 +56,22 @@ strike x = record x { asked = map struck_id x.asked }
 -- the line isn't too long, and has an event of an id that the site knows
 abbrev pub IsKnownLine : SeenAsked → List ℕ → Type 0
 IsKnownLine x line = (asked : AskedEvent) × (known : Known) × (is_long line ≡ false)
-    × (asked_event_on x.settings line ≡ Some asked) × (known_of x asked.id ≡ Some known)
+    × (asked_event_on x.settings x.bank line ≡ Some asked) × (known_of x asked.id ≡ Some known)
 
 -- neither line is too long; the first has an event whose id, if it has one, the site doesn't know, and the second has
 -- the same event without an id
 pub record IsStruckLine (x : SeenAsked) (line struck : List ℕ) : Type 0 where
   pub asked : AskedEvent
-  pub is_event : asked_event_on x.settings line ≡ Some asked
+  pub is_event : asked_event_on x.settings x.bank line ≡ Some asked
   pub unknown : known_of x asked.id ≡ None
-  pub is_struck : asked_event_on x.settings struck ≡ Some (record { id = []; event = asked.event })
+  pub is_struck : asked_event_on x.settings x.bank struck ≡ Some (record { id = []; event = asked.event })
   pub short : is_long line ≡ false
   pub short_struck : is_long struck ≡ false
 
 -- the second line is the first without an id: of the same event, or the same line if it has no event or is too long
 abbrev pub IsLineWithoutId : SeenAsked → List ℕ → List ℕ → Type 0
 IsLineWithoutId x line struck = IsStruckLine x line struck
-    ⊎ ((struck ≡ line) × ((asked_event_on x.settings line ≡ None) ⊎ (is_long line ≡ true)))
+    ⊎ ((struck ≡ line) × ((asked_event_on x.settings x.bank line ≡ None) ⊎ (is_long line ≡ true)))
 
 -- the lines of turns, those whose id is known left out, and the others without their ids
 abbrev pub AreLinesWithoutIds : SeenAsked → List (Turn SeenAsked) → List (List ℕ) → Type 0
@@ -82,10 +82,10 @@ AreLinesWithoutIds x (t ∷ turns) lines = (IsKnownLine x t.line × AreLinesWith
 
 -- the second text is the first without an id: of the same reply, messages and replies to applications, or the same text
 -- if it has no id
-abbrev pub IsTextWithoutId : Settings → List ℕ → List ℕ → Type 0
-IsTextWithoutId s text struck = ((id : List ℕ) × (reply : Reply) × (sent : List Message) × (later : List Reply)
-    × (text ≡ line_of (asked_answer_json s id reply sent later))
-    × (struck ≡ line_of (asked_answer_json s [] reply sent later)))
+abbrev pub IsTextWithoutId : Settings → List ℕ → List ℕ → List ℕ → Type 0
+IsTextWithoutId s bank text struck = ((id : List ℕ) × (reply : Reply) × (sent : List Message) × (later : List Reply)
+    × (text ≡ line_of (asked_answer_json s bank id reply sent later))
+    × (struck ≡ line_of (asked_answer_json s bank [] reply sent later)))
     ⊎ (struck ≡ text)
 
 -- the second turn is the first without its id: the same entries, text and site but for ids
@@ -95,7 +95,7 @@ pub record IsTurnWithoutId (x : SeenAsked) (t u : Turn SeenAsked) : Type 0 where
   pub recorded : List AskedEntry
   pub added : t.added ≡ lines_of_entries x.settings x.me recorded
   pub added_struck : u.added ≡ lines_of_entries x.settings x.me (map struck_id recorded)
-  pub text : IsTextWithoutId x.settings t.text u.text
+  pub text : IsTextWithoutId x.settings x.bank t.text u.text
   pub after : u.after ≡ strike t.after
 
 -- a turn of a known id leaves the site as it was, and records nothing

@@ -28,21 +28,21 @@ pub record AnswersAll (all : Bool) (x : SeenAsked) (sends : List ℕ) (number : 
 
 -- the site that the input's first line and the journal's lines say answered what is behind, and the run over that ended
 -- so
-pub record AnswersBehind (all : Bool) (me most : ℕ) (input left : Option (List ℕ)) (lines : List (List ℕ))
+pub record AnswersBehind (all : Bool) (me : ℕ) (bank : List ℕ) (most : ℕ) (input left : Option (List ℕ)) (lines : List (List ℕ))
     (output : List ℕ)
     (now : List (List ℕ)) (said : List ℕ) (ended : Result ℕ ServeFault) : Type 0 where
   pub start : SeenAsked
-  pub starts : Starts me input lines start
+  pub starts : Starts me bank input lines start
   pub number : ℕ
   pub behind : Option (List ℕ)
   pub behind_is : IfSome input (AreBytesBehind number behind)
-  pub answered : AnswersAll all start (sent_again most (without_ids start)) number behind left output now said ended
+  pub answered : AnswersAll all start (sent_again start.bank most (without_ids start)) number behind left output now said ended
 
 -- the journal of the site that the input's first line and the journal's lines say, with what the first of the lines
 -- behind add, is full
-pub record IsFullBehind (all : Bool) (me : ℕ) (input : Option (List ℕ)) (lines : List (List ℕ)) : Type 0 where
+pub record IsFullBehind (all : Bool) (me : ℕ) (bank : List ℕ) (input : Option (List ℕ)) (lines : List (List ℕ)) : Type 0 where
   pub start : SeenAsked
-  pub starts : Starts me input lines start
+  pub starts : Starts me bank input lines start
   pub number : ℕ
   pub behind : Option (List ℕ)
   pub behind_is : IfSome input (AreBytesBehind number behind)

@@ -8,7 +8,7 @@ use Rattle.rb_history.specs.ConfigLines.{config_json}
 use Rattle.rb_history.specs.Entries.{asked_entry_json}
 use Rattle.rb_history.specs.Ids.{AskedEntry}
 use Rattle.rb_history.specs.Values.{number_json}
-use Rattle.rb_node.specs.Answers.{asked_event_on, line_of}
+use Rattle.rb_node.specs.Answers.{asked_event_on, line_of, other_bank_on}
 use Rattle.rb_node.specs.Asked.{SeenAsked}
 use Rattle.rb_node.specs.LineAnswers.{IsLineAnswer, question_on}
 
@@ -36,12 +36,13 @@ pub record IsBadAnswer (why : List ℕ) (old new : SeenAsked) (number : ℕ) (ad
   pub none : added ≡ []
 
 -- the answer to the line of this number, if all events are recorded or if those that change the site are, by whether the
--- line is too long: if so it is bad, whatever it is; else it is answered as an event or a question, or it is none
+-- line is too long: if so it is bad, whatever it is; else it is answered as an event, a question or a line of another bank,
+-- or it is none of these
 abbrev pub IsAnswer : Bool → Bool → SeenAsked → ℕ → List ℕ → List (List ℕ) → List ℕ → SeenAsked → Type 0
 IsAnswer all true old number line added text new = IsBadAnswer (codes "long") old new number added text
 IsAnswer all false old number line added text new = IsLineAnswer all old new line text (concat added)
-    ⊎ ((asked_event_on old.settings line ≡ None) × (question_on line ≡ None)
-    × IsBadAnswer (codes "line") old new number added text)
+    ⊎ ((asked_event_on old.settings old.bank line ≡ None) × (other_bank_on old.settings old.bank line ≡ false)
+    × (question_on old.bank line ≡ None) × IsBadAnswer (codes "line") old new number added text)
 
 -- the site, which records all events or those that change it, answers the line of this number by this text and is then
 -- the second; the lines of its new entries are these

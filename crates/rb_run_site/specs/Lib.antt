@@ -11,3 +11,4 @@ pub mod Runs
 pub mod Seals
 pub mod Starts
 pub mod Steps
+pub mod OtherBanks

@@ -26,13 +26,14 @@ IsToBegin lines x first = ((lines ≡ []) × (first ≡ journal_head x.settings)
 pub record OpensFile (old new : SeenAsked) (file first sends : List ℕ) (most : ℕ) : Type 0 where
   pub settings : new.settings ≡ old.settings
   pub me : new.me ≡ old.me
+  pub bank : new.bank ≡ old.bank
   pub replayed : IsReplayed (without_ids old) → IsReplayed (without_ids new)
   pub read : IsReadWhole old → IsReadWhole new
   pub once : AreIdsOnce old.asked → AreIdsOnce new.asked
   pub journal : IsJournalOf (recovered file) new
   pub begins : IsToBegin (recovered file) new first
   pub undamaged : IsUndamaged file (journal_head new.settings)
-  pub sends_are : sends ≡ sent_again most (without_ids new)
+  pub sends_are : sends ≡ sent_again new.bank most (without_ids new)
 
 -- why a site of a line isn't opened: the line, of this number, is no configuration; or it has no such site
 abbrev pub EndsNode : List ℕ → ℕ → ℕ → SiteFault → Type 0
@@ -65,9 +66,9 @@ EndsFile old file OutOfMemory = Unit {0}
 EndsFile old file _ = ⊥
 
 -- the site of the configuration on the line isn't opened over the file, for this fault
-abbrev pub EndsOpening : ℕ → List ℕ → SiteFault → ℕ → List ℕ → Type 0
-EndsOpening me file fault number line =
-    (s : Settings) × (config_on line ≡ Some s) × (me < s.sites) × EndsFile (first_asked s me) file fault
+abbrev pub EndsOpening : ℕ → List ℕ → List ℕ → SiteFault → ℕ → List ℕ → Type 0
+EndsOpening me bank file fault number line =
+    (s : Settings) × (config_on line ≡ Some s) × (me < s.sites) × EndsFile (first_asked s me bank) file fault
 
 -- of the input's first line that isn't blank, and of its number, this holds
 pub record HasFirstLine (input : Option (List ℕ)) (P : ℕ → List ℕ → Type 0) : Type 0 where
@@ -80,28 +81,28 @@ pub record HasFirstLine (input : Option (List ℕ)) (P : ℕ → List ℕ → Ty
 -- has only blank lines; its first line that isn't blank is at fault, or the file is; the file is sealed; a line is too
 -- long, and only blank lines are before it; or a read failed, and each whole line that was read is blank. Each other
 -- fault says nothing
-abbrev pub IsOpeningCause : ℕ → Option (List ℕ) → Option (List ℕ) → List ℕ → SiteFault → Type 0
-IsOpeningCause me input left file NoConfig = IfSome input (λ all. not_blank (lines_of all) ≡ [])
-IsOpeningCause me input left file (BadConfig n) =
+abbrev pub IsOpeningCause : ℕ → List ℕ → Option (List ℕ) → Option (List ℕ) → List ℕ → SiteFault → Type 0
+IsOpeningCause me bank input left file NoConfig = IfSome input (λ all. not_blank (lines_of all) ≡ [])
+IsOpeningCause me bank input left file (BadConfig n) =
     HasFirstLine input (λ number line. EndsNode line number me (BadConfig n))
-IsOpeningCause me input left file NoSite = HasFirstLine input (λ number line. EndsNode line number me NoSite)
-IsOpeningCause me input left file AnotherJournal = HasFirstLine input (EndsOpening me file AnotherJournal)
-IsOpeningCause me input left file (BadEntry n) = HasFirstLine input (EndsOpening me file (BadEntry n))
-IsOpeningCause me input left file (WrongReply n) = HasFirstLine input (EndsOpening me file (WrongReply n))
-IsOpeningCause me input left file (Damaged n) = HasFirstLine input (EndsOpening me file (Damaged n))
-IsOpeningCause me input left file Sealed = IsSealed file
-IsOpeningCause me input left file (LongLine k) = IfSome input (IsLongFirst k)
-IsOpeningCause me input left file Read = IfSome input (HasReadBlanks left)
-IsOpeningCause me input left file _ = Unit {0}
+IsOpeningCause me bank input left file NoSite = HasFirstLine input (λ number line. EndsNode line number me NoSite)
+IsOpeningCause me bank input left file AnotherJournal = HasFirstLine input (EndsOpening me bank file AnotherJournal)
+IsOpeningCause me bank input left file (BadEntry n) = HasFirstLine input (EndsOpening me bank file (BadEntry n))
+IsOpeningCause me bank input left file (WrongReply n) = HasFirstLine input (EndsOpening me bank file (WrongReply n))
+IsOpeningCause me bank input left file (Damaged n) = HasFirstLine input (EndsOpening me bank file (Damaged n))
+IsOpeningCause me bank input left file Sealed = IsSealed file
+IsOpeningCause me bank input left file (LongLine k) = IfSome input (IsLongFirst k)
+IsOpeningCause me bank input left file Read = IfSome input (HasReadBlanks left)
+IsOpeningCause me bank input left file _ = Unit {0}
 
 -- the site of the configuration on a line went on by the file's entries
-pub record OpensSite (config : List ℕ) (me most : ℕ) (file : List ℕ) (x : SeenAsked)
+pub record OpensSite (config : List ℕ) (me : ℕ) (bank : List ℕ) (most : ℕ) (file : List ℕ) (x : SeenAsked)
     (first sends : List ℕ) : Type 0 where
-  pub is_of : IsOf config me x
+  pub is_of : IsOf config me bank x
   pub replayed : IsReplayed (without_ids x)
   pub read : IsReadWhole x
   pub once : AreIdsOnce x.asked
   pub journal : IsJournalOf (recovered file) x
   pub begins : IsToBegin (recovered file) x first
   pub undamaged : IsUndamaged file (journal_head x.settings)
-  pub sends_are : sends ≡ sent_again most (without_ids x)
+  pub sends_are : sends ≡ sent_again x.bank most (without_ids x)

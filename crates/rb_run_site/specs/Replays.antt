@@ -31,7 +31,7 @@ pub record ReplaysLines (old new : SeenAsked) (lines : List (List ℕ)) (skipped
   pub goes_on : GoesOnBy old new entries
   pub lines_are : lines ≡ lines_of_entries old.settings old.me entries
   pub read : Each (IsReadBack old.settings old.me) entries
-  pub sends_are : sends_after ≡ sends ++ resent old.settings (asked_state old) skipped (entries_alone entries)
+  pub sends_are : sends_after ≡ sends ++ resent old.settings old.bank (asked_state old) skipped (entries_alone entries)
 
 -- a line is no entry of the site, as it is written, or one whose id is that of an entry before
 abbrev pub IsNoEntry : SeenAsked → List ℕ → Type 0
@@ -57,7 +57,7 @@ pub record ReplaysLine (old : SeenAsked) (new : SeenNode) (line : List ℕ) (aga
   pub read : IsReadBack old.settings old.me entry
   pub replayed : IsReplayedAs old new entry
   pub sends_are : sends_after ≡ sends
-      ++ (if again then sent_line old.settings (sent_at old.settings (asked_state old) entry.entry.event) else [])
+      ++ (if again then sent_line old.settings old.bank (sent_at old.settings (asked_state old) entry.entry.event) else [])
 
 -- why the line of this number isn't replayed
 abbrev pub StopsAtLine : SeenAsked → List ℕ → ℕ → SiteFault → Type 0

@@ -43,27 +43,27 @@ IsNewOrAnswered all lines x sends number bytes output c d =
     IsStillNew lines x output c d ⊎ HasAnswered all x sends number bytes output c d
 
 -- the site that the input's first line and the journal's lines say has answered some of the lines behind
-pub record HasRun (all : Bool) (me most : ℕ) (input : Option (List ℕ)) (lines : List (List ℕ))
+pub record HasRun (all : Bool) (me : ℕ) (bank : List ℕ) (most : ℕ) (input : Option (List ℕ)) (lines : List (List ℕ))
     (output c d : List ℕ) : Type 0 where
   pub start : SeenAsked
-  pub starts : Starts me input lines start
+  pub starts : Starts me bank input lines start
   pub number : ℕ
   pub behind : Option (List ℕ)
   pub behind_is : IfSome input (AreBytesBehind number behind)
-  pub answered : HasAnswered all start (sent_again most (without_ids start)) number behind output c d
+  pub answered : HasAnswered all start (sent_again start.bank most (without_ids start)) number behind output c d
 
 -- the journal of the site that the input's first line says had no lines, and is still a new one
-pub record HasBegun (me : ℕ) (input : Option (List ℕ)) (lines : List (List ℕ)) (output c d : List ℕ) : Type 0 where
+pub record HasBegun (me : ℕ) (bank : List ℕ) (input : Option (List ℕ)) (lines : List (List ℕ)) (output c d : List ℕ) : Type 0 where
   pub start : SeenAsked
-  pub starts : Starts me input lines start
+  pub starts : Starts me bank input lines start
   pub still_new : IsStillNew lines start output c d
 
 -- nothing has changed, or a journal that was new still is
-abbrev pub HasNotRun : ℕ → Option (List ℕ) → List ℕ → List ℕ → List ℕ → List ℕ → Type 0
-HasNotRun me input file output c d = ((c ≡ file) × (d ≡ output)) ⊎ HasBegun me input (recovered file) output c d
+abbrev pub HasNotRun : ℕ → List ℕ → Option (List ℕ) → List ℕ → List ℕ → List ℕ → List ℕ → Type 0
+HasNotRun me bank input file output c d = ((c ≡ file) × (d ≡ output)) ⊎ HasBegun me bank input (recovered file) output c d
 
 -- at any moment nothing has changed yet, or the journal is still new, or the site has answered some lines: whatever was
 -- put out of their answers, their entries are in the file
-abbrev pub IsSiteRun : Bool → ℕ → ℕ → Option (List ℕ) → List ℕ → List ℕ → List ℕ → List ℕ → Type 0
-IsSiteRun all me most input file output c d =
-    HasNotRun me input file output c d ⊎ HasRun all me most input (recovered file) output c d
+abbrev pub IsSiteRun : Bool → ℕ → List ℕ → ℕ → Option (List ℕ) → List ℕ → List ℕ → List ℕ → List ℕ → Type 0
+IsSiteRun all me bank most input file output c d =
+    HasNotRun me bank input file output c d ⊎ HasRun all me bank most input (recovered file) output c d

@@ -1,5 +1,5 @@
 -- How a site is sealed.
-use Rattle.std.specs.Prelude.{◌≡◌, ◌⊎◌, ℕ, List, Option, Some, Result, Ok, Err}
+use Rattle.std.specs.Prelude.{◌≡◌, ◌⊎◌, ℕ, List, [], Option, Some, Result, Ok, Err}
 use Rattle.std.specs.List.{concat}
 use Rattle.rb_journal.specs.Host.{Only}
 use Rattle.rb_journal.specs.Journal.{IsRepaired}
@@ -19,12 +19,12 @@ own_input file = Some (concat (recovered file))
 -- entry was replayed
 pub record StartsAlone (me : ℕ) (file : List ℕ) : Type 0 where
   pub start : SeenAsked
-  pub starts : Starts me (own_input file) (recovered file) start
+  pub starts : Starts me [] (own_input file) (recovered file) start
   pub lines_are : recovered file ≡ journal_of start
 
 -- why the journal isn't sealed: a fault of a run's start whose input is the journal's own lines
 abbrev pub IsSealCause : ℕ → List ℕ → SiteFault → Type 0
-IsSealCause me file fault = (left : Option (List ℕ)) × IsOpeningCause me (own_input file) left file fault
+IsSealCause me file fault = (left : Option (List ℕ)) × IsOpeningCause me [] (own_input file) left file fault
 
 -- the site starts by the lines of this file, and they are sealed, all of it on the disk
 pub record HasSealed (me : ℕ) (file c : List ℕ) (may_leave : List ℕ → Type 0) : Type 0 where

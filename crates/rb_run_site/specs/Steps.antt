@@ -30,7 +30,7 @@ restarted x = record {
 pub record IsJournalOnDisk (s : Settings) (me : ℕ) (d : DiskSite) (lines : List (List ℕ)) : Type 0 where
   pub asked : List AskedEntry
   pub entries_are : entries_alone asked ≡ with_replies s (first_site me) (take d.on_disk d.events)
-  pub lines_are : lines ≡ journal_of (record { settings = s; me = me; asked = asked })
+  pub lines_are : lines ≡ journal_of (record { settings = s; me = me; bank = []; asked = asked })
 
 -- an event as a step: a message is delivered, or it is an event of the site's own
 abbrev pub step_of : Event → DiskStep
@@ -39,17 +39,17 @@ step_of e = Acts e
 
 -- the events that a line's turn recorded: the one on it, or nothing, as it wasn't recorded or its id is known; and then
 -- what is applied after it. Or none, if there is none on it or it is too long
-abbrev pub AreEventsOf : Settings → List ℕ → List Event → Type 0
-AreEventsOf s line events =
-    ((asked : AskedEvent) × (applied : List OpName) × (asked_event_on s line ≡ Some asked)
+abbrev pub AreEventsOf : Settings → List ℕ → List ℕ → List Event → Type 0
+AreEventsOf s bank line events =
+    ((asked : AskedEvent) × (applied : List OpName) × (asked_event_on s bank line ≡ Some asked)
     × ((events ≡ asked.event ∷ map Apply applied) ⊎ (events ≡ map Apply applied)))
-    ⊎ ((events ≡ []) × ((asked_event_on s line ≡ None) ⊎ (is_long line ≡ true)))
+    ⊎ ((events ≡ []) × ((asked_event_on s bank line ≡ None) ⊎ (is_long line ≡ true)))
 
 -- the steps of a turn: the events that it recorded; then all that the site has is on its disk; and only then it is
 -- reported
 pub record IsTurnInSteps (x : SeenAsked) (t : Turn SeenAsked) (steps : List DiskStep) : Type 0 where
   pub events : List Event
-  pub on_line : AreEventsOf x.settings t.line events
+  pub on_line : AreEventsOf x.settings x.bank t.line events
   pub after : without_ids t.after ≡ next_sites (without_ids x) events
   pub steps_are : steps ≡ map step_of events ++ Syncs (length t.after.asked) ∷ Reports (length t.after.asked) ∷ []
 
@@ -73,6 +73,6 @@ pub record AreSteps (x : SeenAsked) (turns : List (Turn SeenAsked)) (file : List
 -- at any moment nothing has changed yet, or the journal is still new, or the run of the site is one of steps: so what
 -- was put out is a prefix of what is sent again and of the texts of turns whose events are on the disk and count as
 -- reported
-abbrev pub IsRunOfSteps : Bool → ℕ → ℕ → Option (List ℕ) → List ℕ → List ℕ → List ℕ → List ℕ → Type 0
-IsRunOfSteps all me most input file output c d = HasNotRun me input file output c d
-    ⊎ ((run : HasRun all me most input (recovered file) output c d) × AreSteps run.start run.answered.turns c)
+abbrev pub IsRunOfSteps : Bool → ℕ → List ℕ → ℕ → Option (List ℕ) → List ℕ → List ℕ → List ℕ → List ℕ → Type 0
+IsRunOfSteps all me bank most input file output c d = HasNotRun me bank input file output c d
+    ⊎ ((run : HasRun all me bank most input (recovered file) output c d) × AreSteps run.start run.answered.turns c)

@@ -15,6 +15,7 @@ mod run;
 mod seal;
 
 ghost use Rattle.rb_run_site.specs.Asking.{AskedOnce, AskingIsServing, SameAnswer};
+ghost use Rattle.rb_run_site.specs.OtherBanks.{OtherBanksChangeNothing};
 ghost use Rattle.rb_run_site.specs.Restarts.{NewJournalsAreTaken, RestartedRunsAreOne, RestartsAreTaken, RestartsGoOn};
 
 pub use fault::{SiteFault, site_message, site_status};
@@ -52,4 +53,12 @@ pub fn asked_again()
     rb_history::configs_are_read();
     rb_node::replays_back();
     rb_node::asked_once();
+}
+
+/// However often a site ran and crashed, a line of another bank was answered by refusal 26, changed nothing and left no
+/// entry.
+pub fn other_banks_change_nothing()
+    ensures { OtherBanksChangeNothing }
+{
+    rb_node::other_banks_are_refused();
 }

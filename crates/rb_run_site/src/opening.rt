@@ -21,7 +21,7 @@ use crate::first_line::first_line;
 use crate::records::Records;
 use crate::replay::{count_lines, replay_all};
 use crate::responder::SiteResponder;
-use rb_history::lines_are_single;
+use rb_history::{BankName, lines_are_single};
 use rb_journal::damaged_line;
 use rb_lines::{Buffers, Source, ToBytes};
 use rb_node::{Node, NodeFault};
@@ -49,12 +49,18 @@ impl<M: Records> Opened<M> {
 }
 
 /// The site of the configuration on a line, before any event.
-fn open_node(alloc: Global, line: &[u8], number: u64, me: u8) -> Result<Node, SiteFault>
+fn open_node(
+    alloc: Global,
+    line: &[u8],
+    number: u64,
+    me: u8,
+    bank: BankName,
+) -> Result<Node, SiteFault>
     ensures { MatchResult result
-        (λ node. IsOf line.now me node.site × (node.site ≡ first_asked node.site.settings me))
+        (λ node. IsOf line.now me bank node.site × (node.site ≡ first_asked node.site.settings me bank))
         (EndsNode line.now number me) }
 {
-    match Node::open(alloc, line, me) {
+    match Node::open(alloc, line, me, bank) {
         Ok(node) => Ok(node),
         Err(NodeFault::NoSite) => Err(SiteFault::NoSite),
         Err(NodeFault::OutOfMemory) => Err(SiteFault::OutOfMemory),
@@ -70,7 +76,7 @@ fn replay_file(
     resend: usize,
     sends: &mut Vec<u8>,
 ) -> Result<Vec<u8>, SiteFault>
-    requires first { node.old.site ≡ first_asked node.old.site.settings node.old.site.me }
+    requires first { node.old.site ≡ first_asked node.old.site.settings node.old.site.me node.old.site.bank }
     requires none { sends.old.items ≡ [] }
     ensures { MatchResult result
         (λ first. OpensFile node.old.site node.new.site bytes.now first.items sends.new.items resend)
@@ -94,7 +100,7 @@ fn replay_file(
     }
 }
 
-/// Reads the configuration, and opens site `me` of it with the history that the file has.
+/// Reads the configuration, and opens site `me` of it, of the bank of the name, with the history that the file has.
 ///
 /// The number of the line behind the configuration's comes with it.
 pub fn open_site<S: Source, M: Records>(
@@ -103,6 +109,7 @@ pub fn open_site<S: Source, M: Records>(
     reader: &mut S,
     bytes: &[u8],
     me: u8,
+    bank: BankName,
     resend: usize,
 ) -> Result<(Opened<M>, u64), SiteFault>
     requires unread { S.calls reader.old ≡ 0 }
@@ -114,17 +121,17 @@ pub fn open_site<S: Source, M: Records>(
     ensures end { buffers.new.ended ≡ true → IsAtEnd (S.remaining reader.new) }
     ensures buffered { IfOk result (λ _. buffers.new.buffered.items ≡ []) }
     ensures number { IfOk result (λ r. r.1 + length buffers.new.pending < 2 ^ 63) }
-    ensures opened { IfOk result (λ r. (config : List ℕ) × OpensSite config me resend bytes.now
+    ensures opened { IfOk result (λ r. (config : List ℕ) × OpensSite config me bank resend bytes.now
         r.0.responder.node.site r.0.first.items r.0.sends.items
         × IfSome (S.remaining reader.old) (WaitsBehind config r.1 buffers.new.pending (S.remaining reader.new))) }
     ensures only { IfErr result IsOpeningFault }
-    ensures cause { IfErr result (IsOpeningCause me (S.remaining reader.old) (S.remaining reader.new) bytes.now) }
+    ensures cause { IfErr result (IsOpeningCause me bank (S.remaining reader.old) (S.remaining reader.new) bytes.now) }
     ensures read { result ≡ Err NotRead → (S.failed reader.new ≡ true) ⊎ (S.calls reader.new ≡ MOST_READS) }
     ensures calls { S.calls reader.new ≤ MOST_READS }
 {
     let mut nothing = ToBytes::new(alloc);
     let (n, number) = first_line(buffers, reader, &mut nothing)?;
-    let mut node = open_node(alloc, &buffers.pending.as_slice()[..n], number, me)?;
+    let mut node = open_node(alloc, &buffers.pending.as_slice()[..n], number, me, bank)?;
     buffers.skip_line(n);
     let mut sends = Vec::new(alloc);
     match replay_file(alloc, &mut node, bytes, resend, &mut sends) {

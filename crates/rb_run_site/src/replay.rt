@@ -1,18 +1,12 @@
 //! The entries of a journal, replayed. Their lines are counted first: what the last of them sent is to be sent again,
 //! and the count says which these are.
-ghost use Rattle.std.specs.Prelude.{◌≡◌, ◌==◌, [], length, position, MatchOption, MatchResult};
+ghost use Rattle.std.specs.Prelude.{◌≡◌, [], length, MatchOption, MatchResult};
 ghost use Rattle.rb_journal.specs.Lines.{IsBatch, recovered};
 ghost use Rattle.rb_run_site.specs.Replays.{EndsReplay, IsSplit, ReplaysLine, ReplaysLines, StopsAtLine};
 
 use crate::fault::SiteFault;
+use rb_lines::first_feed;
 use rb_node::{Node, NodeFault};
-
-/// Where the first line feed is.
-fn first_feed(lines: &[u8]) -> Option<usize>
-    ensures { result ≡ position (λ b. b == 10) lines.now }
-{
-    lines.iter().position(|b| *b == b'\n')
-}
 
 /// The first line, without its line feed, and the lines behind it; `None` if there is none.
 fn split_line(lines: &[u8]) -> Option<(&[u8], &[u8])>

@@ -23,7 +23,7 @@ ghost use Rattle.rb_run_site.specs.declared.fault.SiteFault.TheVariants.{Sealed,
 use crate::fault::SiteFault;
 use crate::opening::{Opened, open_site};
 use crate::records::Records;
-use rb_history::lines_are_single;
+use rb_history::{BankName, lines_are_single};
 use rb_journal::{Host, Journal, ServeFault, is_sealed, serve};
 use rb_lines::{Buffers, Source};
 use std::alloc::Global;
@@ -148,16 +148,18 @@ fn run_opened<S: Source, H: Host, M: Records>(
 }
 
 /// Runs site `me` (0 to 15) of the configuration that the reader's first line has, over the file of the host, whose
-/// bytes these are. What the last `resend` entries of its journal sent is put out again; then each line of the reader
-/// is an event, and is answered by a line. `M` says which events are recorded: all, or those that change the site. The
-/// bytes and what is put out again are given back before the first event is read, so a site that runs holds its history
-/// and what one read brings. A file that is sealed is refused before that.
+/// bytes these are. If the bank has a name, each message has it, and a line of another bank is refused. What the last
+/// `resend` entries of its journal sent is put out again; then each line of the reader is an event, and is answered by
+/// a line. `M` says which events are recorded: all, or those that change the site. The bytes and what is put out again
+/// are given back before the first event is read, so a site that runs holds its history and what one read brings. A
+/// file that is sealed is refused before that.
 pub fn run_site<S: Source, H: Host, M: Records>(
     alloc: Global,
     reader: &mut S,
     host: H,
     bytes: Vec<u8>,
     me: u8,
+    bank: BankName,
     resend: usize,
 ) -> Ran<H>
     requires usable { H.is_usable host }
@@ -170,21 +172,21 @@ pub fn run_site<S: Source, H: Host, M: Records>(
     // and then the file is whole lines and a closed gate, all of it on the disk. Or the run stopped in the opening: the
     // host is as it was, and the fault comes only for its cause, by the input's first line and the file's lines.
     ensures ended { RunsTo
-        (λ end. AnswersBehind M.ALL me resend (S.remaining reader.old) (S.remaining reader.new)
+        (λ end. AnswersBehind M.ALL me bank resend (S.remaining reader.old) (S.remaining reader.new)
         (recovered bytes.items) (H.output host) (recovered (H.content result.host)) (H.output result.host) end
         × IsAtRest (H.content result.host) (H.may_leave result.host))
         (λ fault. (result.host ≡ host)
-        × IsOpeningCause me (S.remaining reader.old) (S.remaining reader.new) bytes.items fault)
+        × IsOpeningCause me bank (S.remaining reader.old) (S.remaining reader.new) bytes.items fault)
         result.ended }
 
     // A crash at any moment leaves a journal that some first lines of the input have, and nothing was put out that it
     // takes back. It is the file as it was, or one that isn't damaged.
     ensures any_moment { LeavesOnly H.moment H.left_since host result.host
-        (IsSiteRun M.ALL me resend (S.remaining reader.old) bytes.items (H.output host)) }
+        (IsSiteRun M.ALL me bank resend (S.remaining reader.old) bytes.items (H.output host)) }
 
     // And that is a run of steps of a site with a disk, as the laws of worlds whose sites crash have them.
     ensures steps { LeavesOnly H.moment H.left_since host result.host
-        (IsRunOfSteps M.ALL me resend (S.remaining reader.old) bytes.items (H.output host)) }
+        (IsRunOfSteps M.ALL me bank resend (S.remaining reader.old) bytes.items (H.output host)) }
 
     // A site whose journal is sealed never goes on: nothing is read, and nothing is changed.
     ensures sealed { IsSealed bytes.items → (result.ended ≡ Err Sealed) × (result.host ≡ host)
@@ -195,7 +197,7 @@ pub fn run_site<S: Source, H: Host, M: Records>(
     ensures read { result.ended ≡ Err NotRead → (S.failed reader.new ≡ true) ⊎ (S.calls reader.new ≡ MOST_READS) }
     ensures write { result.ended ≡ Err NotWritten → H.faults host < H.faults result.host }
     ensures journal { result.ended ≡ Err DiskFailed → (H.faults host < H.faults result.host)
-        ⊎ IsFullBehind M.ALL me (S.remaining reader.old) (recovered bytes.items) }
+        ⊎ IsFullBehind M.ALL me bank (S.remaining reader.old) (recovered bytes.items) }
     ensures calls { S.calls reader.new ≤ MOST_READS }
 {
     if is_sealed(&bytes) {
@@ -205,7 +207,7 @@ pub fn run_site<S: Source, H: Host, M: Records>(
         };
     }
     let mut buffers = Buffers::new(alloc);
-    match open_site::<S, M>(alloc, &mut buffers, reader, &bytes, me, resend) {
+    match open_site::<S, M>(alloc, &mut buffers, reader, &bytes, me, bank, resend) {
         Ok((opened, number)) => run_opened(
             alloc,
             opened,

@@ -10,6 +10,7 @@ use crate::fault::SiteFault;
 use crate::opening::open_site;
 use crate::records::AllEvents;
 use crate::run::Ran;
+use rb_history::BankName;
 use rb_journal::{Host, HostError, Journal, ServeFault, end_of_lines, is_sealed};
 use rb_lines::{Buffers, FromBytes};
 use std::alloc::Global;
@@ -22,7 +23,8 @@ fn replay_alone(alloc: Global, bytes: &[u8], me: u8) -> Result<(), SiteFault>
 {
     let mut reader = FromBytes::new(&bytes[..end_of_lines(bytes)]);
     let mut buffers = Buffers::new(alloc);
-    match open_site::<FromBytes, AllEvents>(alloc, &mut buffers, &mut reader, bytes, me, 0) {
+    let bank = BankName::none(alloc);
+    match open_site::<FromBytes, AllEvents>(alloc, &mut buffers, &mut reader, bytes, me, bank, 0) {
         Ok((opened, _number)) => {
             opened.close();
             Ok(())

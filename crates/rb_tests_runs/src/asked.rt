@@ -5,6 +5,7 @@
 
 use crate::asked_rows::{AskedRow, ROWS};
 use crate::checks::{equal, equal_at};
+use rb_history::BankName;
 use rb_node::{Node, NodeFault};
 use std::alloc::{AllocError, Global};
 use std::process::Abort;
@@ -49,7 +50,7 @@ fn opened(alloc: Global, row: &AskedRow, entries: &str) -> Result<Node, NodeFaul
     let Some(config) = row.input.lines().next() else {
         return Err(NodeFault::BadConfig);
     };
-    let mut node = Node::open(alloc, config.as_bytes(), row.me)?;
+    let mut node = Node::open(alloc, config.as_bytes(), row.me, BankName::none(alloc))?;
     match replay_all(&mut node, entries) {
         Ok(()) => Ok(node),
         Err(fault) => {

@@ -1,7 +1,6 @@
 use Rattle.std.proofs.Common.{◌++◌, codes, [], add-one, drop-cons, arith, refl, rules}
 use Rattle.std.specs.Prelude.{map}
-use Rattle.rb_site.specs.declared.event.Event.TheVariants.{Receive}
-use Rattle.rb_history.specs.Entries.{event_json}
+use Rattle.rb_history.specs.Banks.{sent_json}
 use Rattle.rb_history.proofs.Public.Appended.{front_of_front, front_of_sum, then}
 use Rattle.rb_history.proofs.Public.Listed.{item_written, items_written, rest_text, whole_text}
 use Rattle.rb_node.proofs.Failed.{kept, stayed}
@@ -20,7 +19,7 @@ loop-message-preserved c =
       utf8 = search rules;
       front = front_of_front c.args.out.now.items out new c.loop-message.invariant.front
           (front_of_sum out new _ c.in_ok-append_message.ensures);
-      written = item_written (λ m. event_json c.args.config.now (Receive m)) out new c.loop-message.comma.now _ messages i _
+      written = item_written (sent_json c.args.config.now c.args.bank.now) out new c.loop-message.comma.now _ messages i _
           (rw add-one (drop-cons messages i _ (omega arith))) c.in_ok-append_message.ensures c.loop-message.invariant.written;
     }
 
@@ -29,11 +28,11 @@ returns c =
     let old = c.args.out.now.items in
     let out = c.loop-message.out.items in
     let messages = c.args.messages.now in
-    let list = rest_text [] (map (λ m. event_json c.args.config.now (Receive m)) messages) in
+    let list = rest_text [] (map (sent_json c.args.config.now c.args.bank.now) messages) in
     then c.append.result old out c.append.new.out.items list (codes "]") _
-    (items_written (λ m. event_json c.args.config.now (Receive m)) out c.loop-message.comma.now (old ++ list) messages
+    (items_written (sent_json c.args.config.now c.args.bank.now) out c.loop-message.comma.now (old ++ list) messages
     c.loop-message.message-index (omega arith) c.loop-message.invariant.written) c.append.ensures
-    (whole_text (map (λ m. event_json c.args.config.now (Receive m)) messages))
+    (whole_text (map (sent_json c.args.config.now c.args.bank.now) messages))
 
 pub returns-in_err-append_message : goal.returns-in_err-append_message
 returns-in_err-append_message c = kept c.from_residual.result _ c.from_residual.ensures.0

@@ -3,8 +3,7 @@ use Rattle.std.specs.Prelude.{false, map}
 use Rattle.json.specs.Print.{escape_byte}
 use Rattle.serde_json.specs.View.{items_of}
 use Rattle.serde_json.specs.Written.{compact_text, items_text}
-use Rattle.rb_site.specs.declared.event.Event.TheVariants.{Receive}
-use Rattle.rb_history.specs.Entries.{event_json}
+use Rattle.rb_history.specs.Banks.{sent_json}
 use Rattle.rb_history.specs.Replies.{reply_json}
 use Rattle.rb_history.proofs.Public.Appended.{both, failed, then}
 use Rattle.rb_node.proofs.event_line.append_rest.Goals as goal
@@ -32,7 +31,7 @@ unfolding escape_byte
 returns c =
     let old = c.args.out.now.items in
     let reply = compact_text (reply_json c.args.reply.now) in
-    let sends = items_text false (items_of (map (λ m. event_json c.args.config.now (Receive m)) c.args.sent.now)) in
+    let sends = items_text false (items_of (map (sent_json c.args.config.now c.args.bank.now) c.args.sent.now)) in
     let two = both old c.append_value.new.out.items c.append.new.out.items reply (codes ",\"sends\":[") c.in_ok-append_value.ensures
     c.in_ok-append.ensures in
     let three = both old c.append.new.out.items c.append_messages.new.out.items (reply ++ codes ",\"sends\":[") sends two

@@ -17,21 +17,21 @@ use Rattle.rb_run_site.proofs.run.run_site.Goals.{After-is_sealed, After-run_ope
 use Rattle.rb_run_site.proofs.run.run_site.Goals as goal
 
 -- the site is opened over the file's bytes
-opens : (g : Over) (c : After-run_opened g) → OpensSite c.in-Ok.ensures.opened.0 c.args.me c.args.resend c.args.bytes.items
+opens : (g : Over) (c : After-run_opened g) → OpensSite c.in-Ok.ensures.opened.0 c.args.me c.args.bank c.args.resend c.args.bytes.items
     c.in-Ok.opened.responder.node.site c.in-Ok.opened.first.items c.in-Ok.opened.sends.items
 opens g c =
-    subst (λ f. OpensSite c.in-Ok.ensures.opened.0 c.args.me c.args.resend f c.in-Ok.opened.responder.node.site
+    subst (λ f. OpensSite c.in-Ok.ensures.opened.0 c.args.me c.args.bank c.args.resend f c.in-Ok.opened.responder.node.site
     c.in-Ok.opened.first.items c.in-Ok.opened.sends.items)
     c.deref-2.ensures.value c.in-Ok.ensures.opened.1
 
 -- a crash while the opened site runs leaves a run of it
 run : (g : Over) (c : After-run_opened g) → LeavesOnly g.H.Host.moment g.H.Host.left_since c.args.host
     c.run_opened.result.host
-    (IsSiteRun g.M.Records.ALL c.args.me c.args.resend (g.S.Source.remaining c.args.reader.now) c.args.bytes.items (g.H.Host.output c.args.host))
+    (IsSiteRun g.M.Records.ALL c.args.me c.args.bank c.args.resend (g.S.Source.remaining c.args.reader.now) c.args.bytes.items (g.H.Host.output c.args.host))
 run g c =
     let is = c.in-Ok.ensures.opened in
     weaker g.H.Host.moment g.H.Host.left_since _ _ _ _ c.run_opened.ensures.any_moment
-    (λ f d run. run_behind g.M.Records.ALL _ _ c.in-Ok.number _ (g.S.Source.remaining c.open_site.new.reader) c.args.bytes.items is.0
+    (λ f d run. run_behind g.M.Records.ALL _ _ _ c.in-Ok.number _ (g.S.Source.remaining c.open_site.new.reader) c.args.bytes.items is.0
     c.open_site.new.buffers.pending c.in-Ok.opened.responder.node.site c.in-Ok.opened.first.items
     c.in-Ok.opened.sends.items (opens g c) is.2 _ f d run)
 
@@ -61,10 +61,10 @@ returns-in-Ok-clause-ended g c =
     let file = c.args.bytes.items in
     let rest = IsAtRest (host.content new) (host.may_leave new) in
     ran (λ e. AnswersAll g.M.Records.ALL x sends c.in-Ok.number (served_input mid.buffers.pending left) still output now said e × rest)
-    (λ e. AnswersBehind g.M.Records.ALL c.args.me c.args.resend input still (recovered file) output now said e × rest)
-    (λ why. (new ≡ c.args.host) × IsOpeningCause c.args.me input still file why) c.run_opened.result.ended
+    (λ e. AnswersBehind g.M.Records.ALL c.args.me c.args.bank c.args.resend input still (recovered file) output now said e × rest)
+    (λ why. (new ≡ c.args.host) × IsOpeningCause c.args.me c.args.bank input still file why) c.run_opened.result.ended
     (λ e all. (
-      ends_behind g.M.Records.ALL c.args.me c.args.resend c.in-Ok.number input left file is.0 mid.buffers.pending x first sends
+      ends_behind g.M.Records.ALL c.args.me c.args.bank c.args.resend c.in-Ok.number input left file is.0 mid.buffers.pending x first sends
           (opens g (goal.at.returns-in-Ok-clause-ended g c).After-run_opened) is.2
           output still now said e all.0,
       all.1,
@@ -79,8 +79,8 @@ returns-in-Ok-clause-steps g c =
     let host = g.H.Host in
     let input = g.S.Source.remaining c.args.reader.now in
     weaker host.moment host.left_since c.args.host c.run_opened.result.host _
-    (IsRunOfSteps g.M.Records.ALL c.args.me c.args.resend input c.args.bytes.items (host.output c.args.host))
-    (run g (goal.at.returns-in-Ok-clause-steps g c).After-run_opened) (stepped_run g.M.Records.ALL c.args.me c.args.resend input _ _)
+    (IsRunOfSteps g.M.Records.ALL c.args.me c.args.bank c.args.resend input c.args.bytes.items (host.output c.args.host))
+    (run g (goal.at.returns-in-Ok-clause-steps g c).After-run_opened) (stepped_run g.M.Records.ALL c.args.me c.args.bank c.args.resend input _ _)
 
 pub returns-in-Ok-clause-journal : goal.returns-in-Ok-clause-journal
 returns-in-Ok-clause-journal g c = λ failed.
@@ -91,7 +91,7 @@ returns-in-Ok-clause-journal g c = λ failed.
     let x = c.in-Ok.opened.responder.node.site in
     ⊎_elim (λ (more : host.faults c.args.host < host.faults c.run_opened.result.host). inl more)
     (λ (full : IsFull (SiteAnswers g.M.Records.ALL) c.in-Ok.number (served_input mid.buffers.pending left) x (journal_of x)). inr
-    (full_behind g.M.Records.ALL c.args.me c.args.resend c.in-Ok.number (g.S.Source.remaining c.args.reader.now) left c.args.bytes.items is.0
+    (full_behind g.M.Records.ALL c.args.me c.args.bank c.args.resend c.in-Ok.number (g.S.Source.remaining c.args.reader.now) left c.args.bytes.items is.0
     mid.buffers.pending x c.in-Ok.opened.first.items c.in-Ok.opened.sends.items
     (opens g (goal.at.returns-in-Ok-clause-journal g c).After-run_opened) is.2 full))
     (c.run_opened.ensures.journal failed)
@@ -103,17 +103,17 @@ returns-in-Err-clause-ended g c =
     let input = g.S.Source.remaining c.args.reader.now in
     let left = g.S.Source.remaining c.open_site.new.reader in
     let file = c.args.bytes.items in
-    stopped_there (λ e. AnswersBehind g.M.Records.ALL c.args.me c.args.resend input left (recovered file) (host.output was)
+    stopped_there (λ e. AnswersBehind g.M.Records.ALL c.args.me c.args.bank c.args.resend input left (recovered file) (host.output was)
     (recovered (host.content was)) (host.output was) e × IsAtRest (host.content was) (host.may_leave was))
-    (λ why. (was ≡ was) × IsOpeningCause c.args.me input left file why) c.in-Err.fault c.in-Err.ensures.only
-    (refl, subst (λ f. IsOpeningCause c.args.me input left f c.in-Err.fault) c.deref-2.ensures.value c.in-Err.ensures.cause)
+    (λ why. (was ≡ was) × IsOpeningCause c.args.me c.args.bank input left file why) c.in-Err.fault c.in-Err.ensures.only
+    (refl, subst (λ f. IsOpeningCause c.args.me c.args.bank input left f c.in-Err.fault) c.deref-2.ensures.value c.in-Err.ensures.cause)
 
 pub returns-in-Err-clause-any_moment : goal.returns-in-Err-clause-any_moment
 returns-in-Err-clause-any_moment g c =
     let host = g.H.Host in
     let input = g.S.Source.remaining c.args.reader.now in
     started host.moment host.left_since c.args.host
-    (IsSiteRun g.M.Records.ALL c.args.me c.args.resend input c.args.bytes.items (host.output c.args.host))
+    (IsSiteRun g.M.Records.ALL c.args.me c.args.bank c.args.resend input c.args.bytes.items (host.output c.args.host))
     (λ f d left. inl (inl (still g (goal.at.returns-in-Err-clause-any_moment g c).After-is_sealed f d left)))
 
 pub returns-in-Err-clause-steps : goal.returns-in-Err-clause-steps
@@ -121,7 +121,7 @@ returns-in-Err-clause-steps g c =
     let host = g.H.Host in
     let input = g.S.Source.remaining c.args.reader.now in
     started host.moment host.left_since c.args.host
-    (IsRunOfSteps g.M.Records.ALL c.args.me c.args.resend input c.args.bytes.items (host.output c.args.host))
+    (IsRunOfSteps g.M.Records.ALL c.args.me c.args.bank c.args.resend input c.args.bytes.items (host.output c.args.host))
     (λ f d left. inl (inl (still g (goal.at.returns-in-Err-clause-steps g c).After-is_sealed f d left)))
 
 pub returns-then-is_sealed-clause-any_moment : goal.returns-then-is_sealed-clause-any_moment
@@ -129,7 +129,7 @@ returns-then-is_sealed-clause-any_moment g c =
     let host = g.H.Host in
     let input = g.S.Source.remaining c.args.reader.now in
     started host.moment host.left_since c.args.host
-    (IsSiteRun g.M.Records.ALL c.args.me c.args.resend input c.args.bytes.items (host.output c.args.host))
+    (IsSiteRun g.M.Records.ALL c.args.me c.args.bank c.args.resend input c.args.bytes.items (host.output c.args.host))
     (λ f d left. inl (inl (still g (goal.at.returns-then-is_sealed-clause-any_moment g c).After-is_sealed f d left)))
 
 pub returns-then-is_sealed-clause-steps : goal.returns-then-is_sealed-clause-steps
@@ -137,5 +137,5 @@ returns-then-is_sealed-clause-steps g c =
     let host = g.H.Host in
     let input = g.S.Source.remaining c.args.reader.now in
     started host.moment host.left_since c.args.host
-    (IsRunOfSteps g.M.Records.ALL c.args.me c.args.resend input c.args.bytes.items (host.output c.args.host))
+    (IsRunOfSteps g.M.Records.ALL c.args.me c.args.bank c.args.resend input c.args.bytes.items (host.output c.args.host))
     (λ f d left. inl (inl (still g (goal.at.returns-then-is_sealed-clause-steps g c).After-is_sealed f d left)))

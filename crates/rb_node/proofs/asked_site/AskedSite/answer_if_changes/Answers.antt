@@ -1,4 +1,4 @@
-use Rattle.std.proofs.Common.{◌≡◌, ◌++◌, ◌∷◌, ◌&&◌, [], true, not, length, map, append-nil, ap, sym, ◌∙◌}
+use Rattle.std.proofs.Common.{◌≡◌, ◌++◌, ◌∷◌, ◌&&◌, [], true, not, length, map, ap, sym, ◌∙◌}
 use Rattle.rb_shadow.specs.declared.shadow.Shadow.{Shadow}
 use Rattle.rb_site.specs.Events.{is_full, sent_at}
 use Rattle.rb_site.specs.Seen.{SeenSite, entry, next_site, state_of}
@@ -95,9 +95,10 @@ returns-then-not-recorded c =
     let stayed : c.answer_if_changes.new.self ≡ site = c.in_ok-recorded.ensures.ok.0 ∙ next_unrecorded site event not_recorded in
     let at : site ≡ without_ids c.args.self.now =
     sym (same_site site asked kept c.self.invariant) ∙ ap (λ (v : SeenAsked). without_ids v) c.self.view_is in
-    let view : seen c.answer_if_changes.new.self (map entry_erased c.reserve_one.new.list.items) ≡ c.args.self.now =
-    ap (λ (y : SeenSite). seen y (map entry_erased c.reserve_one.new.list.items)) stayed
-    ∙ ap (λ (l : List ErasedAsked). seen site (map entry_erased l)) c.in_ok-reserve_one.ensures.items ∙ c.self.view_is in
+    let bank = c.self.inside.bank in
+    let view : seen bank c.answer_if_changes.new.self (map entry_erased c.reserve_one.new.list.items) ≡ c.args.self.now =
+    ap (λ (y : SeenSite). seen bank y (map entry_erased c.reserve_one.new.list.items)) stayed
+    ∙ ap (λ (l : List ErasedAsked). seen bank site (map entry_erased l)) c.in_ok-reserve_one.ensures.items ∙ c.self.view_is in
     record {
       ok = (
         [],

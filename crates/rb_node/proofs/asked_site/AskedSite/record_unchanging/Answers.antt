@@ -1,4 +1,4 @@
-use Rattle.std.proofs.Common.{◌≡◌, ◌++◌, ◌∷◌, [], false, length, map, append-nil, refl, ap, sym, ◌∙◌}
+use Rattle.std.proofs.Common.{◌≡◌, ◌++◌, ◌∷◌, [], length, map, append-nil, refl, ap, sym, ◌∙◌}
 use Rattle.std.specs.Prelude.{List, None}
 use Rattle.rb_site.specs.Events.{is_full, reply_to}
 use Rattle.rb_site.specs.Seen.{SeenSite, entry, state_of}
@@ -7,7 +7,7 @@ use Rattle.rb_history.specs.Ids.{AskedEntry}
 use Rattle.rb_node.specs.Asked.{SeenAsked, without_ids, with_id, with_more}
 use Rattle.rb_node.specs.Kept.{entry_erased, by_bytes}
 use Rattle.rb_node.specs.declared.erased_asked.ErasedAsked.{ErasedAsked}
-use Rattle.rb_node.proofs.Requests.{IsNotedAs, next_seen, no_id, same_site, seen, still_keeps}
+use Rattle.rb_node.proofs.Requests.{IsNotedAs, next_seen, no_id, same_site, still_keeps}
 use Rattle.rb_node.proofs.asked_site.AskedSite.record_unchanging.Goals as goal
 use Rattle.rb_node.proofs.asked_site.AskedSite.record_unchanging.Goals.{After-drop-no_id-inside}
 

@@ -2,7 +2,7 @@ use Rattle.std.proofs.Common.{◌≡◌, ◌&&◌, true, not, ap, sym, ◌∙◌
 use Rattle.std.specs.Prelude.{List, length}
 use Rattle.rb_shadow.specs.declared.shadow.Shadow.{Shadow}
 use Rattle.rb_site.specs.Events.{is_full, sent_at}
-use Rattle.rb_site.specs.Seen.{SeenSite, next_site, state_of}
+use Rattle.rb_site.specs.Seen.{state_of}
 use Rattle.rb_site.specs.Unchanging.{changes_site}
 use Rattle.rb_node.specs.Index.{index_of}
 use Rattle.rb_node.proofs.Index.{index_noted, put_behind}

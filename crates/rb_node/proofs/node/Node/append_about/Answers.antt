@@ -26,4 +26,4 @@ returns c =
     c.in_ok-append_held.ensures in
     then c.append.result old c.append_held.new.out.items c.append.new.out.items (first ++ second) (codes "}},\"sends\":[],\"then\":[]}\n") _
     two c.append.ensures (ap (λ n. (first_of n ++ second) ++ codes "}},\"sends\":[],\"then\":[]}\n")
-    (sym (length-map x.asked (λ (y : AskedEntry). y.entry))) ∙ about_line (without_ids x))
+    (sym (length-map x.asked (λ (y : AskedEntry). y.entry))) ∙ about_line x.bank (without_ids x))

@@ -23,5 +23,6 @@ returns c =
     ∙ ap (λ l. l ++ messages_of c.entries.result.now.items sent) c.clear.ensures.items
     ∙ ap (λ (us : List Shadow). messages_of us sent) held in
     subst (Adds c.append_sends.result c.args.out.now.items c.append_sends.new.out.items)
-    (ap (λ s. sent_line s c.as_slice.result.now) (sym c.self.invariant ∙ ap (λ (y : SeenAsked). y.settings) seen)
-    ∙ ap (sent_line site.settings) messages) c.append_sends.ensures
+    (ap (λ s. sent_line s c.bank.result.now c.as_slice.result.now) (sym c.self.invariant ∙ ap (λ (y : SeenAsked). y.settings) seen)
+    ∙ ap (λ k. sent_line site.settings k c.as_slice.result.now) (c.bank.ensures ∙ ap (λ (y : SeenAsked). y.bank) seen)
+    ∙ ap (sent_line site.settings site.bank) messages) c.append_sends.ensures

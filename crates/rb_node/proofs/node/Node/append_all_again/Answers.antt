@@ -22,7 +22,7 @@ loop-entry-preserved c =
     record {
       front = front_of_front c.args.out.now.items out new c.loop-entry.invariant.front
           (front_of_sum out new _ c.in_ok-append_again.ensures);
-      written = line_written site.settings (asked_state site).ops out new _ entries i entry
+      written = line_written site.settings site.bank (asked_state site).ops out new _ entries i entry
           (rw add-one (drop-cons entries i _ (omega arith))) c.in_ok-append_again.ensures c.loop-entry.invariant.written;
     }
 
@@ -30,8 +30,8 @@ pub returns : goal.returns
 returns c =
     let site = c.args.self.now.site in
     let entries = c.args.entries.now in
-    lines_written site.settings (asked_state site).ops c.loop-entry.out.items
-    (c.args.out.now.items ++ lines_again site.settings (asked_state site).ops entries) entries c.loop-entry.entry-index (omega arith)
+    lines_written site.settings site.bank (asked_state site).ops c.loop-entry.out.items
+    (c.args.out.now.items ++ lines_again site.settings site.bank (asked_state site).ops entries) entries c.loop-entry.entry-index (omega arith)
     c.loop-entry.invariant.written
 
 pub returns-in_err-append_again : goal.returns-in_err-append_again

@@ -6,6 +6,6 @@ use Rattle.rb_node.proofs.node.Node.append_all_again.Given as goal
 abbrev pub invariant-loop-entry : goal.invariant-loop-entry
 invariant-loop-entry l = record {
   front : take (length l.fn.out.items) l.out.items ≡ l.fn.out.items;
-  written : l.out.items ++ lines_again l.self.site.settings (asked_state l.self.site).ops (drop l.entry-index l.entries)
-      ≡ l.fn.out.items ++ lines_again l.self.site.settings (asked_state l.self.site).ops l.entries;
+  written : l.out.items ++ lines_again l.self.site.settings l.self.site.bank (asked_state l.self.site).ops (drop l.entry-index l.entries)
+      ≡ l.fn.out.items ++ lines_again l.self.site.settings l.self.site.bank (asked_state l.self.site).ops l.entries;
 }

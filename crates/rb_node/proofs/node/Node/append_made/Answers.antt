@@ -1,11 +1,11 @@
-use Rattle.std.proofs.Common.{◌≡◌, ◌++◌, codes, ap, sym, subst, ◌∙◌}
+use Rattle.std.proofs.Common.{◌≡◌, ◌++◌, codes, ap, sym, ◌∙◌}
 use Rattle.rb_site.specs.Seen.{SeenSite, state_of}
 use Rattle.rb_site.specs.declared.message.Message.{Message}
 use Rattle.std.specs.Prelude.{List}
 use Rattle.rb_shadow.specs.declared.shadow.Shadow.{Shadow}
 use Rattle.rb_history.proofs.Public.Appended.{both, failed, failed_first, then}
-use Rattle.rb_node.specs.Answers.{SeenNode, again_json, line_of}
-use Rattle.rb_node.specs.Asked.{Known, SeenAsked, asked_state, without_ids}
+use Rattle.rb_node.specs.Answers.{SeenNode}
+use Rattle.rb_node.specs.Asked.{SeenAsked, asked_state, without_ids}
 use Rattle.rb_node.specs.Index.{messages_of}
 use Rattle.rb_node.specs.Kept.{reply_made, known_again}
 use Rattle.rb_node.specs.declared.sent_entry.Sent.TheVariants.{Operations}
@@ -47,10 +47,12 @@ returns c =
     c.in_ok-reply.ensures ∙ ap (reply_made known.event) (c.as_slice.ensures.value ∙ sent) in
     let s : c.self.inside.config ≡ x.settings = sym c.self.invariant ∙ ap (λ (y : SeenAsked). y.settings) seen in
     let two = both old c.append_with_id.new.out.items c.append_rest.new.out.items (again_head id)
-    (rest_text c.self.inside.config c.in_ok-reply.reply c.as_slice-2.result.now) c.in_ok-append_with_id.ensures.added c.in_ok-append_rest.ensures in
+    (rest_text c.self.inside.config c.bank.result.now c.in_ok-reply.reply c.as_slice-2.result.now) c.in_ok-append_with_id.ensures.added c.in_ok-append_rest.ensures in
     then c.append.result old c.append_rest.new.out.items c.append.new.out.items
-    (again_head id ++ rest_text c.self.inside.config c.in_ok-reply.reply c.as_slice-2.result.now) (codes "]}\n") _ two c.append.ensures
-    (ap (λ r. (again_head id ++ rest_text r c.in_ok-reply.reply c.as_slice-2.result.now) ++ codes "]}\n") s
-    ∙ ap (λ r. (again_head id ++ rest_text x.settings r c.as_slice-2.result.now) ++ codes "]}\n") reply
-    ∙ ap (λ (ms : List Message). (again_head id ++ rest_text x.settings k.reply ms) ++ codes "]}\n") (c.as_slice-2.ensures.value ∙ sent)
-    ∙ again_line x.settings id k (an_id id c.requires c.in_ok-append_with_id.ensures.id))
+    (again_head id ++ rest_text c.self.inside.config c.bank.result.now c.in_ok-reply.reply c.as_slice-2.result.now) (codes "]}\n") _ two c.append.ensures
+    (ap (λ r. (again_head id ++ rest_text r c.bank.result.now c.in_ok-reply.reply c.as_slice-2.result.now) ++ codes "]}\n") s
+    ∙ ap (λ b. (again_head id ++ rest_text x.settings b c.in_ok-reply.reply c.as_slice-2.result.now) ++ codes "]}\n")
+    (c.bank.ensures ∙ ap (λ (y : SeenAsked). y.bank) seen)
+    ∙ ap (λ r. (again_head id ++ rest_text x.settings x.bank r c.as_slice-2.result.now) ++ codes "]}\n") reply
+    ∙ ap (λ (ms : List Message). (again_head id ++ rest_text x.settings x.bank k.reply ms) ++ codes "]}\n") (c.as_slice-2.ensures.value ∙ sent)
+    ∙ again_line x.settings x.bank id k (an_id id c.requires c.in_ok-append_with_id.ensures.id))

@@ -19,23 +19,25 @@ pub returns : goal.returns
 returns c =
     let old = c.args.out.now.items in
     let site = without_ids c.args.self.now.site in
+    let bank = c.args.self.now.site.bank in
     let most = c.args.most in
     let since = c.sent_since-entries.result.now in
     let first = c.saturating_sub-skipped.result in
     let seen : without_ids c.self.inside.site ≡ site = ap (λ (v : SeenNode). without_ids v.site) c.self.view_is in
     let skipped : first ≡ length site.entries - most =
     c.saturating_sub-skipped.ensures ∙ ap (λ n. n - most) (c.len.ensures ∙ ap (λ (y : SeenSite). length y.entries) (c.site.ensures ∙ seen)) in
-    let lines : lines_again site.settings (state_of site).ops since ≡ sent_again most site =
-    subst (λ (y : SeenSite). lines_again y.settings (state_of y).ops since ≡ resent y.settings (first_site y.me) first y.entries)
-    (c.site-2.ensures ∙ seen) c.sent_since-entries.ensures.lines ∙ ap (λ k. resent site.settings (first_site site.me) k site.entries) skipped in
+    let lines : lines_again site.settings bank (state_of site).ops since ≡ sent_again bank most site =
+    subst (λ (y : SeenSite). lines_again y.settings bank (state_of y).ops since ≡ resent y.settings bank (first_site y.me) first y.entries)
+    (c.site-2.ensures ∙ seen) (c.sent_since-entries.ensures.lines bank)
+    ∙ ap (λ k. resent site.settings bank (first_site site.me) k site.entries) skipped in
     let count : length since ≡ count_again most site =
     c.sent_since-entries.ensures.count
     ∙ ap (λ (y : SeenSite). resent_count y.settings (first_site y.me) first y.entries) (c.site-2.ensures ∙ seen)
     ∙ ap (λ k. resent_count site.settings (first_site site.me) k site.entries) skipped in
     then c.append_number.result old c.append_all_again.new.out.items c.append_number.new.out.items
-    (lines_again site.settings (state_of site).ops since)
+    (lines_again site.settings bank (state_of site).ops since)
     (codes "{\"reply\":{\"resent\":" ++ (decimal (length since) ++ codes "},\"sends\":[],\"then\":[]}\n")) _
     c.in_ok-append_all_again.ensures c.append_number.ensures
     (ap (λ l. l ++ (codes "{\"reply\":{\"resent\":" ++ (decimal (length since) ++ codes "},\"sends\":[],\"then\":[]}\n"))) lines
-    ∙ ap (λ l. sent_again most site ++ l) (resent_line (length since)
+    ∙ ap (λ l. sent_again bank most site ++ l) (resent_line (length since)
     ∙ ap (λ n. line_of (reply_only (one_json (codes "resent") (number_json n)))) count))

@@ -1,5 +1,4 @@
 use Rattle.std.proofs.Common.{◌≡◌, ap, refl, subst, sym, ◌∙◌}
-use Rattle.std.specs.Prelude.{None}
 use Rattle.serde_json.specs.Written.{compact_text}
 use Rattle.rb_history.specs.Entries.{asked_entry_json}
 use Rattle.rb_history.specs.Ids.{AskedEntry}

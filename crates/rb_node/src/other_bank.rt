@@ -1,0 +1,30 @@
+//! The answer to a line of another bank.
+ghost use Rattle.std.specs.Prelude.{◌≡◌, ◌++◌, IfErr, OnErr, OnOk};
+ghost use Rattle.rb_node.specs.Answers.{line_of, other_bank_json};
+
+use crate::NodeFault;
+use rb_history::write::append::append_number;
+
+/// The refusal of a line of another bank. No refusal of a site has this number.
+const OTHER_BANK: u64 = 26;
+
+/// Adds the answer to a line of another bank: refusal 26. `OutOfMemory` leaves the answers as they were.
+pub(crate) fn append_other_bank(answers: &mut Vec<u8>) -> Result<(), NodeFault>
+    ensures added { OnOk result (answers.new.items ≡ answers.old.items ++ line_of other_bank_json) }
+    ensures err { OnErr result (answers.new.items ≡ answers.old.items) }
+    ensures memory { IfErr result (λ why. why ≡ NodeFault.OutOfMemory) }
+{
+    let before = answers.len();
+    match append_number(
+        answers,
+        "{\"reply\":{\"refused\":",
+        OTHER_BANK,
+        "},\"sends\":[],\"then\":[]}\n",
+    ) {
+        Ok(()) => Ok(()),
+        Err(_) => {
+            answers.truncate(before);
+            Err(NodeFault::OutOfMemory)
+        }
+    }
+}
