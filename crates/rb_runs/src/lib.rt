@@ -16,7 +16,7 @@ pub use audit::run::run_audit;
 pub use books::added::check_added;
 pub use books::added_fault::{AddedFault, added_message, added_status};
 pub use books::close_fault::{CloseFault, close_status};
-pub use books::closing::Closing;
+pub use books::closing::{Closing, split_line};
 pub use books::files::JournalFiles;
 pub use books::journal_fault::{JournalFault, journal_message, journal_status};
 pub use books::laws::{

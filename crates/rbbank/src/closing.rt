@@ -1,5 +1,5 @@
 //! Closing the books by files of the operating system.
-ghost use Rattle.std.specs.Prelude.{◌≡◌, ◌≤◌, ◌++◌, ◌∷◌, [], IfSome, List, ℕ, false, length, map};
+ghost use Rattle.std.specs.Prelude.{◌≡◌, ◌≤◌, ◌++◌, ◌∷◌, [], IfSome, List, None, ℕ, false, length, map};
 ghost use Rattle.std.specs.Io.KnownBytes.{Appends};
 ghost use Rattle.std.specs.Process.{exit_status};
 ghost use Rattle.rb_money.specs.declared.limits.TheConstants.{MOST_SITES};
@@ -48,6 +48,8 @@ impl<'a> FilesOnDisk<'a> {
 
 impl<'a> JournalFiles for FilesOnDisk<'a> {
     ghost read = { λ files. files.log.files };
+
+    ghost known = { λ _. None };
 
     fn read_next(&mut self) -> Option<Vec<u8>> {
         let name = self.names.get(self.taken)?;

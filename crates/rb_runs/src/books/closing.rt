@@ -1,6 +1,6 @@
 //! The journals of a bank that is closed, one file at a time.
-ghost use Rattle.std.specs.Prelude.{◌≡◌, ◌==◌, ◌+◌, ◌<◌, ◌⊎◌, ◌∷◌, [], Err, None, Ok, Some, false, length, true};
-ghost use Rattle.std.specs.Prelude.{IfOk, MatchOption, MatchResult, position};
+ghost use Rattle.std.specs.Prelude.{◌≡◌, ◌+◌, ◌<◌, ◌⊎◌, ◌∷◌, [], Err, None, Ok, Some, false, length, true};
+ghost use Rattle.std.specs.Prelude.{IfOk, MatchOption, MatchResult};
 ghost use Rattle.rb_auditor.specs.Audits.{Audited, HasMore};
 ghost use Rattle.rb_lines.specs.Lines.{lines_of};
 ghost use Rattle.rb_runs.specs.JournalFiles.{EndsAtFile, TakesFile, bank_by, entry_of_site, is_head};
@@ -12,7 +12,7 @@ use crate::books::journal_fault::JournalFault;
 use crate::entry::entry_of;
 use rb_auditor::Auditor;
 use rb_history::{LineFault, open_config, write_config};
-use rb_lines::LINE_LIMIT;
+use rb_lines::{LINE_LIMIT, first_feed};
 use rb_money::Config;
 use rb_site::{Entry, Event, Reply};
 use std::alloc::{AllocError, Global};
@@ -39,15 +39,8 @@ fn sealed_lines(file: &[u8]) -> Option<&[u8]>
     }
 }
 
-/// The place of the first line feed.
-fn first_feed(lines: &[u8]) -> Option<usize>
-    ensures { result ≡ position (λ b. b == 10) lines.now }
-{
-    lines.iter().position(|b| *b == b'\n')
-}
-
 /// The first line, without its line feed, and the lines behind it.
-fn split_line(lines: &[u8]) -> (&[u8], &[u8])
+pub fn split_line(lines: &[u8]) -> (&[u8], &[u8])
     requires some { 0 < length lines.now }
     ensures split { lines_of lines.now ≡ result.0.now ∷ lines_of result.1.now }
     ensures shorter { length result.1.now < length lines.now }

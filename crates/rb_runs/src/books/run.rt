@@ -30,6 +30,7 @@ fn take_next<F: JournalFiles>(
         × (closing.new.journals ≡ closing.old.journals))
         (λ fault. ClosesAs ask.now closing.old.journals (F.read files.new) (Err fault) []) }
     ensures write { result ≡ Err NotWritten → ⊥ }
+    ensures same { F.known files.new ≡ F.known files.old }
 {
     let Some(bytes) = files.read_next() else {
         return Err(CloseFault::Unread { site });
@@ -63,6 +64,7 @@ fn take_all<F: JournalFiles>(
         × (closing.new.journals ≡ journals))
         (λ fault. ClosesAs ask.now journals (F.read files.new) (Err fault) []) }
     ensures write { result ≡ Err NotWritten → ⊥ }
+    ensures same { F.known files.new ≡ F.known files.old }
 {
     for site in 0..journals as u64 {
         if let Err(fault) = take_next(alloc, ask, site, files, closing) {
@@ -93,6 +95,7 @@ pub fn run_close<F: JournalFiles, W: Sink>(
     ensures written { (text : List ℕ) × Appends (W.contents writer.old) (W.contents writer.new) text
         × ClosesAs ask.now journals (F.read files.new) result text }
     ensures write { (result ≡ Err NotWritten) ↔ (W.failed writer.new ≡ true) }
+    ensures same { F.known files.new ≡ F.known files.old }
 {
     if let Err(why) = check_added(alloc, ask.added(), None) {
         return Err(CloseFault::Added(why));

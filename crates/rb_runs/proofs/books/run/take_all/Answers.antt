@@ -1,5 +1,5 @@
 -- One journal more is taken.
-use Rattle.std.proofs.Common.{◌≡◌, ◌∙◌, ◌+◌, [], Err, ap, arith, subst, sym}
+use Rattle.std.proofs.Common.{◌≡◌, ◌∙◌, ◌+◌, [], Err, ap, arith, refl, subst, sym}
 use Rattle.rb_runs.proofs.TakenFiles.{nothing-taken}
 use Rattle.rb_runs.specs.Closes.{ClosesAs}
 use Rattle.rb_runs.proofs.books.run.take_all.Goals as goal
@@ -9,6 +9,7 @@ loop-site-init g c = record {
   taken = nothing-taken c.args.closing.now c.args.ask.now _ c.requires.none c.requires.empty c.requires.unread;
   at = c.requires.none;
   journals = c.requires.journals;
+  same = refl;
 }
 
 pub take_next-requires-clause-more : goal.take_next-requires-clause-more
@@ -30,6 +31,7 @@ loop-site-preserved g c = let took = c.in_default.ensures.taken in let before = 
   taken = took.0;
   at = took.1 ∙ ap (λ n. n + 1) before.at;
   journals = took.2 ∙ before.journals;
+  same = c.take_next.ensures.same ∙ before.same;
 }
 
 pub returns-clause-taken : goal.returns-clause-taken

@@ -8,4 +8,5 @@ invariant-loop-site g l = record {
   taken : HasTaken l.closing l.ask (g.F.JournalFiles.read l.files);
   at : l.closing.taken ≡ l.site;
   journals : l.closing.journals ≡ l.journals;
+  same : g.F.JournalFiles.known l.files ≡ g.F.JournalFiles.known l.initial.files;
 }
