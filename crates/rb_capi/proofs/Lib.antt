@@ -1,2 +1,4 @@
+mod ClosedInMemory
+mod CutBytes
 mod RawBoxValues
 mod SlotValues

@@ -1,5 +1,6 @@
 pub mod Audit
 pub mod Banks
+pub mod Close
 pub mod Copies
 pub mod Endings
 pub mod Migrate

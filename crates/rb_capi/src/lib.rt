@@ -1,15 +1,19 @@
 //! The core for C: a static library. A bank, all sites of a configuration or one of them, lies behind a handle that C
-//! keeps, and is asked and answers by lines; whole scripts, audits and migrations go from bytes to bytes.
+//! keeps, and is asked and answers by lines; whole scripts, audits, migrations and closings go from bytes to bytes.
 //! Tests: bindings/check.py, by C, Rust and Python (`make bindings`).
 #![tactic(auto)]
 
 mod audit;
 mod bank;
 mod bank_handle;
+mod close;
 mod copy;
 mod ending;
+mod journals;
 mod kept_site;
 mod migrate;
+mod names;
+mod not_closed;
 mod raw_box;
 mod script;
 mod site;
