@@ -4,7 +4,8 @@
 usage: check.py [--quiet] PROGRAM      (--quiet prints only what is different)
 
 Every script, histories, migration and site of examples/ goes through the three, whole and by handles, and what they
-write, their status and the journal are compared with what examples/ has, byte for byte. 10,000 odd lines, valid and
+write, their status and the journal are compared with what examples/ has, byte for byte. So is what they answer to the
+closings of tests/closings.py. 10,000 odd lines, valid and
 broken, always the same, go through C under AddressSanitizer (and some under valgrind, where it is there): those that
 are taken have to be answered as PROGRAM answers them, and those that aren't have to be bad lines to PROGRAM.
 It wants what build.py makes. Where a compiler is missing, it says so and ends in status 1.
@@ -25,7 +26,8 @@ import build
 HERE = os.path.dirname(os.path.abspath(__file__))
 ROOT = os.path.dirname(HERE)
 EXAMPLES = os.path.join(ROOT, "examples")
-sys.path.insert(1, os.path.join(ROOT, "bench"))
+sys.path[1:1] = [os.path.join(ROOT, "bench"), os.path.join(ROOT, "tests")]
+import closings
 import odd_lines
 
 LINES, SEED = 10_000, 31
@@ -155,6 +157,19 @@ def same_rows(name, rows):
             yield f"{name}, {word}: {os.path.basename(path)}", row(rows, path, word)
 
 
+def same_closings(name, rows, program):
+    """What closing the books answers through the rows of a language, in each case whose files are there."""
+    with tempfile.TemporaryDirectory() as path:
+        folder = closings.Folder(program, path)
+        folder.make()
+        for case in closings.CASES:
+            files = [word for word in case.words.split() if "." in word]
+            if all(os.path.exists(os.path.join(path, file)) for file in files):
+                out, errors, status = run([*rows, "close", *case.words.split()], folder=path)
+                found = case._replace(out=out.decode(), err=errors.decode(), status=status)
+                yield f"{name}, close {case.words[-60:]}", found == case
+
+
 # ---- odd lines, through C
 
 def odd_lines_of(form):
@@ -239,6 +254,7 @@ def results(program):
         yield from tests()
         words = rows()
         yield from same_rows(name, words) if words[0] else [(f"{name}, rows", False)]
+        yield from same_closings(name, words, program) if words[0] else []
     if build.c_compiler():
         for form in ["odd", "odd-site"]:
             yield from odd(Program(program), form)

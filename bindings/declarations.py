@@ -22,20 +22,21 @@ import rbbank
 
 # What a call takes or returns, in the words of each language.
 OF_EXPORTS = {
-    "Global": [], "&[u8]": ["bytes in", "usize"], "&mut [u8]": ["bytes out", "usize"], "&mut usize": ["usize out"],
-    "&mut u64": ["u64 out"], "usize": ["usize"], "u8": ["u8"], "i32": ["i32"], "": ["nothing"],
+    "Global": [], "&[u8]": ["bytes in", "usize"], "&mut [u8]": ["bytes out", "usize"],
+    "&[usize]": ["usizes in", "usize"], "&mut usize": ["usize out"], "&mut u64": ["u64 out"], "usize": ["usize"],
+    "u8": ["u8"], "i32": ["i32"], "": ["nothing"],
 }
 OF_C = {
-    "const uint8_t *": "bytes in", "uint8_t *": "bytes out", "size_t *": "usize out", "uint64_t *": "u64 out",
-    "size_t": "usize", "uint8_t": "u8", "int32_t": "i32", "void": "nothing",
+    "const uint8_t *": "bytes in", "uint8_t *": "bytes out", "const size_t *": "usizes in", "size_t *": "usize out",
+    "uint64_t *": "u64 out", "size_t": "usize", "uint8_t": "u8", "int32_t": "i32", "void": "nothing",
 }
 OF_RUST = {
-    "*mut Handle": "handle", "*const u8": "bytes in", "*mut u8": "bytes out", "*mut usize": "usize out",
-    "*mut u64": "u64 out", "usize": "usize", "u8": "u8", "i32": "i32", "": "nothing",
+    "*mut Handle": "handle", "*const u8": "bytes in", "*mut u8": "bytes out", "*const usize": "usizes in",
+    "*mut usize": "usize out", "*mut u64": "u64 out", "usize": "usize", "u8": "u8", "i32": "i32", "": "nothing",
 }
 OF_PYTHON = {
-    ctypes.POINTER(ctypes.c_void_p): "handle", ctypes.c_char_p: "bytes", ctypes.POINTER(ctypes.c_size_t): "u64 out",
-    ctypes.POINTER(ctypes.c_uint64): "u64 out", ctypes.c_size_t: "u64", ctypes.c_uint64: "u64", ctypes.c_uint8: "u8",
+    ctypes.POINTER(ctypes.c_void_p): "handle", ctypes.c_char_p: "bytes", ctypes.POINTER(ctypes.c_size_t): "u64s",
+    ctypes.POINTER(ctypes.c_uint64): "u64s", ctypes.c_size_t: "u64", ctypes.c_uint64: "u64", ctypes.c_uint8: "u8",
     ctypes.c_int32: "i32", None: "nothing",
 }
 
@@ -94,7 +95,7 @@ def of_python():
 
 def as_python_has_it(kinds):
     """ctypes knows no `const`, and lengths as numbers of 64 bits."""
-    return [re.sub("^bytes .*", "bytes", kind).replace("usize", "u64") for kind in kinds]
+    return [re.sub("^u64s? .*", "u64s", re.sub("^bytes .*", "bytes", kind).replace("usize", "u64")) for kind in kinds]
 
 
 def differences():

@@ -1,4 +1,4 @@
-/* The core of the bank, for C: sites that answer lines, and the three runs from bytes to bytes.
+/* The core of the bank, for C: sites that answer lines, and the four runs from bytes to bytes.
  *
  * Lines, limits, refusals and statuses are those of docs/FORMAT.md. What each call does is proved of the code behind
  * it (crates/rb_capi). The rest is the caller's to keep:
@@ -7,8 +7,8 @@
  *   two copies of one handle would end one bank twice. It may be moved: the old place is then forgotten.
  * - One call at a time on a handle, and from one thread at a time. Two handles know nothing of each other.
  * - Each pointer has as many bytes behind it as its length says, for the time of the call alone: nothing that is
- *   passed is kept. With a length of 0 the pointer isn't followed. What is written (`out`, `written`, `number`)
- *   overlaps nothing else that is passed.
+ *   passed is kept. With a length of 0 the pointer isn't followed. What is written (`out`, `written`, `number`,
+ *   `journal`) overlaps nothing else that is passed.
  * - A handle that was opened is closed, else its memory is lost. Closing twice, and a zeroed handle, are fine.
  *
  * No call has another condition: any bytes are answered. A line is passed without its line feed, and has at most
@@ -99,7 +99,7 @@ void rbbank_site_close(struct rbbank_site *site);
 
 /* ---- Whole runs, from all lines of an input to all lines of the output
  *
- * They return the program's statuses: 0; 1 if an audit found a fault; 2 for a bad line; 3 if `out`, of
+ * The first three return the program's statuses: 0; 1 if an audit found a fault; 2 for a bad line; 3 if `out`, of
  * `capacity` bytes, is too short for what was to be written, however the run ended; 4 if memory ran out. `*written`
  * bytes of `out` were written: with 0 and 1 the whole output, with 2 what was written before the bad line, with 3 a
  * prefix, with 4 what was written by then, maybe nothing. `*number` is with 0 and 1 how many lines were written; with 2
@@ -117,6 +117,40 @@ int32_t rbbank_audit(const uint8_t *input, size_t length, uint8_t *out, size_t c
 /* The histories of either version in, of version 2 out: `rbbank migrate`. */
 int32_t rbbank_migrate(const uint8_t *input, size_t length, uint8_t *out, size_t capacity, size_t *written,
                        uint64_t *number);
+
+/* What rbbank_close_books returns, beside 0, RBBANK_BAD_LINE and RBBANK_NO_MEMORY. */
+enum {
+    RBBANK_NOT_CLOSED = 1,         /* the line says why the books can't be closed */
+    RBBANK_TOO_SHORT = 3,          /* `out` is too short */
+    RBBANK_NOT_SEALED = 5,         /* a journal doesn't end in a line feed and a TAB */
+    RBBANK_ANOTHER_BANK = 6,       /* its first line is no configuration as a site writes it, or not journal 0's */
+    RBBANK_ANOTHER_SITE = 7,       /* an entry in it is another site's */
+    RBBANK_WRONG_JOURNALS = 8,     /* there are more journals than sites, or fewer */
+    RBBANK_WRONG_SITES = 9,        /* `sites` is neither 0 nor 2 to 16 */
+    RBBANK_ACCOUNT_THERE = 10,     /* an account has the name already, in the bank or before it in `names` */
+    RBBANK_NO_NAME = 11,           /* a name isn't 1 to 32 bytes of a-z 0-9 . _ - */
+    RBBANK_TOO_MANY_ACCOUNTS = 12, /* there would be more than 1,000 accounts */
+    RBBANK_WRONG_LENGTHS = 13      /* `count` is 0, or the sum of `lengths` isn't `journals_length` */
+};
+
+/* The sealed journals of all sites in, the next bank's configuration out: `rbbank close`. A journal is sealed by a TAB
+ * behind its last line feed, once its site is ended for good.
+ *
+ * The journals are one behind another in `journals`, in the order of their sites: `count` of them, of `lengths[0]`,
+ * `lengths[1]`, .. bytes. The next bank has `sites` sites, 2 to 16, or as many as before if it is 0. `names` has the
+ * names of the accounts that it has behind the others, each with its line feed (the last one may lack it), such as
+ * "eve\nzed\n"; they start with 0 cents.
+ *
+ * 0: the line in `out` is the next bank's configuration, with all eight keys. 1: it says why there is none: what an
+ * audit finds, {"fault":"open",..} or {"account":..,"fault":"limit"}. With another status no line was written, but
+ * with 3 a prefix of it.
+ *
+ * `*number` is with 0 and 1 how many lines were written, 1; with 2 and 7 the number of the line in its journal, from
+ * 1; with 3 how many bytes `out` has to have; with 8 how many sites the configuration has; with 10 and 11 which of the
+ * names it is, from 0; else 0. `*journal` is with 2, 5, 6 and 7 which journal it is, from 0; else 0. */
+int32_t rbbank_close_books(uint8_t sites, const uint8_t *names, size_t names_length, const uint8_t *journals,
+                           size_t journals_length, const size_t *lengths, size_t count, uint8_t *out,
+                           size_t capacity, size_t *written, uint64_t *number, uint64_t *journal);
 
 #ifdef __cplusplus
 }

@@ -108,6 +108,21 @@ static int whole_runs(void) {
     return (status == 0 ? number == 2 : status == 4 && refused) && fine;
 }
 
+static const char HEAD[] = "{\"accounts\":[[\"ann\",900]],\"blue\":1000000,\"epoch\":4000000000,\"history\":100000000,"
+                           "\"inbox\":4096,\"red\":1000000,\"sites\":2,\"version\":1}\n\t";
+
+/* Two sites at which nothing happened. */
+static int closed_books(void) {
+    static char journals[2 * sizeof HEAD];
+    static const size_t lengths[] = {sizeof HEAD - 1, sizeof HEAD - 1};
+    uint8_t out[1000];
+    size_t written, length = (size_t)snprintf(journals, sizeof journals, "%s%s", HEAD, HEAD);
+    uint64_t number, journal;
+    int32_t status = rbbank_close_books(3, BYTES("eve\nzed\n"), (uint8_t *)journals, length, lengths, 2, out,
+                                        sizeof out, &written, &number, &journal);
+    return status == 0 ? written > 0 && number == 1 : status == 4 && written == 0 && number == 0 && refused;
+}
+
 /* Whether all is as it has to be with each allocation refused, and with none. */
 static int each_refused(const char *name, int (*uses)(void)) {
     long nth = 0;
@@ -129,5 +144,6 @@ int main(void) {
     int fine = each_refused("a bank", a_bank);
     fine = each_refused("a site", a_site) && fine;
     fine = each_refused("whole runs", whole_runs) && fine;
+    fine = each_refused("closed books", closed_books) && fine;
     return !fine;
 }

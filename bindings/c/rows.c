@@ -2,6 +2,7 @@
  *
  * usage: rows script|audit|migrate|bank|odd < LINES
  *        rows site --me S --journal FILE [--new] [--resend N] < LINES
+ *        rows close [--sites N] [--account NAME].. JOURNAL..
  *        rows odd-site --me S < LINES
  *        rows calls COUNT < TWO LINES
  *
@@ -284,6 +285,95 @@ static int odd_site(struct text all, unsigned me) {
     return status == RBBANK_BAD_LINE ? 0 : status;
 }
 
+static void add(struct text *text, const void *bytes, size_t length) {
+    text->bytes = larger(text->bytes, text->length + length + 1);
+    memcpy(text->bytes + text->length, bytes, length);
+    text->length += length;
+}
+
+/* What a fault of closing the books is, as the program says it of these files. */
+static void say_fault(int32_t status, uint64_t number, const char *file, char **names, size_t files) {
+    unsigned long long n = number;
+    fprintf(stderr, "rbbank: ");
+    switch (status) {
+    case RBBANK_BAD_LINE: fprintf(stderr, "%s: line %llu: bad line\n", file, n); break;
+    case RBBANK_NOT_SEALED: fprintf(stderr, "%s: not sealed\n", file); break;
+    case RBBANK_ANOTHER_BANK: fprintf(stderr, "%s: another bank's journal\n", file); break;
+    case RBBANK_ANOTHER_SITE: fprintf(stderr, "%s: line %llu: another site's entry\n", file, n); break;
+    case RBBANK_WRONG_JOURNALS: fprintf(stderr, "%zu journals for %llu sites\n", files, n); break;
+    case RBBANK_ACCOUNT_THERE: fprintf(stderr, "account %s: there is one already\n", names[n]); break;
+    case RBBANK_NO_NAME: fprintf(stderr, "account %s: no name\n", names[n]); break;
+    case RBBANK_TOO_MANY_ACCOUNTS: fprintf(stderr, "too many accounts\n"); break;
+    default: fprintf(stderr, "status %d\n", (int)status);
+    }
+}
+
+/* What was asked of closing the books: the accounts, and the files with what they have. */
+struct closing {
+    uint8_t sites;
+    char **accounts, **files;
+    size_t *lengths, count;
+    struct text names, journals;
+};
+
+static struct closing closing_of(int count, char **words) {
+    size_t size = (size_t)count * sizeof(char *);
+    struct closing all = {0, larger(NULL, size), larger(NULL, size), larger(NULL, (size_t)count * sizeof(size_t)), 0,
+                          {0}, {0}};
+    size_t accounts = 0;
+    for (int i = 2; i < count; i++) {
+        if (strcmp(words[i], "--sites") == 0) {
+            all.sites = (uint8_t)atoi(words[++i]);
+        } else if (strcmp(words[i], "--account") == 0) {
+            all.accounts[accounts++] = words[++i];
+            add(&all.names, words[i], strlen(words[i]));
+            add(&all.names, "\n", 1);
+        } else {
+            FILE *file = fopen(words[i], "rb");
+            if (file == NULL)
+                stop("no journal", 0, "");
+            struct text journal = read_all(file);
+            fclose(file);
+            add(&all.journals, journal.bytes, journal.length);
+            all.files[all.count] = words[i];
+            all.lengths[all.count++] = journal.length;
+            free(journal.bytes);
+        }
+    }
+    return all;
+}
+
+/* Closes the books by the journals in files. */
+static int close_books(struct closing all) {
+    struct text out = {NULL, 0};
+    uint64_t number = 1, journal;
+    int32_t status;
+    do {
+        size_t capacity = number;
+        out.bytes = larger(out.bytes, capacity);
+        status = rbbank_close_books(all.sites, all.names.bytes, all.names.length, all.journals.bytes,
+                                    all.journals.length, all.lengths, all.count, out.bytes, capacity, &out.length,
+                                    &number, &journal);
+    } while (status == RBBANK_TOO_SHORT);
+    fwrite(out.bytes, 1, out.length, stdout);
+    if (status > RBBANK_NOT_CLOSED)
+        say_fault(status, number, all.files[journal], all.accounts, all.count);
+    free(out.bytes);
+    return status > RBBANK_NOT_CLOSED ? 2 : (int)status;
+}
+
+/* Closes the books as the words ask for. */
+static int closing(int count, char **words) {
+    struct closing all = closing_of(count, words);
+    int status = close_books(all);
+    free(all.accounts);
+    free(all.files);
+    free(all.lengths);
+    free(all.names.bytes);
+    free(all.journals.bytes);
+    return status;
+}
+
 /* The word behind an option. */
 static const char *word(int count, char **words, const char *option, const char *otherwise) {
     for (int i = 1; i + 1 < count; i++)
@@ -309,6 +399,8 @@ static int run(int count, char **words, struct text all) {
         return whole(rbbank_audit, all);
     if (strcmp(what, "migrate") == 0)
         return whole(rbbank_migrate, all);
+    if (strcmp(what, "close") == 0)
+        return closing(count, words);
     if (strcmp(what, "bank") == 0 || strcmp(what, "odd") == 0)
         return bank(all, what[0] == 'o');
     if (strcmp(what, "calls") == 0)
@@ -318,7 +410,7 @@ static int run(int count, char **words, struct text all) {
     if (strcmp(what, "site") == 0)
         return site(all, me, word(count, words, "--journal", "journal"), has(count, words, "--new"),
                     atol(word(count, words, "--resend", "-1")));
-    stop("rows script|audit|migrate|bank|odd|site|odd-site|calls", 0, "");
+    stop("rows script|audit|migrate|bank|odd|site|close|odd-site|calls", 0, "");
     return 2;
 }
 

@@ -90,12 +90,12 @@ static void a_bank(void) {
     WANTED(bank.at == NULL && rbbank_answer(&bank, BYTES(DEPOSIT)) == RBBANK_NONE);
 }
 
-static const char HEAD[] = "{\"accounts\":[[\"ann\",0]],\"blue\":1000000,\"epoch\":4000000000,\"history\":100000000,"
-                           "\"inbox\":4096,\"red\":1000000,\"sites\":2,\"version\":1}\n";
-static const char SENT[] = "\"sends\":[{\"shadow\":{\"account\":\"ann\",\"amount\":500,\"deps\":[[0,0,0,0,0,0,0,0],0],"
-                           "\"home\":0,\"kind\":\"deposit\",\"name\":\"B0.1\"}}]";
-static const char ENTRY[] = "{\"event\":{\"deposit\":[\"ann\",500]},"
-                            "\"reply\":{\"kind\":\"deposit\",\"name\":\"B0.1\"},\"site\":0}";
+#define LIMITS "\"blue\":1000000,\"epoch\":4000000000,\"history\":100000000,\"inbox\":4096,\"red\":1000000,"
+#define HEAD "{\"accounts\":[[\"ann\",0]]," LIMITS "\"sites\":2,\"version\":1}\n"
+#define SHADOW "{\"shadow\":{\"account\":\"ann\",\"amount\":500,\"deps\":[[0,0,0,0,0,0,0,0],0],\"home\":0," \
+               "\"kind\":\"deposit\",\"name\":\"B0.1\"}}"
+#define SENT "\"sends\":[" SHADOW "]"
+#define ENTRY "{\"event\":{\"deposit\":[\"ann\",500]},\"reply\":{\"kind\":\"deposit\",\"name\":\"B0.1\"},\"site\":0}"
 
 static void a_site(void) {
     struct rbbank_site site = {0};
@@ -172,12 +172,127 @@ static void whole_runs(void) {
     WANTED(runs(rbbank_migrate, lines, 0, 2, wanted));
 }
 
+/* The texts one behind another, and their lengths, each in memory of just that size. */
+struct journals {
+    uint8_t *bytes;
+    size_t length, *lengths, count;
+};
+
+static struct journals together(const char *const *texts, size_t count) {
+    struct journals all = {NULL, 0, malloc(count * sizeof(size_t) + 1), count};
+    for (size_t i = 0; i < count; i++)
+        all.length += all.lengths[i] = strlen(texts[i]);
+    all.bytes = malloc(all.length + 1);
+    for (size_t i = 0, at = 0; i < count; at += all.lengths[i++])
+        memcpy(all.bytes + at, texts[i], all.lengths[i]);
+    return all;
+}
+
+/* What closing the books has to find. */
+struct found {
+    int32_t status;
+    uint64_t number, journal;
+    const char *text;
+};
+
+/* What closing the books finds, by a buffer of this size. */
+static struct found books(uint8_t sites, const char *names, struct journals all, uint8_t *out, size_t size,
+                          size_t *written) {
+    struct found found = {0, UINT64_MAX, UINT64_MAX, (char *)out};
+    *written = SIZE_MAX;
+    found.status = rbbank_close_books(sites, BYTES(names), all.bytes, all.length, all.lengths, all.count, out, size,
+                                      written, &found.number, &found.journal);
+    return found;
+}
+
+/* Whether closing the books finds this, by a buffer of each size. One that is too short gets a prefix, and the number
+ * is the length. */
+static int closes(uint8_t sites, const char *names, struct journals all, struct found wanted) {
+    size_t length = strlen(wanted.text), written;
+    for (size_t size = 0; size <= length + 1; size++) {
+        struct found fits = size < length ? (struct found){RBBANK_TOO_SHORT, length, 0, wanted.text} : wanted;
+        uint8_t *out = malloc(size + 1);
+        out[size] = 'z';
+        struct found found = books(sites, names, all, out, size, &written);
+        int same = found.status == fits.status && found.number == fits.number && found.journal == fits.journal &&
+                   written == (size < length ? size : length) && memcmp(out, wanted.text, written) == 0 &&
+                   out[size] == 'z';
+        free(out);
+        if (!same)
+            return 0;
+    }
+    return 1;
+}
+
+/* Whether closing the books by these journals finds this. */
+static int closes_by(uint8_t sites, const char *names, const char *first, const char *second, struct found wanted) {
+    const char *texts[] = {first, second};
+    struct journals all = together(texts, second == NULL ? 1 : 2);
+    int same = closes(sites, names, all, wanted);
+    free(all.bytes);
+    free(all.lengths);
+    return same;
+}
+
+#define SEALED "\t"
+#define MADE_AT_0 HEAD ENTRY "\n" SEALED
+#define APPLIED_AT_1 HEAD "{\"event\":" SHADOW ",\"reply\":{\"held\":\"B0.1\"},\"site\":1}\n" \
+                     "{\"event\":{\"apply\":\"B0.1\"},\"reply\":{\"applied\":\"B0.1\"},\"site\":1}\n" SEALED
+#define NOTHING_AT_1 HEAD SEALED
+
+static void closed_books(void) {
+    struct found next = {0, 1, 0, "{\"accounts\":[[\"ann\",500]]," LIMITS "\"sites\":2,\"version\":1}\n"};
+    WANTED(closes_by(0, "", MADE_AT_0, APPLIED_AT_1, next));
+    struct found larger = {0, 1, 0, "{\"accounts\":[[\"ann\",500],[\"eve\",0],[\"zed\",0]]," LIMITS
+                                    "\"sites\":9,\"version\":2}\n"};
+    WANTED(closes_by(9, "eve\nzed\n", MADE_AT_0, APPLIED_AT_1, larger));
+    WANTED(closes_by(9, "eve\nzed", MADE_AT_0, APPLIED_AT_1, larger));
+    struct found open = {RBBANK_NOT_CLOSED, 1, 0, "{\"fault\":\"open\",\"lacks\":[[],[\"B0.1\"]]}\n"};
+    WANTED(closes_by(0, "", MADE_AT_0, NOTHING_AT_1, open));
+    WANTED(closes_by(0, "", MADE_AT_0, HEAD, (struct found){RBBANK_NOT_SEALED, 0, 1, ""}));
+    WANTED(closes_by(0, "", MADE_AT_0, "{}\n" SEALED, (struct found){RBBANK_ANOTHER_BANK, 0, 1, ""}));
+    WANTED(closes_by(0, "", MADE_AT_0, HEAD "{}\n" SEALED, (struct found){RBBANK_BAD_LINE, 2, 1, ""}));
+    WANTED(closes_by(0, "", MADE_AT_0, MADE_AT_0, (struct found){RBBANK_ANOTHER_SITE, 2, 1, ""}));
+    WANTED(closes_by(0, "", MADE_AT_0, NULL, (struct found){RBBANK_WRONG_JOURNALS, 2, 0, ""}));
+}
+
+/* The words are wrong. */
+static void books_not_closed(void) {
+    static const uint8_t wrong_sites[] = {1, 17, 255};
+    for (size_t i = 0; i < sizeof wrong_sites; i++)
+        WANTED(closes_by(wrong_sites[i], "", MADE_AT_0, APPLIED_AT_1, (struct found){RBBANK_WRONG_SITES, 0, 0, ""}));
+    struct found there = {RBBANK_ACCOUNT_THERE, 1, 0, ""}, no_name = {RBBANK_NO_NAME, 1, 0, ""};
+    WANTED(closes_by(0, "zed\nann\n", MADE_AT_0, APPLIED_AT_1, there));
+    WANTED(closes_by(0, "zed\nzed\n", MADE_AT_0, APPLIED_AT_1, there));
+    WANTED(closes_by(0, "zed\nAnn\n", MADE_AT_0, APPLIED_AT_1, no_name));
+    WANTED(closes_by(0, "zed\n\n", MADE_AT_0, APPLIED_AT_1, no_name));
+    WANTED(closes_by(0, "zed\n\xff\n", MADE_AT_0, APPLIED_AT_1, no_name));
+    char many[6 * 1000 + 1];
+    for (int i = 0; i < 1000; i++)
+        snprintf(many + 5 * i, 6, "a%03d\n", i);
+    WANTED(closes_by(0, many, MADE_AT_0, APPLIED_AT_1, (struct found){RBBANK_TOO_MANY_ACCOUNTS, 0, 0, ""}));
+    const char *texts[] = {MADE_AT_0, APPLIED_AT_1};
+    struct journals all = together(texts, 2), none = {NULL, 0, NULL, 0};
+    struct found wrong_lengths = {RBBANK_WRONG_LENGTHS, 0, 0, ""};
+    WANTED(closes(0, "", none, wrong_lengths));
+    all.lengths[1]--;
+    WANTED(closes(0, "", all, wrong_lengths));
+    all.lengths[1] += 2;
+    WANTED(closes(0, "", all, wrong_lengths));
+    all.lengths[1] = SIZE_MAX;
+    WANTED(closes(0, "", all, wrong_lengths));
+    free(all.bytes);
+    free(all.lengths);
+}
+
 int main(void) {
     of_nothing();
     a_bank();
     a_site();
     a_replay();
     whole_runs();
+    closed_books();
+    books_not_closed();
     printf("C: %s\n", wrong == 0 ? "as wanted" : "wrong");
     return wrong != 0;
 }

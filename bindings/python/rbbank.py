@@ -16,9 +16,9 @@ A site is one of them, whose messages and journal are the caller's to carry and 
 '{"reply":{"balance":0},"sends":[],"then":[]}'
 b'{"event":{"balance":"ann"},"reply":{"balance":0},"site":1}\\n'
 
-`script`, `audit` and `migrate` are whole runs. Lines, limits and refusals are those of docs/FORMAT.md; a refusal is a
-reply, and no exception. The library is librbbank.so: in the folder that the environment's RBBANK_LIB names, else in
-../out beside this module (`make bindings` makes it), else where the system finds libraries.
+`script`, `audit`, `migrate` and `close` are whole runs. Lines, limits and refusals are those of docs/FORMAT.md; a
+refusal is a reply, and no exception. The library is librbbank.so: in the folder that the environment's RBBANK_LIB
+names, else in ../out beside this module (`make bindings` makes it), else where the system finds libraries.
 """
 from __future__ import annotations
 
@@ -28,8 +28,8 @@ import threading
 import typing
 import weakref
 
-__all__ = ["Audit", "BadLine", "Bank", "Closed", "LineFault", "NoSuchSite", "Site", "WrongReply", "audit", "migrate",
-           "script"]
+__all__ = ["Audit", "BadLine", "Bank", "Books", "CloseFault", "Closed", "LineFault", "NoSuchSite", "Site", "WrongReply",
+           "audit", "close", "migrate", "script"]
 
 Line = typing.Union[str, bytes]
 
@@ -67,6 +67,28 @@ class Audit(typing.NamedTuple):
     line: str
 
 
+class Books(typing.NamedTuple):
+    """What closing a bank's books found: whether they are closed, and the line: the next bank's configuration, or what
+    each site lacks, or which account has more than one may start with, or what an audit finds."""
+    closed: bool
+    line: str
+
+
+class CloseFault(ValueError):
+    """A bank's books weren't closed.
+
+    `reason` is "bad line", "not sealed", "another bank's journal", "another site's entry", "number of journals",
+    "no journal", "number of sites", "there is one already", "no name" or "too many accounts". With the first four
+    `journal` is the index of the journal, and with a line that is wrong `line` is its number in it, from 1. If it is of
+    an account's name, `account` is the name. Else they are None.
+    """
+
+    def __init__(self, reason: str, text: str, journal: int | None = None, line: int | None = None,
+                 account: str | None = None) -> None:
+        super().__init__(text)
+        self.reason, self.journal, self.line, self.account = reason, journal, line, account
+
+
 # ---- the library
 
 _HANDLE = ctypes.POINTER(ctypes.c_void_p)
@@ -74,7 +96,9 @@ _SIZES = ctypes.POINTER(ctypes.c_size_t)
 _NUMBERS = ctypes.POINTER(ctypes.c_uint64)
 _TAKES = [_HANDLE, ctypes.c_char_p, ctypes.c_size_t]
 _COPIES = [_HANDLE, ctypes.c_size_t, ctypes.c_char_p, ctypes.c_size_t]
-_RUNS = [ctypes.c_char_p, ctypes.c_size_t, ctypes.c_char_p, ctypes.c_size_t, _SIZES, _NUMBERS]
+_TEXT = [ctypes.c_char_p, ctypes.c_size_t]
+_RUNS = [*_TEXT, *_TEXT, _SIZES, _NUMBERS]
+_CLOSES = [ctypes.c_uint8, *_TEXT, *_TEXT, _SIZES, ctypes.c_size_t, *_TEXT, _SIZES, _NUMBERS, _NUMBERS]
 # Each call of bindings/c/rbbank.h: what it returns, and what it takes.
 CALLS: dict[str, tuple[typing.Any, list[typing.Any]]] = {
     "rbbank_open": (ctypes.c_int32, _TAKES),
@@ -90,6 +114,7 @@ CALLS: dict[str, tuple[typing.Any, list[typing.Any]]] = {
     "rbbank_script": (ctypes.c_int32, _RUNS),
     "rbbank_audit": (ctypes.c_int32, _RUNS),
     "rbbank_migrate": (ctypes.c_int32, _RUNS),
+    "rbbank_close_books": (ctypes.c_int32, _CLOSES),
 }
 _FILE = "librbbank.so"
 _PART = 4096  # bytes that are copied at once
@@ -113,7 +138,7 @@ def _call(name: str) -> typing.Any:
     """
     if name not in _loaded:
         result, takes = CALLS[name]
-        call = (ctypes.CDLL if takes is _RUNS else ctypes.PyDLL)(_path())[name]
+        call = (ctypes.PyDLL if takes[0] is _HANDLE else ctypes.CDLL)(_path())[name]
         call.restype, call.argtypes = result, takes
         _loaded[name] = call
     return _loaded[name]
@@ -239,20 +264,25 @@ class Site(_Handle):
 
 # ---- whole runs
 
-def _run(name: str, lines: Line) -> tuple[int, str]:
-    """Runs a call from bytes to bytes, again where the output was longer than thought: its status, and the output."""
-    data = _bytes(lines)
-    written, number = ctypes.c_size_t(), ctypes.c_uint64(4096 + len(data))
+def _grown(name: str, thought: int, given: tuple[typing.Any, ...], *more: typing.Any) -> tuple[int, int, str]:
+    """Calls from bytes to bytes, again where the output is longer than thought: the status, the number, the output."""
+    written, number = ctypes.c_size_t(), ctypes.c_uint64(thought)
     status = 3
     while status == 3:
         size = number.value
         out = ctypes.create_string_buffer(size)
-        status = _call(name)(data, len(data), out, size, ctypes.byref(written), ctypes.byref(number))
-    text = ctypes.string_at(out, written.value).decode()
-    if status == _BAD_LINE:
-        raise LineFault(number.value, text)
+        status = _call(name)(*given, out, size, ctypes.byref(written), ctypes.byref(number), *more)
     if status == _NO_MEMORY:
         raise MemoryError
+    return status, number.value, ctypes.string_at(out, written.value).decode()
+
+
+def _run(name: str, lines: Line) -> tuple[int, str]:
+    """Runs a call from lines to lines: its status, and the output."""
+    data = _bytes(lines)
+    status, number, text = _grown(name, 4096 + len(data), (data, len(data)))
+    if status == _BAD_LINE:
+        raise LineFault(number, text)
     return status, text
 
 
@@ -276,3 +306,60 @@ def audit(histories: Line) -> Audit:
     """
     status, text = _run("rbbank_audit", histories)
     return Audit(status == 0, text[:-1])
+
+
+# What a status of closing means, in the program's words.
+_REASONS = {2: "bad line", 5: "not sealed", 6: "another bank's journal", 7: "another site's entry",
+            8: "number of journals", 9: "number of sites", 10: "there is one already", 11: "no name",
+            12: "too many accounts", 13: "no journal"}
+
+
+def _close_fault(status: int, number: int, journal: int, journals: int, accounts: list[str]) -> CloseFault:
+    """What a status above 1 means, with its number and its journal, of so many journals and of these accounts."""
+    reason = _REASONS[status]
+    if reason in ("not sealed", "another bank's journal"):
+        return CloseFault(reason, f"journal {journal}: {reason}", journal)
+    if reason in ("bad line", "another site's entry"):
+        return CloseFault(reason, f"journal {journal}: line {number}: {reason}", journal, number)
+    if reason in ("there is one already", "no name"):
+        return CloseFault(reason, f"account {accounts[number]}: {reason}", account=accounts[number])
+    more = {"number of journals": f"{journals} journals for {number} sites", "number of sites": "not 2 to 16 sites"}
+    return CloseFault(reason, more.get(reason, reason))
+
+
+def _name(account: str) -> bytes:
+    """The line of a name. One with a line feed in it is no name, and so is an empty one."""
+    return (b"" if "\n" in account else account.encode("utf-8", "surrogatepass")) + b"\n"
+
+
+def close(journals: typing.Iterable[bytes], sites: int | None = None, accounts: typing.Iterable[str] = ()) -> Books:
+    """Closes a bank's books by the sealed journals of all its sites, in the order of their numbers.
+
+    The next bank has `sites` sites, 2 to 16, or as many as before, and these accounts behind the others.
+
+    >>> configuration, journals = '{"accounts":[["ann",0]],"sites":2,"version":1}', []
+    >>> for me in range(2):
+    ...     with Site(me, configuration) as site:
+    ...         journals.append(site.entries() + b"\\t")  # nothing happened, and it is sealed
+    >>> close(journals, sites=3, accounts=["zed"]).line.partition(',"blue"')[0]
+    '{"accounts":[["ann",0],["zed",0]]'
+    >>> close(journals[:1])
+    Traceback (most recent call last):
+    rbbank.CloseFault: 1 journals for 2 sites
+
+    Raises CloseFault for the first thing that is wrong with the number of sites, with the names, or with a journal and
+    then those behind it; MemoryError.
+    """
+    if isinstance(accounts, (str, bytes)):
+        raise TypeError("accounts: a list of names")
+    files, added = list(journals), list(accounts)
+    data, names = b"".join(files), b"".join(map(_name, added))
+    lengths = (ctypes.c_size_t * len(files))(*map(len, files))
+    # 0 asks for as many as before, and no bank has 1.
+    asked = 0 if sites is None else sites if 2 <= sites <= 16 else 1
+    journal = ctypes.c_uint64()
+    given = (asked, names, len(names), data, len(data), lengths, len(files))
+    status, number, text = _grown("rbbank_close_books", 4096 + len(names), given, ctypes.byref(journal))
+    if status > 1:
+        raise _close_fault(status, number, journal.value, len(files), added)
+    return Books(status == 0, text[:-1])

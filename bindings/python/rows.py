@@ -3,6 +3,7 @@
 
 usage: rows.py script|audit|migrate|bank < LINES
        rows.py site --me S --journal FILE [--new] [--resend N] < LINES
+       rows.py close [--sites N] [--account NAME].. JOURNAL..
        rows.py calls COUNT < TWO LINES
 
 `bank` answers a script line by line. `calls` gives the second line COUNT times to the bank of the first, and writes
@@ -10,6 +11,7 @@ nothing, for bench/bindings.py. A fault is `rbbank: line N` without its kind.
 """
 import argparse
 import os
+import re
 import sys
 
 import rbbank
@@ -140,10 +142,33 @@ def site(words, data):
     return 0
 
 
+def read(path):
+    with open(path, "rb") as file:
+        return file.read()
+
+
+def close(words):
+    """Closes the books by the journals in these files."""
+    asked = argparse.ArgumentParser()
+    asked.add_argument("--sites", type=int)
+    asked.add_argument("--account", action="append", default=[])
+    asked.add_argument("journals", nargs="*")
+    given = asked.parse_intermixed_args(words)
+    try:
+        books = rbbank.close(map(read, given.journals), given.sites, given.account)
+    except rbbank.CloseFault as fault:
+        text = re.sub(r"^journal (\d+)", lambda found: given.journals[int(found[1])], str(fault))
+        raise Stop(text) from None
+    write(books.line + "\n")
+    return 0 if books.closed else 1
+
+
 def main(words):
     if words == [] or words[0] in ("-h", "--help"):
         print(__doc__)
         return 2
+    if words[0] == "close":
+        return close(words[1:])
     data = sys.stdin.buffer.read()
     if words[0] == "site":
         return site(words[1:], data)

@@ -120,6 +120,68 @@ class Runs(unittest.TestCase):
         self.assertTrue(rbbank.migrate(history).split("\n")[0].endswith('"version":2}'))
 
 
+def journals(received):
+    """The sealed journals of two sites: one made a deposit, which the other has applied if it received it."""
+    with rbbank.Site(0, CONFIG) as home, rbbank.Site(1, CONFIG) as other:
+        first, second = home.entries(), other.entries()
+        message = json.loads(home.answer(EVENT))["sends"][0]
+        first += home.entries()
+        if received:
+            other.answer(json.dumps(message, separators=(",", ":")))
+            second += other.entries()
+        return [first + b"\t", second + b"\t"]
+
+
+class Closings(unittest.TestCase):
+
+    def test_closed(self):
+        books = rbbank.close(journals(True))
+        self.assertTrue(books.closed)
+        self.assertEqual(json.loads(books.line)["accounts"], [["ann", 500]])
+        with rbbank.Bank(books.line) as bank:
+            self.assertEqual(bank.answer('{"balance":"ann","site":1}'), '{"balance":500}')
+        larger = json.loads(rbbank.close(iter(journals(True)), 9, accounts=["eve", "zed"]).line)
+        self.assertEqual(larger["accounts"], [["ann", 500], ["eve", 0], ["zed", 0]])
+        self.assertEqual((larger["sites"], larger["version"]), (9, 2))
+
+    def test_open(self):
+        self.assertEqual(rbbank.close(journals(False)), (False, '{"fault":"open","lacks":[[],["B0.1"]]}'))
+
+    def fault(self, *given):
+        with self.assertRaises(rbbank.CloseFault) as fault:
+            rbbank.close(*given)
+        return fault.exception
+
+    def test_journals_that_are_wrong(self):
+        first, second = journals(True)
+        for wrong, reason, journal, line, text in [
+            ([first, second[:-1]], "not sealed", 1, None, "journal 1: not sealed"),
+            ([b"{}\n\t", second], "another bank's journal", 0, None, "journal 0: another bank's journal"),
+            ([first, first], "another site's entry", 1, 2, "journal 1: line 2: another site's entry"),
+            ([first, second[:-1] + b"{}\n\t"], "bad line", 1, 4, "journal 1: line 4: bad line"),
+            ([first], "number of journals", None, None, "1 journals for 2 sites"),
+            ([], "no journal", None, None, "no journal"),
+        ]:
+            fault = self.fault(wrong)
+            found = (fault.reason, fault.journal, fault.line, fault.account, str(fault))
+            self.assertEqual(found, (reason, journal, line, None, text))
+
+    def test_next_banks_that_can_not_be(self):
+        for names, reason in [(["zed", "ann"], "there is one already"), (["zed", "zed"], "there is one already"),
+                              (["zed", "Ann"], "no name"), (["zed", ""], "no name"), (["zed", "a\nb"], "no name"),
+                              (["zed", "\udcff"], "no name")]:
+            fault = self.fault(journals(True), None, names)
+            found = (fault.reason, fault.account, str(fault))
+            self.assertEqual(found, (reason, names[1], f"account {names[1]}: {reason}"))
+        self.assertEqual(self.fault(journals(True), None, [f"a{n}" for n in range(1000)]).reason, "too many accounts")
+        for sites in [-1, 0, 1, 17, 256, 258]:
+            self.assertEqual(self.fault(journals(True), sites).reason, "number of sites")
+
+    def test_no_lists(self):
+        self.assertRaises(TypeError, rbbank.close, journals(True), None, "zed")
+        self.assertRaises(TypeError, rbbank.close, journals(True)[0])
+
+
 def load_tests(_loader, tests, _pattern):
     tests.addTests(doctest.DocTestSuite(rbbank))
     return tests

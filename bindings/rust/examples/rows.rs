@@ -3,11 +3,12 @@
 //!
 //! usage: rows script|audit|migrate|bank < LINES
 //!        rows site --me S --journal FILE [--new] [--resend N] < LINES
+//!        rows close [--sites N] [--account NAME].. JOURNAL..
 //!        rows calls COUNT < TWO LINES
 //!
 //! `bank` answers a script line by line. `calls` gives the second line COUNT times to the bank of the first, and writes
 //! nothing, for bench/bindings.py. A fault is `rbbank: line N` without its kind.
-use rbbank::{Audit, Bank, OpenError, ReplayError, RunError, Site};
+use rbbank::{Audit, Bank, Books, OpenError, ReplayError, RunError, Site};
 use std::io::{Read, Write};
 use std::process::ExitCode;
 use std::{env, fs, io};
@@ -175,6 +176,41 @@ fn site(words: &[String], input: &str) -> Result<(), Stop> {
     end
 }
 
+/// A fault with the journal's file in place of its number.
+fn with_file(why: &str, files: &[&str]) -> String {
+    match why
+        .strip_prefix("journal ")
+        .and_then(|rest| rest.split_once(": "))
+    {
+        Some((journal, rest)) => {
+            let file = files[journal.parse::<usize>().expect("a number")];
+            format!("{file}: {rest}")
+        }
+        None => why.to_owned(),
+    }
+}
+
+/// Closes the books by the journals in these files.
+fn close(words: &[String]) -> Result<ExitCode, Stop> {
+    let (mut sites, mut accounts, mut files) = (None, Vec::new(), Vec::new());
+    let mut words = words.iter().map(String::as_str);
+    while let Some(word) = words.next() {
+        match word {
+            "--sites" => sites = words.next().map(|word| word.parse().expect("a number")),
+            "--account" => accounts.extend(words.next()),
+            file => files.push(file),
+        }
+    }
+    let read = |file: &&str| fs::read(file).expect("a journal");
+    let journals: Vec<Vec<u8>> = files.iter().map(read).collect();
+    let journals: Vec<&[u8]> = journals.iter().map(Vec::as_slice).collect();
+    match rbbank::close(&journals, sites, &accounts) {
+        Ok(Books::Closed(line)) => whole(Ok(line + "\n")).map(|()| ExitCode::SUCCESS),
+        Ok(Books::NotClosed(line)) => whole(Ok(line + "\n")).map(|()| ExitCode::from(1)),
+        Err(why) => stop(with_file(&why.to_string(), &files)),
+    }
+}
+
 fn run(words: &[String]) -> Result<ExitCode, Stop> {
     let mut input = String::new();
     io::stdin()
@@ -184,10 +220,11 @@ fn run(words: &[String]) -> Result<ExitCode, Stop> {
         "script" => whole(rbbank::script(&input)),
         "migrate" => whole(rbbank::migrate(&input)),
         "audit" => return audit(&input),
+        "close" => return close(&words[1..]),
         "bank" => bank(&input),
         "site" => site(&words[1..], &input),
         "calls" => calls(&input, words.get(1).map_or("", String::as_str)),
-        _ => stop("rows script|audit|migrate|bank|site|calls"),
+        _ => stop("rows script|audit|migrate|bank|site|close|calls"),
     }
     .map(|()| ExitCode::SUCCESS)
 }

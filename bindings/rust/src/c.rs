@@ -54,4 +54,18 @@ extern "C" {
         written: *mut usize,
         number: *mut u64,
     ) -> i32;
+    pub fn rbbank_close_books(
+        sites: u8,
+        names: *const u8,
+        names_length: usize,
+        journals: *const u8,
+        journals_length: usize,
+        lengths: *const usize,
+        count: usize,
+        out: *mut u8,
+        capacity: usize,
+        written: *mut usize,
+        number: *mut u64,
+        journal: *mut u64,
+    ) -> i32;
 }

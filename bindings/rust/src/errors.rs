@@ -53,6 +53,96 @@ pub enum RunError {
     OutOfMemory,
 }
 
+/// Why a bank's books weren't closed. Journals and added accounts are counted from 0, lines from 1.
+#[derive(Clone, Debug, PartialEq, Eq)]
+pub enum CloseError {
+    /// A line is no entry, or longer than 1,048,576 bytes.
+    BadLine {
+        /// Which journal it is in.
+        journal: usize,
+        /// Its number there.
+        line: u64,
+    },
+    /// A journal isn't sealed: it doesn't end in a line feed and a TAB.
+    NotSealed {
+        /// Which it is.
+        journal: usize,
+    },
+    /// A journal's first line is no configuration as a site writes it, or not that of the first journal.
+    AnotherBank {
+        /// Which it is.
+        journal: usize,
+    },
+    /// An entry is another site's.
+    AnotherSite {
+        /// Which journal it is in.
+        journal: usize,
+        /// Its line there.
+        line: u64,
+    },
+    /// There are more journals than sites, or fewer.
+    NumberOfJournals {
+        /// How many journals there are.
+        journals: usize,
+        /// How many sites the configuration has.
+        sites: u64,
+    },
+    /// There is no journal.
+    NoJournal,
+    /// The next bank can't have so many sites.
+    NumberOfSites,
+    /// An account has the name already, in the bank or before it among the added ones.
+    AccountThere {
+        /// The name.
+        name: String,
+    },
+    /// An added account has a name that none may have.
+    NoName {
+        /// What was given as name.
+        name: String,
+    },
+    /// There would be more than 1,000 accounts.
+    TooManyAccounts,
+    /// There was no memory.
+    OutOfMemory,
+}
+
+impl CloseError {
+    /// The error of a status above 1 with its number and its journal, of so many journals and of these added accounts.
+    pub(crate) fn of(
+        status: i32,
+        number: u64,
+        journal: u64,
+        journals: usize,
+        accounts: &[&str],
+    ) -> CloseError {
+        let (line, journal) = (number, journal as usize);
+        let name = || {
+            accounts
+                .get(number as usize)
+                .copied()
+                .unwrap_or("")
+                .to_owned()
+        };
+        match status {
+            2 => CloseError::BadLine { journal, line },
+            5 => CloseError::NotSealed { journal },
+            6 => CloseError::AnotherBank { journal },
+            7 => CloseError::AnotherSite { journal, line },
+            8 => CloseError::NumberOfJournals {
+                journals,
+                sites: number,
+            },
+            9 => CloseError::NumberOfSites,
+            10 => CloseError::AccountThere { name: name() },
+            11 => CloseError::NoName { name: name() },
+            12 => CloseError::TooManyAccounts,
+            13 => CloseError::NoJournal,
+            _ => CloseError::OutOfMemory,
+        }
+    }
+}
+
 impl fmt::Display for OpenError {
     fn fmt(&self, f: &mut fmt::Formatter<'_>) -> fmt::Result {
         f.write_str(match self {
@@ -94,7 +184,34 @@ impl fmt::Display for RunError {
     }
 }
 
+impl fmt::Display for CloseError {
+    fn fmt(&self, f: &mut fmt::Formatter<'_>) -> fmt::Result {
+        match self {
+            CloseError::BadLine { journal, line } => {
+                write!(f, "journal {journal}: line {line}: bad line")
+            }
+            CloseError::NotSealed { journal } => write!(f, "journal {journal}: not sealed"),
+            CloseError::AnotherBank { journal } => {
+                write!(f, "journal {journal}: another bank's journal")
+            }
+            CloseError::AnotherSite { journal, line } => {
+                write!(f, "journal {journal}: line {line}: another site's entry")
+            }
+            CloseError::NumberOfJournals { journals, sites } => {
+                write!(f, "{journals} journals for {sites} sites")
+            }
+            CloseError::NoJournal => f.write_str("no journal"),
+            CloseError::NumberOfSites => f.write_str("not 2 to 16 sites"),
+            CloseError::AccountThere { name } => write!(f, "account {name}: there is one already"),
+            CloseError::NoName { name } => write!(f, "account {name}: no name"),
+            CloseError::TooManyAccounts => f.write_str("too many accounts"),
+            CloseError::OutOfMemory => f.write_str("out of memory"),
+        }
+    }
+}
+
 impl Error for OpenError {}
 impl Error for AnswerError {}
 impl Error for ReplayError {}
 impl Error for RunError {}
+impl Error for CloseError {}

@@ -11,9 +11,9 @@
 //! # Ok::<(), Box<dyn std::error::Error>>(())
 //! ```
 //!
-//! A [`Site`] is one of them, whose messages and journal are the caller's to carry and to keep. [`script`], [`audit`]
-//! and [`migrate`] are whole runs. Lines, limits and refusals are those of docs/FORMAT.md; a refusal is a reply, and no
-//! error.
+//! A [`Site`] is one of them, whose messages and journal are the caller's to carry and to keep. [`script`], [`audit`],
+//! [`migrate`] and [`close`] are whole runs. Lines, limits and refusals are those of docs/FORMAT.md; a refusal is a
+//! reply, and no error.
 //!
 //! Neither is `Send` or `Sync`: what is proved of the library speaks of calls one after another in one thread, and its
 //! memory isn't shown to be that of any thread. A bank may be moved, and it is ended when it is dropped.
@@ -24,6 +24,6 @@ mod errors;
 mod handles;
 mod runs;
 
-pub use errors::{AnswerError, OpenError, ReplayError, RunError};
+pub use errors::{AnswerError, CloseError, OpenError, ReplayError, RunError};
 pub use handles::{Bank, Site};
-pub use runs::{audit, migrate, script, Audit};
+pub use runs::{audit, close, migrate, script, Audit, Books};

@@ -1,6 +1,7 @@
 //! Each call once, and each error that a caller can bring about.
 use rbbank::{
-    audit, migrate, script, AnswerError, Audit, Bank, OpenError, ReplayError, RunError, Site,
+    audit, close, migrate, script, AnswerError, Audit, Bank, Books, CloseError, OpenError,
+    ReplayError, RunError, Site,
 };
 
 const CONFIG: &str = r#"{"accounts":[["ann",0]],"sites":2,"version":1}"#;
@@ -156,4 +157,114 @@ fn whole_runs() {
             r#"{"event":1,"fault":"reply","site":1}"#.to_owned()
         ))
     );
+}
+
+/// The sealed journals of two sites: one made a deposit, which the other has applied if it `received`.
+fn journals(received: bool) -> [Vec<u8>; 2] {
+    let mut sites = [0, 1].map(|me| Site::open(me, CONFIG).unwrap());
+    let mut journals = [String::new(), String::new()];
+    for (journal, site) in journals.iter_mut().zip(&mut sites) {
+        *journal += site.entries();
+    }
+    let answer = sites[0].answer(r#"{"deposit":["ann",500]}"#).unwrap();
+    let sent = answer.split_once(r#""sends":["#).unwrap().1;
+    let message = sent.strip_suffix(r#"],"then":[]}"#).unwrap().to_owned();
+    journals[0] += sites[0].entries();
+    if received {
+        sites[1].answer(&message).unwrap();
+        journals[1] += sites[1].entries();
+    }
+    journals.map(|journal| (journal + "\t").into_bytes())
+}
+
+#[test]
+fn books_are_closed() {
+    let [first, second] = journals(true);
+    let Ok(Books::Closed(next)) = close(&[&first, &second], None, &[]) else {
+        panic!("not closed");
+    };
+    assert!(next.starts_with(r#"{"accounts":[["ann",500]],"blue":"#));
+    let mut bank = Bank::open(&next).unwrap();
+    assert_eq!(
+        bank.answer(r#"{"balance":"ann","site":1}"#),
+        Ok(r#"{"balance":500}"#)
+    );
+    let Ok(Books::Closed(next)) = close(&[&first, &second], Some(9), &["eve", "zed"]) else {
+        panic!("not closed");
+    };
+    assert!(next.starts_with(r#"{"accounts":[["ann",500],["eve",0],["zed",0]],"#));
+    assert!(next.ends_with(r#""sites":9,"version":2}"#));
+}
+
+#[test]
+fn books_that_are_open() {
+    let [first, second] = journals(false);
+    let open = r#"{"fault":"open","lacks":[[],["B0.1"]]}"#.to_owned();
+    assert_eq!(
+        close(&[&first, &second], None, &[]),
+        Ok(Books::NotClosed(open))
+    );
+}
+
+#[test]
+fn books_that_are_not_closed() {
+    let [first, second] = journals(true);
+    let fault = |journals: &[&[u8]]| close(journals, None, &[]).unwrap_err();
+    let unsealed = &second[..second.len() - 1];
+    assert_eq!(
+        fault(&[&first, unsealed]),
+        CloseError::NotSealed { journal: 1 }
+    );
+    assert_eq!(
+        fault(&[b"{}\n\t", &second]),
+        CloseError::AnotherBank { journal: 0 }
+    );
+    let again = CloseError::AnotherSite {
+        journal: 1,
+        line: 2,
+    };
+    assert_eq!(fault(&[&first, &first]), again);
+    assert_eq!(again.to_string(), "journal 1: line 2: another site's entry");
+    let spoilt = [unsealed, b"{}\n\t"].concat();
+    assert_eq!(
+        fault(&[&first, &spoilt]),
+        CloseError::BadLine {
+            journal: 1,
+            line: 4
+        }
+    );
+    let few = CloseError::NumberOfJournals {
+        journals: 1,
+        sites: 2,
+    };
+    assert_eq!(fault(&[&first]), few);
+    assert_eq!(few.to_string(), "1 journals for 2 sites");
+    assert_eq!(fault(&[]), CloseError::NoJournal);
+}
+
+#[test]
+fn next_banks_that_can_not_be() {
+    let [first, second] = journals(true);
+    let fault = |sites, names: &[&str]| close(&[&first, &second], sites, names).unwrap_err();
+    let there = |name: &str| CloseError::AccountThere {
+        name: name.to_owned(),
+    };
+    let no_name = |name: &str| CloseError::NoName {
+        name: name.to_owned(),
+    };
+    assert_eq!(fault(None, &["zed", "ann"]), there("ann"));
+    assert_eq!(fault(None, &["zed", "zed"]), there("zed"));
+    assert_eq!(
+        there("ann").to_string(),
+        "account ann: there is one already"
+    );
+    for name in ["Ann", "", "eve\nzed"] {
+        assert_eq!(fault(None, &["zed", name]), no_name(name));
+    }
+    let many: Vec<String> = (0..1000).map(|n| format!("a{n}")).collect();
+    let many: Vec<&str> = many.iter().map(String::as_str).collect();
+    assert_eq!(fault(None, &many), CloseError::TooManyAccounts);
+    for sites in [0, 1, 17, 255] {
+        assert_eq!(fault(Some(sites), &[]), CloseError::NumberOfSites);
+    }
 }
