@@ -185,8 +185,11 @@ site_options names = (
         (
           record { own = refl; defaults = tt; kind = inl (inl refl, omega arith) },
           (
-            record { own = refl; defaults = (refl, tt); kind = inr (inr (refl, codes "true", [], refl)) },
-            (record { own = refl; defaults = tt; kind = inr (inl refl) }, tt),
+            record { own = refl; defaults = tt; kind = inl (inl refl, omega arith) },
+            (
+              record { own = refl; defaults = (refl, tt); kind = inr (inr (refl, codes "true", [], refl)) },
+              (record { own = refl; defaults = tt; kind = inr (inl refl) }, tt),
+            ),
           ),
         ),
       ),
@@ -313,21 +316,24 @@ site_asks names its_rows all none =
         → me < MOST_SITES → IfSome (number_at (codes "resend") its_rows) (λ n. n ≤ MOST_HISTORY) → (sealed : Bool)
         → (asked : Asked)
         × (with_site_options (number_at (codes "me") its_rows) (first_of (codes "journal") its_rows) sealed
-        (switch_at (codes "new") its_rows) (number_at (codes "resend") its_rows) (choice_at its_rows) ≡ Some asked)
+        (switch_at (codes "new") its_rows) (number_at (codes "resend") its_rows) (choice_at its_rows)
+        (first_of (codes "bank") its_rows) ≡ Some asked)
         × IsInRange asked
     by_switch me journal has_me has_journal is_site resent sealed =
         let new = switch_at (codes "new") its_rows in
         let again = number_at (codes "resend") its_rows in
         let choice = choice_at its_rows in
-        let is = ap (λ o. with_site_options o (first_of (codes "journal") its_rows) sealed new again choice) has_me
-        ∙ ap (λ o. with_site_options (Some me) o sealed new again choice) has_journal in
-        go sealed new again choice is_site resent is
+        let bank = first_of (codes "bank") its_rows in
+        let is = ap (λ o. with_site_options o (first_of (codes "journal") its_rows) sealed new again choice bank) has_me
+        ∙ ap (λ o. with_site_options (Some me) o sealed new again choice bank) has_journal in
+        go sealed new again choice bank is_site resent is
       where
-        go : (sealed new : Bool) (again : Option ℕ) (choice : Record) → me < MOST_SITES → IfSome again (λ n. n ≤ MOST_HISTORY)
-            → {o : Option Asked} → o ≡ with_site_options (Some me) (Some journal) sealed new again choice
+        go : (sealed new : Bool) (again : Option ℕ) (choice : Record) (bank : Option Text) → me < MOST_SITES
+            → IfSome again (λ n. n ≤ MOST_HISTORY)
+            → {o : Option Asked} → o ≡ with_site_options (Some me) (Some journal) sealed new again choice bank
             → (asked : Asked) × (o ≡ Some asked) × IsInRange asked
-        go true new again choice is_site resent is = (seal me journal, is, is_site)
-        go false new again choice is_site resent is = (site me journal new again choice, is, (is_site, resent))
+        go true new again choice bank is_site resent is = (seal me journal, is, is_site)
+        go false new again choice bank is_site resent is = (site me journal new again choice bank, is, (is_site, resent))
 
 -- the number of the next bank's sites, if it is given
 next_fits : (o : Option Text) → IfSome o (IsNumberWithin 2 MOST_SITES)

@@ -2,11 +2,11 @@
 use Rattle.std.proofs.Common.{◌≡◌, ◌∙◌, ◌<◌, ◌≤◌, ◌+◌, ◌*◌, ◌^◌, ◌⊎◌, ℕ, Bool, cond, codes, decimal, zero, suc}
 use Rattle.std.proofs.Common.{true, false, true≢false, refl, sym, ap, subst, arith, List, [], ◌∷◌, length, Option}
 use Rattle.std.proofs.Common.{Some, None, inl, inr, ◌&&◌, ◌||◌, ◌++◌, drop, is_some, map, not, take}
-use Rattle.std.specs.Prelude.{fold, slice_get}
+use Rattle.std.specs.Prelude.{IfSome, fold, slice_get, unwrap_or}
 use Rattle.std.specs.Borrow.{Bor}
 use Rattle.std.specs.List.{list_any}
 use Rattle.std.specs.Str.{bytes_eq}
-use Rattle.std.proofs.lemmas.List.{length-append}
+use Rattle.std.proofs.lemmas.List.{append-nil, append_assoc, length-append}
 use Rattle.std.proofs.lemmas.Option.{slice_get_within}
 use Rattle.std.proofs.lemmas.Slice.Eq.{bytes_eq-Decides}
 use Rattle.clap.specs.Lexer.{usize_max, without_minus}
@@ -24,8 +24,8 @@ use Rattle.clap.specs.declared.error.kind.ErrorKind.TheVariants.{ArgumentConflic
 use Rattle.rb_money.specs.declared.limits.TheConstants.{MOST_HISTORY, MOST_SITES}
 use Rattle.rb_cli.specs.declared.words.TheConstants.{MOST_TELLERS}
 use Rattle.rb_cli.specs.Words.{AreRecordWords, Ask, Asked, AskForClosing, AskForJournal, AskForSeal, AskForSite, AskForThreads}
-use Rattle.rb_cli.specs.Words.{IsNewGiven, IsValue, TextRefs, account_words, as_asked, close, close_line, command_line, numeral_value}
-use Rattle.rb_cli.specs.Words.{option_rule, record_of, record_rule, record_word, seal, sites_words, texts_of}
+use Rattle.rb_cli.specs.Words.{IsBankGiven, IsNewGiven, IsRecordGiven, IsValue, TextRefs, account_words, as_asked, close, close_line, command_line, numeral_value}
+use Rattle.rb_cli.specs.Words.{conflict_of, kinds_of, option_rule, record_of, record_rule, record_word, seal, seals_bank, sites_words, text_if_any, texts_of}
 use Rattle.rb_cli.specs.Words.{script, audit, histories, migrate, site, site_line, switch_rule, threads, threads_line, words_of_matches}
 use Rattle.rb_cli.specs.declared.recorded.Record.{Record}
 use Rattle.rb_cli.specs.declared.recorded.Record.TheVariants.{Changes, All}
@@ -331,6 +331,14 @@ module _ (names : TextRefs) (are_words : AreRecordWords names) where
   by_texts t [] = refl
   by_texts t (x ∷ xs) = ap (λ b. bytes_eq x.now t || b) (by_texts t xs)
 
+  abbrev bank_given : Text → Given
+  bank_given name = valued (codes "--bank") (filled (option_rule (codes "bank") None false)) name
+
+  bank_fits : (name : Text) → IsValue name → Fits site_shape (bank_given name)
+  unfolding clap_on_literals
+  bank_fits name is = FitsValued
+      (named site_shape _ _ (λ rows pending. refl) (λ rows pending. refl) refl refl refl (inl refl)) (is_plain name is) refl
+
   abbrev record_given : Record → Given
   record_given r = valued (codes "--record") (filled (record_rule names)) (record_word r)
 
@@ -352,11 +360,20 @@ module _ (names : TextRefs) (are_words : AreRecordWords names) where
       plain Changes = refl
       plain All = refl
 
-  -- the words are taken, and read as this
+  -- the words are taken, name no bank to a seal, and are read as this
   abbrev TakesAs : List Text → Asked → Type 0
   TakesAs words asked =
-      (fault_of (command_line names) words ≡ [])
+      (kinds_of (command_line names) words ≡ [])
       × (words_of_matches (subcommand_of (command_line names) words) ≡ Some asked)
+
+  -- so it is if nothing is wrong with them, and they lead to a command that names no bank to a seal
+  takes_met : (words : List Text) (asked : Asked) (met : Option (Text × List Row))
+      → fault_of (command_line names) words ≡ [] → subcommand_of (command_line names) words ≡ met → seals_bank met ≡ false
+      → words_of_matches met ≡ Some asked → TakesAs words asked
+  takes_met words asked met none is unsealed reads = (
+    both_none _ _ none (ap conflict_of is ∙ ap (λ b. cond b (ArgumentConflict ∷ []) []) unsealed),
+    ap words_of_matches is ∙ reads,
+  )
 
   -- words behind a command's name are the command's own
   record AreBehind (name : Text) (s : Shape) (words : List Text) : Type 0 where
@@ -396,21 +413,20 @@ module _ (names : TextRefs) (are_words : AreRecordWords names) where
 
   -- a command takes options in turn, and what it reads them as
   taken : (name : Text) (s : Shape) (gs : List Given) (asked : Asked) → AreBehind name s (spelled gs) → Each (Fits s) gs
-      → are_enough s gs ≡ true → words_of_matches (Some (name, all_rows s gs)) ≡ Some asked
-      → TakesAs (name ∷ spelled gs) asked
-  taken name s gs asked behind fit all is =
+      → are_enough s gs ≡ true → seals_bank (Some (name, all_rows s gs)) ≡ false
+      → words_of_matches (Some (name, all_rows s gs)) ≡ Some asked → TakesAs (name ∷ spelled gs) asked
+  taken name s gs asked behind fit all unsealed is =
       let parts = enough (are_new [] gs) _ _ all in
-      let takes = takes_given s gs (all_given s [] gs fit parts.0) (no_fault _ parts.1) (no_fault _ parts.2) in (
-        behind.fault takes.0,
-        ap words_of_matches behind.met ∙ ap (λ (r : List Row). words_of_matches (Some (name, r))) takes.1 ∙ is,
-      )
+      let takes = takes_given s gs (all_given s [] gs fit parts.0) (no_fault _ parts.1) (no_fault _ parts.2) in
+      takes_met (name ∷ spelled gs) asked (Some (name, all_rows s gs)) (behind.fault takes.0)
+      (behind.met ∙ ap (λ (r : List Row). Some (name, r)) takes.1) unsealed is
 
   -- options of a run of threads, in turn
   threads_taken : (gs : List Given) (asked : Asked) → Each (Fits (leaf threads_line)) gs
       → are_enough (leaf threads_line) gs ≡ true
       → words_of_matches (Some (codes "threads", all_rows (leaf threads_line) gs)) ≡ Some asked
       → TakesAs (codes "threads" ∷ spelled gs) asked
-  threads_taken gs asked = taken (codes "threads") (leaf threads_line) gs asked (behind_threads (spelled gs))
+  threads_taken gs asked fit all = taken (codes "threads") (leaf threads_line) gs asked (behind_threads (spelled gs)) fit all refl
 
   module _ (a b d : ℕ) (x : Fits (leaf threads_line) (sites_given a)) (y : Fits (leaf threads_line) (tellers_given b))
       (z : Fits (leaf threads_line) (seed_given d)) (xr : numeral_value (without_minus (decimal a)) ≡ a)
@@ -453,18 +469,25 @@ module _ (names : TextRefs) (are_words : AreRecordWords names) where
     unfolding clap_on_literals
     seed_tellers_sites = threads_taken (seed ∷ tellers ∷ sites ∷ []) _ (z, (y, (x, tt))) refl run_is
 
-  -- words are taken, alone and with `--record` and its word behind them, and read as what they then ask for
-  abbrev TakesSite : List Text → (Record → Asked) → Type 0
-  TakesSite words asked = TakesAs words (asked Changes)
-      × ((r : Record) → TakesAs (words ++ codes "--record" ∷ record_word r ∷ []) (asked r))
+  -- the options behind all others: the one for what is recorded, and the one for the bank's name
+  abbrev last_given : Option Record → Option Text → List Given
+  last_given None None = []
+  last_given (Some r) None = record_given r ∷ []
+  last_given None (Some bank) = bank_given bank ∷ []
+  last_given (Some r) (Some bank) = record_given r ∷ bank_given bank ∷ []
+
+  -- words are taken, with each of these options behind them that is given, and read as what they then ask for
+  record TakesSite (words : List Text) (asked : Record → Option Text → Asked) : Type 0 where
+    takes : (r : Option Record) (bank : Option Text) → IfSome bank IsValue
+        → TakesAs (words ++ spelled (last_given r bank)) (asked (unwrap_or r Changes) bank)
 
   -- so it is with these words, and with `--new` among them
-  record Takes (others : List Text) (asked : Bool → Record → Asked) : Type 0 where
+  record Takes (others : List Text) (asked : Bool → Record → Option Text → Asked) : Type 0 where
     plain : TakesSite others (asked false)
     new : InEachPlace (λ words. TakesSite words (asked true)) (codes "--new") others
 
   -- so it is with seven words, with `--new` in each of its places, or with five
-  takes_seven : (w a b d e f g : Text) (asked : Bool → Record → Asked)
+  takes_seven : (w a b d e f g : Text) (asked : Bool → Record → Option Text → Asked)
       → TakesSite (w ∷ a ∷ b ∷ d ∷ e ∷ f ∷ g ∷ []) (asked false)
       → TakesSite (w ∷ codes "--new" ∷ a ∷ b ∷ d ∷ e ∷ f ∷ g ∷ []) (asked true)
       → TakesSite (w ∷ a ∷ b ∷ codes "--new" ∷ d ∷ e ∷ f ∷ g ∷ []) (asked true)
@@ -481,46 +504,88 @@ module _ (names : TextRefs) (are_words : AreRecordWords names) where
       go (suc (suc (suc zero))) below = last
       go (suc (suc (suc (suc k)))) below = absurd (omega (arith, below))
 
-  takes_five : (w a b d e : Text) (asked : Bool → Record → Asked) → TakesSite (w ∷ a ∷ b ∷ d ∷ e ∷ []) (asked false)
+  takes_five : (w a b d e : Text) (asked : Bool → Record → Option Text → Asked) → TakesSite (w ∷ a ∷ b ∷ d ∷ e ∷ []) (asked false)
       → TakesSite (w ∷ codes "--new" ∷ a ∷ b ∷ d ∷ e ∷ []) (asked true)
       → TakesSite (w ∷ a ∷ b ∷ codes "--new" ∷ d ∷ e ∷ []) (asked true)
       → TakesSite (w ∷ a ∷ b ∷ d ∷ e ∷ codes "--new" ∷ []) (asked true) → Takes (w ∷ a ∷ b ∷ d ∷ e ∷ []) asked
   takes_five w a b d e asked plain first second last =
       record { plain = plain; new = in_five (λ words. TakesSite words (asked true)) (codes "--new") w a b d e first second last }
 
-  -- a site's options in turn, and with `--record` behind them
-  site_taken : (gs : List Given) (asked : Record → Asked) → Each (Fits site_shape) gs → are_enough site_shape gs ≡ true
-      → ((r : Record) → are_enough site_shape (gs ++ record_given r ∷ []) ≡ true)
-      → (words_of_matches (Some (codes "site", all_rows site_shape gs)) ≡ Some (asked Changes))
-      × ((r : Record) → words_of_matches (Some (codes "site", all_rows site_shape (gs ++ record_given r ∷ [])))
-      ≡ Some (asked r))
-      → TakesAs (codes "site" ∷ spelled gs) (asked Changes)
-      × ((r : Record) → TakesAs (codes "site" ∷ spelled (gs ++ record_given r ∷ [])) (asked r))
-  site_taken gs asked fit all all' is = (
-    taken (codes "site") site_shape gs (asked Changes) (behind_site (spelled gs)) fit all is.0,
-    λ r. taken (codes "site") site_shape (gs ++ record_given r ∷ []) (asked r) (behind_site _)
-        (each_append (Fits site_shape) gs _ fit (record_fits r, tt)) (all' r) (is.1 r),
-  )
+  -- so it is, whichever of these options are given
+  abbrev InEachCase : (Option Record → Option Text → Type 0) → Type 0
+  InEachCase P = P None None × ((r : Record) → P (Some r) None) × ((bank : Text) → P None (Some bank))
+      × ((r : Record) (bank : Text) → P (Some r) (Some bank))
+
+  in_case : (P : Option Record → Option Text → Type 0) → InEachCase P → (r : Option Record) (bank : Option Text) → P r bank
+  in_case P each None None = each.0
+  in_case P each (Some r) None = each.1 r
+  in_case P each None (Some bank) = each.2 bank
+  in_case P each (Some r) (Some bank) = each.3 r bank
+
+  last_fit : (r : Option Record) (bank : Option Text) → IfSome bank IsValue → Each (Fits site_shape) (last_given r bank)
+  last_fit None None is = tt
+  last_fit (Some r) None is = (record_fits r, tt)
+  last_fit None (Some bank) is = (bank_fits bank is, tt)
+  last_fit (Some r) (Some bank) is = (record_fits r, (bank_fits bank is, tt))
+
+  spelled_both : (gs hs : List Given) → spelled (gs ++ hs) ≡ spelled gs ++ spelled hs
+  spelled_both [] hs = refl
+  spelled_both (valued word rule value ∷ gs) hs = ap (λ ws. word ∷ value ∷ ws) (spelled_both gs hs)
+  spelled_both (switch word rule ∷ gs) hs = ap (λ ws. word ∷ ws) (spelled_both gs hs)
+
+  -- the options are enough, and seal nothing
+  abbrev AreSiteOptions : List Given → Type 0
+  AreSiteOptions gs = (are_enough site_shape gs && not (seals_bank (Some (codes "site", all_rows site_shape gs)))) ≡ true
+
+  of_site : (a b : Bool) → (a && not b) ≡ true → (a ≡ true) × (b ≡ false)
+  of_site true false is = (refl, refl)
+  of_site true true is = absurd (true≢false (sym is))
+  of_site false b is = absurd (true≢false (sym is))
+
+  -- a site's options in turn, with those that are behind them
+  site_taken : (gs : List Given) (asked : Record → Option Text → Asked) → Each (Fits site_shape) gs
+      → AreSiteOptions (gs ++ []) → ((r : Record) → AreSiteOptions (gs ++ record_given r ∷ []))
+      → ((bank : Text) → AreSiteOptions (gs ++ bank_given bank ∷ []))
+      → ((r : Record) (bank : Text) → AreSiteOptions (gs ++ record_given r ∷ bank_given bank ∷ []))
+      → InEachCase (λ r bank. words_of_matches (Some (codes "site", all_rows site_shape (gs ++ last_given r bank)))
+      ≡ Some (asked (unwrap_or r Changes) bank))
+      → TakesSite (codes "site" ∷ spelled gs) asked
+  site_taken gs asked fit alone recorded named both is = record {
+    takes = λ r bank value.
+        let all = of_site _ _ (in_case (λ r bank. AreSiteOptions (gs ++ last_given r bank)) (alone, recorded, named, both) r bank) in
+        let its_fit = each_append (Fits site_shape) gs (last_given r bank) fit (last_fit r bank value) in
+        subst (λ ws. TakesAs (codes "site" ∷ ws) (asked (unwrap_or r Changes) bank)) (spelled_both gs (last_given r bank))
+        (taken (codes "site") site_shape (gs ++ last_given r bank) _ (behind_site _) its_fit all.0 all.1
+        (in_case (λ r bank. words_of_matches (Some (codes "site", all_rows site_shape (gs ++ last_given r bank)))
+        ≡ Some (asked (unwrap_or r Changes) bank)) is r bank));
+  }
 
   -- the word for what is recorded is read as that
   record_reads : (r : Record) → record_of (record_word r) ≡ r
   record_reads Changes = refl
   record_reads All = refl
 
-  -- what words for a site ask for, by whether they have `--new` and by what is recorded
-  abbrev asked : ℕ → Text → Option ℕ → Bool → Record → Asked
-  asked me file resend new r = site me file new resend r
+  -- what words for a site ask for, by whether they have `--new`, by what is recorded, and by the bank's name
+  abbrev asked : ℕ → Text → Option ℕ → Bool → Record → Option Text → Asked
+  asked me file resend new r bank = site me file new resend r bank
 
-  -- numbers as they are read give what is asked for, alone and with `--record` behind
+  -- what is recorded as it is read from its option, if it is given
+  abbrev read_record : Option Record → Record
+  read_record None = Changes
+  read_record (Some r) = record_of (record_word r)
+
+  -- numbers as they are read give what is asked for, whichever of the options behind are given
   abbrev ReadAs : ℕ → Option ℕ → ℕ → Option ℕ → Text → Type 0
   ReadAs k o me resend file = (new : Bool)
-      → (Some (asked k file o new Changes) ≡ Some (asked me file resend new Changes))
-      × ((r : Record) → Some (asked k file o new (record_of (record_word r))) ≡ Some (asked me file resend new r))
+      → InEachCase (λ r bank. Some (asked k file o new (read_record r) bank)
+      ≡ Some (asked me file resend new (unwrap_or r Changes) bank))
 
   read_as : {k me : ℕ} {o resend : Option ℕ} (file : Text) → k ≡ me → o ≡ resend → ReadAs k o me resend file
   read_as file x y new = (
-    λ i. Some (asked (x i) file (y i) new Changes),
-    λ r i. Some (asked (x i) file (y i) new (record_reads r i)),
+    λ i. Some (asked (x i) file (y i) new Changes None),
+    λ r i. Some (asked (x i) file (y i) new (record_reads r i) None),
+    λ bank i. Some (asked (x i) file (y i) new Changes (Some bank)),
+    λ r bank i. Some (asked (x i) file (y i) new (record_reads r i) (Some bank)),
   )
 
   module _ (a b : ℕ) (file : Text) (x : Fits site_shape (me_given a)) (y : Fits site_shape (journal_given file))
@@ -538,77 +603,78 @@ module _ (names : TextRefs) (are_words : AreRecordWords names) where
     me_journal_resend : Takes (codes "site" ∷ spelled (me ∷ journal ∷ resend ∷ [])) (asked a file (Some b))
     unfolding clap_on_literals
     me_journal_resend = takes_seven _ _ _ _ _ _ _ _
-        (site_taken (me ∷ journal ∷ resend ∷ []) _ (x, (y, (z, tt))) refl (λ r. refl) (reads false))
-        (site_taken (fresh ∷ me ∷ journal ∷ resend ∷ []) _ (new_fits, (x, (y, (z, tt)))) refl (λ r. refl) (reads true))
-        (site_taken (me ∷ fresh ∷ journal ∷ resend ∷ []) _ (x, (new_fits, (y, (z, tt)))) refl (λ r. refl) (reads true))
-        (site_taken (me ∷ journal ∷ fresh ∷ resend ∷ []) _ (x, (y, (new_fits, (z, tt)))) refl (λ r. refl) (reads true))
-        (site_taken (me ∷ journal ∷ resend ∷ fresh ∷ []) _ (x, (y, (z, (new_fits, tt)))) refl (λ r. refl) (reads true))
+        (site_taken (me ∷ journal ∷ resend ∷ []) _ (x, (y, (z, tt))) refl (λ r. refl) (λ n. refl) (λ r n. refl) (reads false))
+        (site_taken (fresh ∷ me ∷ journal ∷ resend ∷ []) _ (new_fits, (x, (y, (z, tt)))) refl (λ r. refl) (λ n. refl) (λ r n. refl) (reads true))
+        (site_taken (me ∷ fresh ∷ journal ∷ resend ∷ []) _ (x, (new_fits, (y, (z, tt)))) refl (λ r. refl) (λ n. refl) (λ r n. refl) (reads true))
+        (site_taken (me ∷ journal ∷ fresh ∷ resend ∷ []) _ (x, (y, (new_fits, (z, tt)))) refl (λ r. refl) (λ n. refl) (λ r n. refl) (reads true))
+        (site_taken (me ∷ journal ∷ resend ∷ fresh ∷ []) _ (x, (y, (z, (new_fits, tt)))) refl (λ r. refl) (λ n. refl) (λ r n. refl) (reads true))
 
     me_resend_journal : Takes (codes "site" ∷ spelled (me ∷ resend ∷ journal ∷ [])) (asked a file (Some b))
     unfolding clap_on_literals
     me_resend_journal = takes_seven _ _ _ _ _ _ _ _
-        (site_taken (me ∷ resend ∷ journal ∷ []) _ (x, (z, (y, tt))) refl (λ r. refl) (reads false))
-        (site_taken (fresh ∷ me ∷ resend ∷ journal ∷ []) _ (new_fits, (x, (z, (y, tt)))) refl (λ r. refl) (reads true))
-        (site_taken (me ∷ fresh ∷ resend ∷ journal ∷ []) _ (x, (new_fits, (z, (y, tt)))) refl (λ r. refl) (reads true))
-        (site_taken (me ∷ resend ∷ fresh ∷ journal ∷ []) _ (x, (z, (new_fits, (y, tt)))) refl (λ r. refl) (reads true))
-        (site_taken (me ∷ resend ∷ journal ∷ fresh ∷ []) _ (x, (z, (y, (new_fits, tt)))) refl (λ r. refl) (reads true))
+        (site_taken (me ∷ resend ∷ journal ∷ []) _ (x, (z, (y, tt))) refl (λ r. refl) (λ n. refl) (λ r n. refl) (reads false))
+        (site_taken (fresh ∷ me ∷ resend ∷ journal ∷ []) _ (new_fits, (x, (z, (y, tt)))) refl (λ r. refl) (λ n. refl) (λ r n. refl) (reads true))
+        (site_taken (me ∷ fresh ∷ resend ∷ journal ∷ []) _ (x, (new_fits, (z, (y, tt)))) refl (λ r. refl) (λ n. refl) (λ r n. refl) (reads true))
+        (site_taken (me ∷ resend ∷ fresh ∷ journal ∷ []) _ (x, (z, (new_fits, (y, tt)))) refl (λ r. refl) (λ n. refl) (λ r n. refl) (reads true))
+        (site_taken (me ∷ resend ∷ journal ∷ fresh ∷ []) _ (x, (z, (y, (new_fits, tt)))) refl (λ r. refl) (λ n. refl) (λ r n. refl) (reads true))
 
     journal_me_resend : Takes (codes "site" ∷ spelled (journal ∷ me ∷ resend ∷ [])) (asked a file (Some b))
     unfolding clap_on_literals
     journal_me_resend = takes_seven _ _ _ _ _ _ _ _
-        (site_taken (journal ∷ me ∷ resend ∷ []) _ (y, (x, (z, tt))) refl (λ r. refl) (reads false))
-        (site_taken (fresh ∷ journal ∷ me ∷ resend ∷ []) _ (new_fits, (y, (x, (z, tt)))) refl (λ r. refl) (reads true))
-        (site_taken (journal ∷ fresh ∷ me ∷ resend ∷ []) _ (y, (new_fits, (x, (z, tt)))) refl (λ r. refl) (reads true))
-        (site_taken (journal ∷ me ∷ fresh ∷ resend ∷ []) _ (y, (x, (new_fits, (z, tt)))) refl (λ r. refl) (reads true))
-        (site_taken (journal ∷ me ∷ resend ∷ fresh ∷ []) _ (y, (x, (z, (new_fits, tt)))) refl (λ r. refl) (reads true))
+        (site_taken (journal ∷ me ∷ resend ∷ []) _ (y, (x, (z, tt))) refl (λ r. refl) (λ n. refl) (λ r n. refl) (reads false))
+        (site_taken (fresh ∷ journal ∷ me ∷ resend ∷ []) _ (new_fits, (y, (x, (z, tt)))) refl (λ r. refl) (λ n. refl) (λ r n. refl) (reads true))
+        (site_taken (journal ∷ fresh ∷ me ∷ resend ∷ []) _ (y, (new_fits, (x, (z, tt)))) refl (λ r. refl) (λ n. refl) (λ r n. refl) (reads true))
+        (site_taken (journal ∷ me ∷ fresh ∷ resend ∷ []) _ (y, (x, (new_fits, (z, tt)))) refl (λ r. refl) (λ n. refl) (λ r n. refl) (reads true))
+        (site_taken (journal ∷ me ∷ resend ∷ fresh ∷ []) _ (y, (x, (z, (new_fits, tt)))) refl (λ r. refl) (λ n. refl) (λ r n. refl) (reads true))
 
     journal_resend_me : Takes (codes "site" ∷ spelled (journal ∷ resend ∷ me ∷ [])) (asked a file (Some b))
     unfolding clap_on_literals
     journal_resend_me = takes_seven _ _ _ _ _ _ _ _
-        (site_taken (journal ∷ resend ∷ me ∷ []) _ (y, (z, (x, tt))) refl (λ r. refl) (reads false))
-        (site_taken (fresh ∷ journal ∷ resend ∷ me ∷ []) _ (new_fits, (y, (z, (x, tt)))) refl (λ r. refl) (reads true))
-        (site_taken (journal ∷ fresh ∷ resend ∷ me ∷ []) _ (y, (new_fits, (z, (x, tt)))) refl (λ r. refl) (reads true))
-        (site_taken (journal ∷ resend ∷ fresh ∷ me ∷ []) _ (y, (z, (new_fits, (x, tt)))) refl (λ r. refl) (reads true))
-        (site_taken (journal ∷ resend ∷ me ∷ fresh ∷ []) _ (y, (z, (x, (new_fits, tt)))) refl (λ r. refl) (reads true))
+        (site_taken (journal ∷ resend ∷ me ∷ []) _ (y, (z, (x, tt))) refl (λ r. refl) (λ n. refl) (λ r n. refl) (reads false))
+        (site_taken (fresh ∷ journal ∷ resend ∷ me ∷ []) _ (new_fits, (y, (z, (x, tt)))) refl (λ r. refl) (λ n. refl) (λ r n. refl) (reads true))
+        (site_taken (journal ∷ fresh ∷ resend ∷ me ∷ []) _ (y, (new_fits, (z, (x, tt)))) refl (λ r. refl) (λ n. refl) (λ r n. refl) (reads true))
+        (site_taken (journal ∷ resend ∷ fresh ∷ me ∷ []) _ (y, (z, (new_fits, (x, tt)))) refl (λ r. refl) (λ n. refl) (λ r n. refl) (reads true))
+        (site_taken (journal ∷ resend ∷ me ∷ fresh ∷ []) _ (y, (z, (x, (new_fits, tt)))) refl (λ r. refl) (λ n. refl) (λ r n. refl) (reads true))
 
     resend_me_journal : Takes (codes "site" ∷ spelled (resend ∷ me ∷ journal ∷ [])) (asked a file (Some b))
     unfolding clap_on_literals
     resend_me_journal = takes_seven _ _ _ _ _ _ _ _
-        (site_taken (resend ∷ me ∷ journal ∷ []) _ (z, (x, (y, tt))) refl (λ r. refl) (reads false))
-        (site_taken (fresh ∷ resend ∷ me ∷ journal ∷ []) _ (new_fits, (z, (x, (y, tt)))) refl (λ r. refl) (reads true))
-        (site_taken (resend ∷ fresh ∷ me ∷ journal ∷ []) _ (z, (new_fits, (x, (y, tt)))) refl (λ r. refl) (reads true))
-        (site_taken (resend ∷ me ∷ fresh ∷ journal ∷ []) _ (z, (x, (new_fits, (y, tt)))) refl (λ r. refl) (reads true))
-        (site_taken (resend ∷ me ∷ journal ∷ fresh ∷ []) _ (z, (x, (y, (new_fits, tt)))) refl (λ r. refl) (reads true))
+        (site_taken (resend ∷ me ∷ journal ∷ []) _ (z, (x, (y, tt))) refl (λ r. refl) (λ n. refl) (λ r n. refl) (reads false))
+        (site_taken (fresh ∷ resend ∷ me ∷ journal ∷ []) _ (new_fits, (z, (x, (y, tt)))) refl (λ r. refl) (λ n. refl) (λ r n. refl) (reads true))
+        (site_taken (resend ∷ fresh ∷ me ∷ journal ∷ []) _ (z, (new_fits, (x, (y, tt)))) refl (λ r. refl) (λ n. refl) (λ r n. refl) (reads true))
+        (site_taken (resend ∷ me ∷ fresh ∷ journal ∷ []) _ (z, (x, (new_fits, (y, tt)))) refl (λ r. refl) (λ n. refl) (λ r n. refl) (reads true))
+        (site_taken (resend ∷ me ∷ journal ∷ fresh ∷ []) _ (z, (x, (y, (new_fits, tt)))) refl (λ r. refl) (λ n. refl) (λ r n. refl) (reads true))
 
     resend_journal_me : Takes (codes "site" ∷ spelled (resend ∷ journal ∷ me ∷ [])) (asked a file (Some b))
     unfolding clap_on_literals
     resend_journal_me = takes_seven _ _ _ _ _ _ _ _
-        (site_taken (resend ∷ journal ∷ me ∷ []) _ (z, (y, (x, tt))) refl (λ r. refl) (reads false))
-        (site_taken (fresh ∷ resend ∷ journal ∷ me ∷ []) _ (new_fits, (z, (y, (x, tt)))) refl (λ r. refl) (reads true))
-        (site_taken (resend ∷ fresh ∷ journal ∷ me ∷ []) _ (z, (new_fits, (y, (x, tt)))) refl (λ r. refl) (reads true))
-        (site_taken (resend ∷ journal ∷ fresh ∷ me ∷ []) _ (z, (y, (new_fits, (x, tt)))) refl (λ r. refl) (reads true))
-        (site_taken (resend ∷ journal ∷ me ∷ fresh ∷ []) _ (z, (y, (x, (new_fits, tt)))) refl (λ r. refl) (reads true))
+        (site_taken (resend ∷ journal ∷ me ∷ []) _ (z, (y, (x, tt))) refl (λ r. refl) (λ n. refl) (λ r n. refl) (reads false))
+        (site_taken (fresh ∷ resend ∷ journal ∷ me ∷ []) _ (new_fits, (z, (y, (x, tt)))) refl (λ r. refl) (λ n. refl) (λ r n. refl) (reads true))
+        (site_taken (resend ∷ fresh ∷ journal ∷ me ∷ []) _ (z, (new_fits, (y, (x, tt)))) refl (λ r. refl) (λ n. refl) (λ r n. refl) (reads true))
+        (site_taken (resend ∷ journal ∷ fresh ∷ me ∷ []) _ (z, (y, (new_fits, (x, tt)))) refl (λ r. refl) (λ n. refl) (λ r n. refl) (reads true))
+        (site_taken (resend ∷ journal ∷ me ∷ fresh ∷ []) _ (z, (y, (x, (new_fits, tt)))) refl (λ r. refl) (λ n. refl) (λ r n. refl) (reads true))
 
   module _ (a : ℕ) (file : Text) (x : Fits site_shape (me_given a)) (y : Fits site_shape (journal_given file))
       (reads : ReadAs (numeral_value (without_minus (decimal a))) None a None file) where
     me_journal : Takes (codes "site" ∷ spelled (me_given a ∷ journal_given file ∷ [])) (asked a file None)
     unfolding clap_on_literals
     me_journal = takes_five _ _ _ _ _ _
-        (site_taken (me_given a ∷ journal_given file ∷ []) _ (x, (y, tt)) refl (λ r. refl) (reads false))
-        (site_taken (fresh ∷ me_given a ∷ journal_given file ∷ []) _ (new_fits, (x, (y, tt))) refl (λ r. refl) (reads true))
-        (site_taken (me_given a ∷ fresh ∷ journal_given file ∷ []) _ (x, (new_fits, (y, tt))) refl (λ r. refl) (reads true))
-        (site_taken (me_given a ∷ journal_given file ∷ fresh ∷ []) _ (x, (y, (new_fits, tt))) refl (λ r. refl) (reads true))
+        (site_taken (me_given a ∷ journal_given file ∷ []) _ (x, (y, tt)) refl (λ r. refl) (λ n. refl) (λ r n. refl) (reads false))
+        (site_taken (fresh ∷ me_given a ∷ journal_given file ∷ []) _ (new_fits, (x, (y, tt))) refl (λ r. refl) (λ n. refl) (λ r n. refl) (reads true))
+        (site_taken (me_given a ∷ fresh ∷ journal_given file ∷ []) _ (x, (new_fits, (y, tt))) refl (λ r. refl) (λ n. refl) (λ r n. refl) (reads true))
+        (site_taken (me_given a ∷ journal_given file ∷ fresh ∷ []) _ (x, (y, (new_fits, tt))) refl (λ r. refl) (λ n. refl) (λ r n. refl) (reads true))
 
     journal_me : Takes (codes "site" ∷ spelled (journal_given file ∷ me_given a ∷ [])) (asked a file None)
     unfolding clap_on_literals
     journal_me = takes_five _ _ _ _ _ _
-        (site_taken (journal_given file ∷ me_given a ∷ []) _ (y, (x, tt)) refl (λ r. refl) (reads false))
-        (site_taken (fresh ∷ journal_given file ∷ me_given a ∷ []) _ (new_fits, (y, (x, tt))) refl (λ r. refl) (reads true))
-        (site_taken (journal_given file ∷ fresh ∷ me_given a ∷ []) _ (y, (new_fits, (x, tt))) refl (λ r. refl) (reads true))
-        (site_taken (journal_given file ∷ me_given a ∷ fresh ∷ []) _ (y, (x, (new_fits, tt))) refl (λ r. refl) (reads true))
+        (site_taken (journal_given file ∷ me_given a ∷ []) _ (y, (x, tt)) refl (λ r. refl) (λ n. refl) (λ r n. refl) (reads false))
+        (site_taken (fresh ∷ journal_given file ∷ me_given a ∷ []) _ (new_fits, (y, (x, tt))) refl (λ r. refl) (λ n. refl) (λ r n. refl) (reads true))
+        (site_taken (journal_given file ∷ fresh ∷ me_given a ∷ []) _ (y, (new_fits, (x, tt))) refl (λ r. refl) (λ n. refl) (λ r n. refl) (reads true))
+        (site_taken (journal_given file ∷ me_given a ∷ fresh ∷ []) _ (y, (x, (new_fits, tt))) refl (λ r. refl) (λ n. refl) (λ r n. refl) (reads true))
 
   -- options with `--seal` among them
   seal_taken : (gs : List Given) (me : ℕ) (file : Text) → Each (Fits site_shape) gs → are_enough site_shape gs ≡ true
+      → seals_bank (Some (codes "site", all_rows site_shape gs)) ≡ false
       → words_of_matches (Some (codes "site", all_rows site_shape gs)) ≡ Some (seal me file)
       → TakesAs (codes "site" ∷ spelled gs) (seal me file)
   seal_taken gs me file = taken (codes "site") site_shape gs (seal me file) (behind_site (spelled gs))
@@ -621,16 +687,16 @@ module _ (names : TextRefs) (are_words : AreRecordWords names) where
     me_journal_seal : InEachPlace AsSeal (codes "--seal") (codes "site" ∷ spelled (me_given a ∷ journal_given file ∷ []))
     unfolding clap_on_literals
     me_journal_seal = in_five AsSeal (codes "--seal") _ _ _ _ _
-        (seal_taken (sealing ∷ me_given a ∷ journal_given file ∷ []) a file (seal_fits, (x, (y, tt))) refl (ap (λ k. Some (seal k file)) read))
-        (seal_taken (me_given a ∷ sealing ∷ journal_given file ∷ []) a file (x, (seal_fits, (y, tt))) refl (ap (λ k. Some (seal k file)) read))
-        (seal_taken (me_given a ∷ journal_given file ∷ sealing ∷ []) a file (x, (y, (seal_fits, tt))) refl (ap (λ k. Some (seal k file)) read))
+        (seal_taken (sealing ∷ me_given a ∷ journal_given file ∷ []) a file (seal_fits, (x, (y, tt))) refl refl (ap (λ k. Some (seal k file)) read))
+        (seal_taken (me_given a ∷ sealing ∷ journal_given file ∷ []) a file (x, (seal_fits, (y, tt))) refl refl (ap (λ k. Some (seal k file)) read))
+        (seal_taken (me_given a ∷ journal_given file ∷ sealing ∷ []) a file (x, (y, (seal_fits, tt))) refl refl (ap (λ k. Some (seal k file)) read))
 
     journal_me_seal : InEachPlace AsSeal (codes "--seal") (codes "site" ∷ spelled (journal_given file ∷ me_given a ∷ []))
     unfolding clap_on_literals
     journal_me_seal = in_five AsSeal (codes "--seal") _ _ _ _ _
-        (seal_taken (sealing ∷ journal_given file ∷ me_given a ∷ []) a file (seal_fits, (y, (x, tt))) refl (ap (λ k. Some (seal k file)) read))
-        (seal_taken (journal_given file ∷ sealing ∷ me_given a ∷ []) a file (y, (seal_fits, (x, tt))) refl (ap (λ k. Some (seal k file)) read))
-        (seal_taken (journal_given file ∷ me_given a ∷ sealing ∷ []) a file (y, (x, (seal_fits, tt))) refl (ap (λ k. Some (seal k file)) read))
+        (seal_taken (sealing ∷ journal_given file ∷ me_given a ∷ []) a file (seal_fits, (y, (x, tt))) refl refl (ap (λ k. Some (seal k file)) read))
+        (seal_taken (journal_given file ∷ sealing ∷ me_given a ∷ []) a file (y, (seal_fits, (x, tt))) refl refl (ap (λ k. Some (seal k file)) read))
+        (seal_taken (journal_given file ∷ me_given a ∷ sealing ∷ []) a file (y, (x, (seal_fits, tt))) refl refl (ap (λ k. Some (seal k file)) read))
 
   -- ---- the words that ask
 
@@ -687,16 +753,42 @@ module _ (names : TextRefs) (are_words : AreRecordWords names) where
       subst (λ ws. TakesSite ws (asked k file resend true)) (sym given.2)
       ((takes_journal others k file resend ask).new given.0 given.1)
 
+  last_both : (r : Record) (bank : Option Text)
+      → spelled (last_given (Some r) bank) ≡ codes "--record" ∷ record_word r ∷ spelled (last_given None bank)
+  last_both r None = refl
+  last_both r (Some bank) = refl
+
+  -- and with `--record` and its word behind them, or without these
+  takes_recorded : (unnamed before : List Text) (k : ℕ) (file : Text) (new : Bool) (resend : Option ℕ) (recorded : Record)
+      → IsRecordGiven recorded unnamed before → TakesSite before (asked k file resend new) → (bank : Option Text)
+      → IfSome bank IsValue
+      → TakesAs (unnamed ++ spelled (last_given None bank)) (site k file new resend recorded bank)
+  takes_recorded unnamed before k file new resend recorded given takes bank value = elim given [
+    | inl is ↦
+        subst (λ ws. TakesAs ws (site k file new resend recorded bank))
+        (ap (λ ws. before ++ ws) (last_both recorded bank)
+        ∙ sym (append_assoc before (codes "--record" ∷ record_word recorded ∷ []) (spelled (last_given None bank)))
+        ∙ ap (λ ws. ws ++ spelled (last_given None bank)) (sym is)) (takes.takes (Some recorded) bank value)
+    | inr none ↦
+        subst (λ r. TakesAs (unnamed ++ spelled (last_given None bank)) (site k file new resend r bank)) (sym none.0)
+        (subst (λ ws. TakesAs (ws ++ spelled (last_given None bank)) (site k file new resend Changes bank)) (sym none.1)
+        (takes.takes None bank value))
+  ]
+
   usual_site : (words : List Text) (k : ℕ) (file : Text) (new : Bool) (resend : Option ℕ) (recorded : Record)
-      → AskForSite words k file new resend recorded → TakesAs words (site k file new resend recorded)
-  usual_site words k file new resend recorded ask =
+      (bank : Option Text) → AskForSite words k file new resend recorded bank → TakesAs words (site k file new resend recorded bank)
+  usual_site words k file new resend recorded bank ask =
       let takes = takes_new ask.before k file new resend ask.others ask.new_given ask.ask in
-      elim ask.record_given [
-        | inl is ↦ subst (λ ws. TakesAs ws (site k file new resend recorded)) (sym is) (takes.1 recorded)
-        | inr none ↦
-            subst (λ r. TakesAs words (site k file new resend r)) (sym none.0)
-            (subst (λ ws. TakesAs ws (site k file new resend Changes)) (sym none.1) takes.0)
-      ]
+      go bank ask.bank_given (takes_recorded ask.unnamed ask.before k file new resend recorded ask.record_given takes)
+    where
+      go : (bank : Option Text) → IsBankGiven bank words ask.unnamed
+          → ((bank : Option Text) → IfSome bank IsValue
+          → TakesAs (ask.unnamed ++ spelled (last_given None bank)) (site k file new resend recorded bank))
+          → TakesAs words (site k file new resend recorded bank)
+      go None is takes =
+          subst (λ ws. TakesAs ws (site k file new resend recorded None)) (append-nil ask.unnamed ∙ sym is) (takes None tt)
+      go (Some name) is takes =
+          subst (λ ws. TakesAs ws (site k file new resend recorded (Some name))) (sym is.1) (takes (Some name) is.0)
 
   usual_seal : (words : List Text) (k : ℕ) (file : Text) → AskForSeal words k file → TakesAs words (seal k file)
   usual_seal words k file ask =
@@ -716,10 +808,8 @@ module _ (names : TextRefs) (are_words : AreRecordWords names) where
   usual_closing words sites names files fit ask =
       let takes = closing_taken sites names files ask.sites_fit ask.are_names ask.are_files ask.some_journals fit in
       let its_words = behind_close (sites_words sites ++ (account_words names ++ files)) in
-      subst (λ ws. TakesAs ws (close sites names files)) (sym ask.words_are) (
-        its_words.fault takes.fault,
-        ap words_of_matches its_words.met ∙ takes.is,
-      )
+      subst (λ ws. TakesAs ws (close sites names files)) (sym ask.words_are)
+      (takes_met _ _ _ (its_words.fault takes.fault) its_words.met refl takes.is)
 
   script_taken : TakesAs (codes "script" ∷ []) script
   unfolding clap_on_literals
@@ -744,8 +834,8 @@ module _ (names : TextRefs) (are_words : AreRecordWords names) where
   usual_words words Audit few ask = subst (λ ws. TakesAs ws audit) (sym ask) audit_taken
   usual_words words Migrate few ask = subst (λ ws. TakesAs ws migrate) (sym ask) migrate_taken
   usual_words words (Threads k m n) few ask = usual_threads words k m n ask
-  usual_words words (Site me journal is_new resend recorded) few ask =
-      usual_site words me journal.now is_new resend recorded ask
+  usual_words words (Site me journal is_new resend recorded bank) few ask =
+      usual_site words me journal.now is_new resend recorded (text_if_any bank) ask
   usual_words words (Seal me journal) few ask = usual_seal words me journal.now ask
   usual_words words (Close sites accounts journals) few ask =
       let files = texts_of journals.items in

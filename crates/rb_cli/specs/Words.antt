@@ -1,17 +1,19 @@
 -- The words that ask for each thing, the command line that takes them, and what it reads them as.
 use Rattle.std.specs.Prelude.{◌≡◌, ◌<◌, ◌≤◌, ◌+◌, ◌*◌, ◌^◌, ◌⊎◌, ℕ, pos, List, [], ◌∷◌, ◌++◌, length, map, take, drop, codes, decimal}
-use Rattle.std.specs.Prelude.{Bool, true, false}
+use Rattle.std.specs.Prelude.{◌&&◌, Bool, true, false, is_some}
 use Rattle.std.specs.Option.{option_map_or}
 use Rattle.std.specs.Prelude.{Option, None, Some, IfSome, Result, if◌then◌else◌, option_map, slice_get, unwrap_or}
 use Rattle.std.specs.Borrow.{Bor}
 use Rattle.std.specs.Str.{bytes_eq}
 use Rattle.std.specs.Str.Parse.{IsNumeral, digits_value, without_leading_plus}
 use Rattle.clap.specs.Lexer.{usize_max}
-use Rattle.clap.specs.Words.{App, FailsBy, Row, Rule, Shape, Text, all_of, fault_of, first_of, new_app, new_rule, one_of}
+use Rattle.clap.specs.Kinds.{or_else}
+use Rattle.clap.specs.Words.{App, FailsBy, Kinds, Row, Rule, Shape, Text, all_of, fault_of, first_of, new_app, new_rule, one_of}
 use Rattle.clap.specs.Words.{subcommand_of, with_rule, with_subcommand}
 use Rattle.clap.specs.declared.builder.action.ArgAction.TheVariants.{Append, SetTrue}
 use Rattle.clap.specs.declared.builder.value_parser.ValueParser.{ValueParser}
 use Rattle.clap.specs.declared.error.Error.{Error}
+use Rattle.clap.specs.declared.error.kind.ErrorKind.TheVariants.{ArgumentConflict}
 use Rattle.clap.specs.declared.builder.value_parser.ValueParser.TheVariants.{Names, Signed}
 use Rattle.rb_money.specs.declared.limits.TheConstants.{MOST_HISTORY, MOST_SITES}
 use Rattle.rb_cli.specs.declared.recorded.Record.{Record}
@@ -84,11 +86,19 @@ abbrev pub IsRecordGiven : Record → List (List ℕ) → List (List ℕ) → Ty
 IsRecordGiven recorded words others =
     (words ≡ others ++ codes "--record" ∷ record_word recorded ∷ []) ⊎ ((recorded ≡ Changes) × (words ≡ others))
 
--- the words ask for a site, whose journal is to be made or has to be there, and which records these events
+-- the words are these others, with `--bank` and the bank's name behind all of them, if one is named
+abbrev pub IsBankGiven : Option (List ℕ) → List (List ℕ) → List (List ℕ) → Type 0
+IsBankGiven None words others = words ≡ others
+IsBankGiven (Some name) words others = IsValue name × (words ≡ others ++ codes "--bank" ∷ name ∷ [])
+
+-- the words ask for a site, whose journal is to be made or has to be there, which records these events, and whose bank
+-- has this name, if it has one
 pub record AskForSite (words : List (List ℕ)) (me : ℕ) (journal : List ℕ) (is_new : Bool) (resend : Option ℕ)
-    (recorded : Record) : Type 0 where
+    (recorded : Record) (bank : Option (List ℕ)) : Type 0 where
+  pub unnamed : List (List ℕ)
+  pub bank_given : IsBankGiven bank words unnamed
   pub before : List (List ℕ)
-  pub record_given : IsRecordGiven recorded words before
+  pub record_given : IsRecordGiven recorded unnamed before
   pub others : List (List ℕ)
   pub new_given : IsNewGiven is_new before others
   pub ask : AskForJournal others me journal resend
@@ -118,6 +128,10 @@ pub record AskForClosing (words : List (List ℕ)) (sites : Option ℕ) (account
   pub some_journals : 1 ≤ length journals
   pub are_files : AreValues journals
 
+-- the text behind a reference, if there is one
+abbrev pub text_if_any : Option (Bor (List ℕ)) → Option (List ℕ)
+text_if_any = option_map (λ text. text.now)
+
 -- the texts behind references
 abbrev pub texts_of : List (Bor (List ℕ)) → List (List ℕ)
 texts_of = map (λ text. text.now)
@@ -129,7 +143,8 @@ Ask words Histories = words ≡ codes "histories" ∷ []
 Ask words Audit = words ≡ codes "audit" ∷ []
 Ask words Migrate = words ≡ codes "migrate" ∷ []
 Ask words (Threads sites tellers seed) = AskForThreads words sites tellers seed
-Ask words (Site me journal is_new resend recorded) = AskForSite words me journal.now is_new resend recorded
+Ask words (Site me journal is_new resend recorded bank) =
+    AskForSite words me journal.now is_new resend recorded (text_if_any bank)
 Ask words (Seal me journal) = AskForSeal words me journal.now
 Ask words (Close sites accounts journals) = AskForClosing words sites (texts_of accounts.items) (texts_of journals.items)
 
@@ -190,9 +205,10 @@ site_line names =
     (with_rule
     (with_rule
     (with_rule
+    (with_rule
     (with_rule (with_rule (new_app (codes "site")) (option_rule (codes "me") (within 0 15) true)) (option_rule (codes "journal") None true))
     (switch_rule (codes "new"))) (option_rule (codes "resend") (within 0 MOST_HISTORY) false)) (record_rule names))
-    (switch_rule (codes "seal"))
+    (option_rule (codes "bank") None false)) (switch_rule (codes "seal"))
 
 -- closing the books, with its options
 abbrev pub close_line : App
@@ -227,14 +243,14 @@ IsCommandLine app = (names : TextRefs) × AreRecordWords names × (app ≡ comma
 
 -- ---- what the command line reads words as
 
--- what is asked for, with the file's name as text
+-- what is asked for, with the names as texts
 pub data Asked : Type 0 where
   script : Asked
   histories : Asked
   audit : Asked
   migrate : Asked
   threads : ℕ → ℕ → ℕ → Asked
-  site : ℕ → Text → Bool → Option ℕ → Record → Asked
+  site : ℕ → Text → Bool → Option ℕ → Record → Option Text → Asked
   seal : ℕ → Text → Asked
   close : Option ℕ → List Text → List Text → Asked
 
@@ -244,7 +260,7 @@ as_asked Histories = histories
 as_asked Audit = audit
 as_asked Migrate = migrate
 as_asked (Threads sites tellers seed) = threads sites tellers seed
-as_asked (Site me journal is_new resend recorded) = site me journal.now is_new resend recorded
+as_asked (Site me journal is_new resend recorded bank) = site me journal.now is_new resend recorded (text_if_any bank)
 as_asked (Seal me journal) = seal me journal.now
 as_asked (Close sites accounts journals) = close sites (texts_of accounts.items) (texts_of journals.items)
 
@@ -281,15 +297,17 @@ abbrev pub threads_asked : List Row → Option Asked
 threads_asked rows = with_run (number_at (codes "sites") rows) (number_at (codes "tellers") rows) (number_at (codes "seed") rows)
 
 -- a site has its number and its file. With the switch for it the history is sealed, and nothing else counts; else the
--- file may be a new one, the site may have how many last entries' messages are written again, and it records these events
-abbrev pub with_site_options : Option ℕ → Option Text → Bool → Bool → Option ℕ → Record → Option Asked
-with_site_options (Some me) (Some journal) true is_new resend recorded = Some (seal me journal)
-with_site_options (Some me) (Some journal) false is_new resend recorded = Some (site me journal is_new resend recorded)
-with_site_options _ _ _ _ _ _ = None
+-- file may be a new one, the site may have how many last entries' messages are written again, it records these events,
+-- and its bank may be named
+abbrev pub with_site_options : Option ℕ → Option Text → Bool → Bool → Option ℕ → Record → Option Text → Option Asked
+with_site_options (Some me) (Some journal) true is_new resend recorded bank = Some (seal me journal)
+with_site_options (Some me) (Some journal) false is_new resend recorded bank =
+    Some (site me journal is_new resend recorded bank)
+with_site_options _ _ _ _ _ _ _ = None
 
 abbrev pub site_asked : List Row → Option Asked
 site_asked rows = with_site_options (number_at (codes "me") rows) (first_of (codes "journal") rows) (switch_at (codes "seal") rows)
-    (switch_at (codes "new") rows) (number_at (codes "resend") rows) (choice_at rows)
+    (switch_at (codes "new") rows) (number_at (codes "resend") rows) (choice_at rows) (first_of (codes "bank") rows)
 
 -- closing the books has all accounts and all journals that are given
 abbrev pub close_asked : List Row → Asked
@@ -313,10 +331,27 @@ abbrev pub AreReadAs : List Text → Words → Type 0
 AreReadAs words asked = (line : App) × IsCommandLine line
     × (words_of_matches (subcommand_of line words) ≡ Some (as_asked asked))
 
--- a result is Ok only if the command line takes the words, and its error's kind is what is wrong with them, or out of
+-- the options of a site name a bank, and ask for a seal, which has none
+abbrev pub names_bank_to_seal : List Row → Bool
+names_bank_to_seal rows = is_some (first_of (codes "bank") rows) && switch_at (codes "seal") rows
+
+-- and so it is with the command that a parse met: it is that of a site
+abbrev pub seals_bank : Option (Text × List Row) → Bool
+seals_bank None = false
+seals_bank (Some met) = bytes_eq met.0 (codes "site") && names_bank_to_seal met.1
+
+-- these options don't go together
+abbrev pub conflict_of : Option (Text × List Row) → Kinds
+conflict_of met = if seals_bank met then ArgumentConflict ∷ [] else []
+
+-- what is wrong with words: what the command line refuses them by, or else that they name a bank to a seal
+abbrev pub kinds_of : App → List Text → Kinds
+kinds_of line words = or_else (fault_of line words) (conflict_of (subcommand_of line words))
+
+-- a result is Ok only if nothing is wrong with the words, and its error's kind is what is wrong with them, or out of
 -- memory
 abbrev pub FailsByWords : {T : Type 0} → List Text → Result T Error → Type 0
-FailsByWords words result = (line : App) × IsCommandLine line × FailsBy (fault_of line words) result
+FailsByWords words result = (line : App) × IsCommandLine line × FailsBy (kinds_of line words) result
 
 -- if words in their usual spelling ask for something, it is this
 abbrev pub IsAsUsual : List Text → Words → Type 0
@@ -326,7 +361,7 @@ IsAsUsual words asked = (usual : Words) → Ask words usual → as_asked asked �
 abbrev pub IsInRange : Asked → Type 0
 IsInRange (threads sites tellers seed) =
     (2 ≤ sites) × (sites ≤ MOST_SITES) × (1 ≤ tellers) × (tellers ≤ MOST_TELLERS) × (seed < 2 ^ 32)
-IsInRange (site me journal is_new resend recorded) = (me < MOST_SITES) × IfSome resend (λ n. n ≤ MOST_HISTORY)
+IsInRange (site me journal is_new resend recorded bank) = (me < MOST_SITES) × IfSome resend (λ n. n ≤ MOST_HISTORY)
 IsInRange (seal me journal) = me < MOST_SITES
 IsInRange (close sites accounts journals) = IfSome sites (λ n. (2 ≤ n) × (n ≤ MOST_SITES)) × (1 ≤ length journals)
 IsInRange _ = Unit {0}

@@ -119,6 +119,14 @@ pub fn journal<'a>(alloc: Global) -> Arg<'a>
     option(alloc, "journal", "FILE", texts::JOURNAL, true)
 }
 
+/// The name of the site's bank.
+pub fn bank<'a>(alloc: Global) -> Arg<'a>
+    ensures rule { rule_of result ≡ option_rule (codes "bank") None false }
+    ensures local { result.global ≡ false }
+{
+    option(alloc, "bank", "NAME", texts::BANK, false)
+}
+
 /// An option without a value.
 fn switch<'a>(alloc: Global, name: &'a str, help: &'a str) -> Arg<'a>
     ensures rule { rule_of result ≡ switch_rule name.entry.now }

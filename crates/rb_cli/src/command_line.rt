@@ -46,7 +46,7 @@ fn threads<'a>(alloc: Global) -> Result<Command<'a>, AllocError>
 }
 
 /// The command for one site, with its options.
-fn site<'a>(alloc: Global) -> Result<Command<'a>, AllocError>
+pub fn site<'a>(alloc: Global) -> Result<Command<'a>, AllocError>
     ensures shape { IfOk result (λ command. IsSiteLine (app_of command)) }
     ensures local { IfOk result (λ command. (out-Command command).has_globals ≡ false) }
 {
@@ -56,6 +56,7 @@ fn site<'a>(alloc: Global) -> Result<Command<'a>, AllocError>
         arguments::new_file(alloc),
         arguments::resend(alloc),
         arguments::recorded(alloc),
+        arguments::bank(alloc),
         arguments::sealed(alloc),
     ]?;
     part(

@@ -21,7 +21,7 @@ pub const MIGRATE_USAGE: &str = "rbbank migrate < HISTORIES";
 
 /// How `site` is used.
 pub const SITE_USAGE: &str =
-    "rbbank site --me S --journal FILE [--new] [--resend N] [--record changes|all] [--seal] < EVENTS";
+    "rbbank site --me S --journal FILE [--new] [--resend N] [--record changes|all] [--bank NAME] [--seal] < EVENTS";
 
 /// How `close` is used.
 pub const CLOSE_USAGE: &str = "rbbank close [--sites N] [--account NAME].. JOURNAL..";
@@ -80,6 +80,13 @@ pub const RESEND: &str =
 
 /// What `--record` is.
 pub const RECORD: &str = "Which events are recorded: changes (the default) or all";
+
+/// What `--bank` is.
+pub const BANK: &str =
+    "The bank's name, in each message: 1 to 64 of A-Z a-z 0-9 . _ : - (not with --seal)";
+
+/// Said of words that name a bank to a seal.
+pub const CONFLICT: &str = "the argument '--bank <NAME>' cannot be used with '--seal'";
 
 /// The help of `--seal`.
 pub const SEAL: &str =
@@ -255,6 +262,10 @@ under names that are taken. What a crash left behind its last line is kept in FI
 
 An event that changes nothing, as a balance, a refusal or a message that the site has, is answered and not recorded.
 With --record all each event is, but one that changes nothing and whose line in the journal would be too long.
+
+With --bank b2026 each message begins with "bank":"b2026", and one that comes must have it. A request may have it. Any
+line of another bank is answered {"reply":{"refused":26},"sends":[],"then":[]}, and changes nothing. The journal has no
+bank's name.
 
 With --seal no input is read, nothing is served, and --new, --resend and --record make no difference: the journal has
 to be there, and is sealed for good. No site starts over it again; rbbank close reads the sealed journals of all sites.

@@ -1,13 +1,15 @@
 //! What a command line asks for.
 ghost use Rattle.std.specs.Prelude.{◌≡◌, codes, map, option_map, IfErr, IfOk, IfSome};
-ghost use Rattle.clap.specs.Words.{found_of, kind_of, rows_of, subcommand_rows_of};
-ghost use Rattle.clap.specs.declared.error.kind.ErrorKind.TheVariants.{OutOfMemory};
+ghost use Rattle.clap.specs.Words.{FailsBy, found_of, kind_of, rows_of, subcommand_rows_of};
+ghost use Rattle.clap.specs.declared.error.kind.ErrorKind.TheVariants.{ArgumentConflict, OutOfMemory};
 ghost use Rattle.rb_cli.specs.Words.{AreFit, AreReadAs, Ask, FailsByWords, FitsWithin, HasSwitchWord, IsAsUsual};
-ghost use Rattle.rb_cli.specs.Words.{IsInRange, as_asked, close_asked, number_at, choice_at, record_of};
-ghost use Rattle.rb_cli.specs.Words.{site_asked, switch_at, texts_at, threads_asked, words_of_matches};
+ghost use Rattle.rb_cli.specs.Words.{IsInRange, as_asked, choice_at, close_asked, conflict_of, names_bank_to_seal};
+ghost use Rattle.rb_cli.specs.Words.{number_at, record_of, seals_bank, site_asked, switch_at, texts_at, threads_asked};
+ghost use Rattle.rb_cli.specs.Words.{words_of_matches};
 
-use crate::Record;
-use crate::command_line::command_line;
+use crate::command_line::{command_line, site as site_line};
+use crate::{Record, texts};
+use clap::error::ErrorKind;
 use clap::{ArgMatches, Error};
 use std::alloc::{AllocError, Global};
 
@@ -34,13 +36,14 @@ pub enum Words<'a> {
     },
     /// To run this site, 0 to `MOST_SITES` - 1, whose history is kept in this file, which is made if it is a new one.
     /// The messages of its last `resend` entries, 0 to `MOST_HISTORY`, are written again first, or those of all. It
-    /// records the events that `record` says.
+    /// records the events that `record` says. `bank` is the word given as the bank's name, whatever it is, if any is.
     Site {
         me: u8,
         journal: &'a str,
         is_new: bool,
         resend: Option<u32>,
         record: Record,
+        bank: Option<&'a str>,
     },
     /// To seal the history that this site keeps in this file. No event is read.
     Seal {
@@ -135,12 +138,14 @@ fn site<'a>(given: &ArgMatches<'a>) -> Option<Words<'a>>
     let is_new = switch(given, "new");
     let resend = number(given, "resend");
     let record = recorded(given);
+    let bank = given.get_str("bank");
     Some(Words::Site {
         me: me as u8,
         journal,
         is_new,
         resend,
         record,
+        bank,
     })
 }
 
@@ -159,11 +164,49 @@ fn close<'a>(alloc: Global, given: &ArgMatches<'a>) -> Result<Words<'a>, AllocEr
     })
 }
 
-/// What the command that was met asks for, with its options.
-fn asked_by<'a>(alloc: Global, matches: &ArgMatches<'a>) -> Result<Option<Words<'a>>, AllocError>
-    requires { IfSome (subcommand_rows_of matches.now) (λ met. AreFit met.0 met.1) }
-    ensures { IfOk result (λ asked. option_map as_asked asked ≡ words_of_matches (subcommand_rows_of matches.now)) }
+/// Whether the options of `site` name a bank to a seal.
+fn names_bank_to_seal(given: &ArgMatches) -> bool
+    requires { AreFit (codes "site") (rows_of (found_of given.now)) }
+    ensures { result ≡ names_bank_to_seal (rows_of (found_of given.now)) }
 {
+    match given.get_str("bank") {
+        Some(_) => switch(given, "seal"),
+        None => false,
+    }
+}
+
+/// Whether the command that was met, with its options, names a bank to a seal.
+fn seals_bank(matches: &ArgMatches) -> bool
+    requires { IfSome (subcommand_rows_of matches.now) (λ met. AreFit met.0 met.1) }
+    ensures { result ≡ seals_bank (subcommand_rows_of matches.now) }
+{
+    let Some((name, given)) = matches.subcommand() else {
+        return false;
+    };
+    match name {
+        "site" => names_bank_to_seal(given),
+        _ => false,
+    }
+}
+
+/// The error of words that name a bank to a seal, in the form of the errors of the command line.
+fn conflict(alloc: Global) -> Result<Error, AllocError>
+    ensures { IfOk result (λ e. kind_of e ≡ ArgumentConflict) }
+{
+    let mut site = site_line(alloc)?;
+    site.error(ErrorKind::ArgumentConflict, texts::CONFLICT)
+}
+
+/// What the command that was met asks for, with its options. It is refused if it names a bank to a seal.
+fn asked_by<'a>(alloc: Global, matches: &ArgMatches<'a>) -> Result<Option<Words<'a>>, Error>
+    requires { IfSome (subcommand_rows_of matches.now) (λ met. AreFit met.0 met.1) }
+    ensures ok { IfOk result
+        (λ asked. option_map as_asked asked ≡ words_of_matches (subcommand_rows_of matches.now)) }
+    ensures kinds { FailsBy (conflict_of (subcommand_rows_of matches.now)) result }
+{
+    if seals_bank(matches) {
+        return Err(conflict(alloc)?);
+    }
     let Some((name, given)) = matches.subcommand() else {
         return Ok(None);
     };
@@ -186,8 +229,8 @@ pub fn read_words<'a>(alloc: Global, words: &'a [&'a str]) -> Result<Words<'a>, 
     // What the command line reads the words as.
     ensures ok { IfOk result (AreReadAs (map (λ word. word.now) words.entry.now)) }
     ensures ranges { IfOk result (λ asked. IsInRange (as_asked asked)) }
-    // Ok comes only for words that the command line takes, and an error's kind is what is wrong with the words, or out
-    // of memory: help and the version only if they ask for it.
+    // Ok comes only for words that the command line takes and that name no bank to a seal, and an error's kind is what
+    // is wrong with the words, or out of memory: help and the version only if they ask for it.
     ensures kinds { FailsByWords (map (λ word. word.now) words.entry.now) result }
     // Words that ask for something, each option's name and value in a word of its own, are read as that, and refused
     // for want of memory alone.

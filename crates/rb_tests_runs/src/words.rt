@@ -2,6 +2,7 @@
 //! tests/cases.
 
 use crate::checks::{equal, holds};
+use clap::error::ErrorKind;
 use rb_cli::{MOST_TELLERS, Record, Words, read_words};
 use rb_money::MOST_SITES;
 use std::alloc::Global;
@@ -89,9 +90,54 @@ fn journals_are_read(rt: HostRuntime) {
             is_new,
             resend,
             record,
+            bank: None,
         };
         are_read(&rt, rt.alloc(), line, wanted);
     }
+}
+
+/// A bank's name is the text of its option, whatever it is, in any place.
+#[test]
+fn banks_are_read(rt: HostRuntime) {
+    for (line, bank) in [
+        ("site --me 0 --journal j --bank b2026", "b2026"),
+        ("site --bank=-b --journal j --me 0", "-b"),
+        ("site --me 0 --bank A:z_0.9- --journal j", "A:z_0.9-"),
+        ("site --me 0 --journal j --bank=", ""),
+        ("site --me 0 --journal j --bank a/b", "a/b"),
+    ] {
+        let wanted = Words::Site {
+            me: 0,
+            journal: "j",
+            is_new: false,
+            resend: None,
+            record: Record::Changes,
+            bank: Some(bank),
+        };
+        are_read(&rt, rt.alloc(), line, wanted);
+    }
+}
+
+/// A seal has no bank's name, in any place.
+#[test]
+fn sealed_banks_are_refused(rt: HostRuntime) -> Result<(), Fail> {
+    let alloc = rt.alloc();
+    for line in [
+        "site --me 15 --journal j --seal --bank b2026",
+        "site --bank=b2026 --seal --journal=j --me=+15",
+    ] {
+        let words: Vec<&str> = line.split(" ").collect(alloc)?;
+        match read_words(alloc, words.as_slice()) {
+            Ok(_words) => return Err(Fail::from("a seal with a bank")),
+            Err(error) => {
+                let text = error.to_string(alloc)?;
+                let said = "'--bank <NAME>' cannot be used with '--seal'";
+                holds(&rt, "text", text.contains(said));
+                holds(&rt, "kind", error.kind() == ErrorKind::ArgumentConflict);
+            }
+        }
+    }
+    Ok(())
 }
 
 /// A journal is sealed if that is said, in any place, whatever else is given.

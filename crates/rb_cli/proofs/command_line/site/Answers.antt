@@ -13,11 +13,12 @@ vec-requires c = omega arith
 added : (c : goal.After-args-2) → IfOk c.args-2.result (λ command. Is command (site_line c.recorded.ensures.rule.0))
 added c =
     with_options c.part.result _
-    (c.me.result ∷ c.journal.result ∷ c.new_file.result ∷ c.resend.result ∷ c.recorded.result ∷ c.sealed.result ∷ [])
+    (c.me.result ∷ c.journal.result ∷ c.new_file.result ∷ c.resend.result ∷ c.recorded.result ∷ c.bank.result
+    ∷ c.sealed.result ∷ [])
     c.args-2.result _
     (option_rule (codes "me") (within 0 15) true ∷ option_rule (codes "journal") None true ∷ switch_rule (codes "new")
     ∷ option_rule (codes "resend") (within 0 MOST_HISTORY) false ∷ record_rule c.recorded.ensures.rule.0
-    ∷ switch_rule (codes "seal") ∷ [])
+    ∷ option_rule (codes "bank") None false ∷ switch_rule (codes "seal") ∷ [])
     c.in_ok-options.ensures.items
     record { shape = c.part.ensures.shape; local = c.part.ensures.local } (
       record { rule_is = c.me.ensures.rule; local = c.me.ensures.local },
@@ -29,7 +30,10 @@ added c =
             record { rule_is = c.resend.ensures.rule; local = c.resend.ensures.local },
             (
               record { rule_is = c.recorded.ensures.rule.2; local = c.recorded.ensures.local },
-              (record { rule_is = c.sealed.ensures.rule; local = c.sealed.ensures.local }, tt),
+              (
+                record { rule_is = c.bank.ensures.rule; local = c.bank.ensures.local },
+                (record { rule_is = c.sealed.ensures.rule; local = c.sealed.ensures.local }, tt),
+              ),
             ),
           ),
         ),

@@ -6,10 +6,12 @@ use Rattle.clap.specs.Lexer.{usize_max}
 use Rattle.clap.specs.Words.{App, HasKind, HasMatchesOf, Row, Text, fault_of, is_simple, is_simple_and_free, kind_of}
 use Rattle.clap.specs.Words.{subcommand_of, subcommand_rows_of}
 use Rattle.clap.specs.declared.error.Error.{Error}
+use Rattle.clap.specs.Kinds.{Kinds, or_else}
 use Rattle.clap.specs.declared.error.kind.ErrorKind.TheVariants.{OutOfMemory}
 use Rattle.clap.specs.declared.parser.matches.ArgMatches.{ArgMatches}
 use Rattle.clap.proofs.OnLiterals.{clap_on_literals}
-use Rattle.rb_cli.specs.Words.{AreFit, Asked, IsInRange, TextRefs, as_asked, command_line, record_word, words_of_matches}
+use Rattle.rb_cli.specs.Words.{AreFit, Asked, IsInRange, TextRefs, as_asked, command_line, conflict_of, kinds_of, record_word}
+use Rattle.rb_cli.specs.Words.{words_of_matches}
 use Rattle.rb_cli.specs.declared.recorded.Record.TheVariants.{Changes, All}
 use Rattle.rb_cli.proofs.Reading.{taken_asks}
 use Rattle.rb_cli.proofs.UsualWords.{usual_words}
@@ -46,9 +48,21 @@ kind_by : (names : TextRefs) (app : App) (words : List Text) (e : Error) → app
 kind_by names app words e is has =
     subst (λ (a : App). HasKind (fault_of a words) e) is (has (ap is_simple_and_free is ∙ is_known names))
 
+-- an error by the first fault is one by what is wrong with the words
+first_kind : (a b : Kinds) (e : Error) → HasKind a e → HasKind (or_else a b) e
+first_kind [] b e (inl memory) = inl memory
+first_kind [] b e (inr never) = absurd never
+first_kind (k ∷ ks) b e has = has
+
+-- with words that the command line takes, only that may be wrong by which their command is refused
+wrong_by : (names : TextRefs) (words : List Text) (met : Option (Text × List Row)) → fault_of (command_line names) words ≡ []
+    → met ≡ subcommand_of (command_line names) words → kinds_of (command_line names) words ≡ conflict_of met
+wrong_by names words met none is =
+    ap (λ k. or_else k (conflict_of (subcommand_of (command_line names) words))) none ∙ ap conflict_of (sym is)
+
 -- only memory is left to fail
-by_memory : (names : TextRefs) (words : List Text) (e : Error) → fault_of (command_line names) words ≡ []
-    → HasKind (fault_of (command_line names) words) e → kind_of e ≡ OutOfMemory
+by_memory : (names : TextRefs) (words : List Text) (e : Error) → kinds_of (command_line names) words ≡ []
+    → HasKind (kinds_of (command_line names) words) e → kind_of e ≡ OutOfMemory
 by_memory names words e none has = elim (subst (λ kinds. HasKind kinds e) none has) [
   | inl memory ↦ memory
   | inr never ↦ absurd never
@@ -66,23 +80,44 @@ pub returns-in_err-command-clause-kinds : goal.returns-in_err-command-clause-kin
 returns-in_err-command-clause-kinds c = (command_line some_words, (some_words, refl, refl), search rules)
 
 pub returns-in_err-asked-clause-kinds : goal.returns-in_err-asked-clause-kinds
-returns-in_err-asked-clause-kinds c = (command_line some_words, (some_words, refl, refl), search rules)
+returns-in_err-asked-clause-kinds c =
+    let words = map (λ word. word.now) c.args.words.now in
+    let line = c.in_ok-command.ensures in
+    let none = taken_by line.0 _ words line.2 c.in_ok-matches.ensures.kinds in
+    let met = met_by line.0 _ words c.in_ok-matches.matches line.2 c.in_ok-matches.ensures.ok.2 in
+    let wrong = wrong_by line.0 words _ none met in
+    let read = err_from_is_err_and c.from_residual-in_err-asked.result c.from_residual-in_err-asked.ensures.1 in
+    let has = subst (λ kinds. HasKind kinds c.in_err-asked.field-0.0) (sym wrong) c.in_err-asked.ensures.kinds in
+    rw read.1 (
+      command_line line.0,
+      (line.0, line.1, refl),
+      subst (HasKind (kinds_of (command_line line.0) words))
+          (sym read.2) has,
+    )
 
 pub returns-in_err-asked-clause-err : goal.returns-in_err-asked-clause-err
 returns-in_err-asked-clause-err c =
+    let words = map (λ word. word.now) c.args.words.now in
+    let line = c.in_ok-command.ensures in
+    let none = taken_by line.0 _ words line.2 c.in_ok-matches.ensures.kinds in
+    let met = met_by line.0 _ words c.in_ok-matches.matches line.2 c.in_ok-matches.ensures.ok.2 in
+    let wrong = wrong_by line.0 words _ none met in
     let read = err_from_is_err_and c.from_residual-in_err-asked.result c.from_residual-in_err-asked.ensures.1 in
-    rw read.1 (λ asked ask. read.2)
+    let has = subst (λ kinds. HasKind kinds c.in_err-asked.field-0.0) (sym wrong) c.in_err-asked.ensures.kinds in
+    let few : length words ≤ usize_max = omega (arith, length-map c.args.words.now (λ word. word.now), c.well_formed) in
+    rw read.1 (λ asked ask. by_memory line.0 words read.0 (usual_words line.0 line.1 words asked few ask).0
+    (subst (HasKind (kinds_of (command_line line.0) words)) (sym read.2) has))
 
 pub returns-in_err-matches-clause-kinds : goal.returns-in_err-matches-clause-kinds
 returns-in_err-matches-clause-kinds c =
     let words = map (λ word. word.now) c.args.words.now in
     let line = c.in_ok-command.ensures in
     let read = err_from_is_err_and c.from_residual-in_err-matches.result c.from_residual-in_err-matches.ensures.1 in
-    let has = kind_by line.0 _ words c.in_err-matches.field-0.0 line.2 c.in_err-matches.ensures.kinds in
+    let has = first_kind _ _ c.in_err-matches.field-0.0 (kind_by line.0 _ words c.in_err-matches.field-0.0 line.2 c.in_err-matches.ensures.kinds) in
     rw read.1 (
       command_line line.0,
       (line.0, line.1, refl),
-      subst (HasKind (fault_of (command_line line.0) words))
+      subst (HasKind (kinds_of (command_line line.0) words))
           (sym read.2) has,
     )
 
@@ -91,10 +126,10 @@ returns-in_err-matches-clause-err c =
     let words = map (λ word. word.now) c.args.words.now in
     let line = c.in_ok-command.ensures in
     let read = err_from_is_err_and c.from_residual-in_err-matches.result c.from_residual-in_err-matches.ensures.1 in
-    let has = kind_by line.0 _ words c.in_err-matches.field-0.0 line.2 c.in_err-matches.ensures.kinds in
     let few : length words ≤ usize_max = omega (arith, length-map c.args.words.now (λ word. word.now), c.well_formed) in
+    let has = first_kind _ _ c.in_err-matches.field-0.0 (kind_by line.0 _ words c.in_err-matches.field-0.0 line.2 c.in_err-matches.ensures.kinds) in
     rw read.1 (λ asked ask. by_memory line.0 words read.0 (usual_words line.0 line.1 words asked few ask).0
-    (subst (HasKind (fault_of (command_line line.0) words)) (sym read.2) has))
+    (subst (HasKind (kinds_of (command_line line.0) words)) (sym read.2) has))
 
 pub asked_by-requires : goal.asked_by-requires
 asked_by-requires c =
@@ -110,7 +145,7 @@ unreachable-requires c =
     let line = c.in_ok-command.ensures in
     let asks = taken_asks line.0 words (taken_by line.0 _ words line.2 c.in_ok-matches.ensures.kinds) in
     let met = met_by line.0 _ words c.in_ok-matches.matches line.2 c.in_ok-matches.ensures.ok.2 in
-    let none = sym (ap (option_map as_asked) c.in-None.is) ∙ c.in_ok-asked.ensures ∙ ap words_of_matches met ∙ asks.is in
+    let none = sym (ap (option_map as_asked) c.in-None.is) ∙ c.in_ok-asked.ensures.ok ∙ ap words_of_matches met ∙ asks.is in
     is_nothing _ none
   where
     is_nothing : (x : Asked) → None ≡ Some x → ⊥
@@ -122,21 +157,26 @@ returns-clause-ranges c =
     let line = c.in_ok-command.ensures in
     let asks = taken_asks line.0 words (taken_by line.0 _ words line.2 c.in_ok-matches.ensures.kinds) in
     let met = met_by line.0 _ words c.in_ok-matches.matches line.2 c.in_ok-matches.ensures.ok.2 in
-    let is = sym (ap (option_map as_asked) c.in-Some.is) ∙ c.in_ok-asked.ensures ∙ ap words_of_matches met ∙ asks.is in
+    let is = sym (ap (option_map as_asked) c.in-Some.is) ∙ c.in_ok-asked.ensures.ok ∙ ap words_of_matches met ∙ asks.is in
     subst IsInRange (sym (some_same _ _ is)) asks.in_range
 
 pub returns-clause-kinds : goal.returns-clause-kinds
 returns-clause-kinds c =
     let words = map (λ word. word.now) c.args.words.now in
     let line = c.in_ok-command.ensures in
-    (command_line line.0, (line.0, line.1, refl), taken_by line.0 _ words line.2 c.in_ok-matches.ensures.kinds)
+    let none = taken_by line.0 _ words line.2 c.in_ok-matches.ensures.kinds in
+    let met = met_by line.0 _ words c.in_ok-matches.matches line.2 c.in_ok-matches.ensures.ok.2 in (
+      command_line line.0,
+      (line.0, line.1, refl),
+      wrong_by line.0 words _ none met ∙ c.in_ok-asked.ensures.kinds,
+    )
 
 pub returns-clause-usual : goal.returns-clause-usual
 returns-clause-usual c = λ asked ask.
     let words = map (λ word. word.now) c.args.words.now in
     let line = c.in_ok-command.ensures in
     let met = met_by line.0 _ words c.in_ok-matches.matches line.2 c.in_ok-matches.ensures.ok.2 in
-    let is = sym (ap (option_map as_asked) c.in-Some.is) ∙ c.in_ok-asked.ensures ∙ ap words_of_matches met in
+    let is = sym (ap (option_map as_asked) c.in-Some.is) ∙ c.in_ok-asked.ensures.ok ∙ ap words_of_matches met in
     let few : length words ≤ usize_max = omega (arith, length-map c.args.words.now (λ word. word.now), c.well_formed.1.0) in
     some_same _ _ (is ∙ (usual_words line.0 line.1 words asked few ask).1)
 
@@ -147,6 +187,6 @@ returns-clause-ok c =
     let met = met_by line.0 _ words c.in_ok-matches.matches line.2 c.in_ok-matches.ensures.ok.2 in (
       command_line line.0,
       (line.0, line.1, refl),
-      sym (sym (ap (option_map as_asked) c.in-Some.is) ∙ c.in_ok-asked.ensures
+      sym (sym (ap (option_map as_asked) c.in-Some.is) ∙ c.in_ok-asked.ensures.ok
           ∙ ap words_of_matches met),
     )

@@ -1,5 +1,5 @@
--- The file's name is the text of its option.
-use Rattle.std.proofs.Common.{rules, codes}
+-- The names of the file and of the bank are the texts of their options.
+use Rattle.std.proofs.Common.{◌∙◌, rules, codes}
 use Rattle.clap.specs.Words.{found_of}
 use Rattle.clap.proofs.WalkLemmas.{first_value-rows}
 use Rattle.rb_cli.proofs.words.site.Goals as goal
@@ -17,4 +17,5 @@ returns-then-switch c =
 pub returns : goal.returns
 returns c =
     let file = first_value-rows (found_of c.args.given.now) (codes "journal") in
-    search rules
+    let bank = c.get_str-bank.ensures ∙ first_value-rows (found_of c.args.given.now) (codes "bank") in
+    rw bank (search rules)
