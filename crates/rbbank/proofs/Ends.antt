@@ -13,7 +13,7 @@ use Rattle.rbbank.specs.declared.over_files.OverFiles.{OverFiles}
 use Rattle.rbbank.specs.declared.over_files.OverFiles.TheVariants.{Nothing, Site, Closed}
 use Rattle.rbbank.specs.declared.on_streams.Streamed.{Streamed}
 use Rattle.rbbank.specs.declared.on_streams.Streamed.TheVariants.{Script, Histories, Audit, Migrate, Threads, SiteAsked, SealAsked}
-use Rattle.rbbank.specs.declared.on_streams.Streamed.TheVariants.{CloseAsked}
+use Rattle.rbbank.specs.declared.on_streams.Streamed.TheVariants.{BadBank, CloseAsked}
 use Rattle.rbbank.specs.Statuses.{IsEnd, IsEndOf, IsEndOfAudit, IsEndOfClosing, IsEndOfHistories, IsEndOfScript, IsEndOfSite, IsEndOfWords}
 use Rattle.rbbank.specs.Statuses.{IsReportedStatus, status_of_unread}
 
@@ -57,9 +57,10 @@ any_end n (Histories ran) input left done text e = histories_end n ran e.0
 any_end n (Audit ran) input left done text e = audit_end n ran e.0
 any_end n (Migrate ran) input left done text e = script_end n ran e.0
 any_end n (Threads ran) input left done text e = histories_end n ran e.0
-any_end n (SiteAsked me journal is_new resend recorded) input left (Site ran) text e = site_end n ran.ended e.1
-any_end n (SiteAsked me journal is_new resend recorded) input left Nothing text e = absurd e
-any_end n (SiteAsked me journal is_new resend recorded) input left (Closed ran) text e = absurd e
+any_end n (SiteAsked me journal is_new resend recorded bank) input left (Site ran) text e = site_end n ran.ended e.1
+any_end n (SiteAsked me journal is_new resend recorded bank) input left Nothing text e = absurd e
+any_end n (SiteAsked me journal is_new resend recorded bank) input left (Closed ran) text e = absurd e
+any_end n (BadBank name) input left done text e = fault_end n NoConfig e.0
 any_end n (SealAsked me journal) input left (Site ran) text e = site_end n ran.ended e.1
 any_end n (SealAsked me journal) input left Nothing text e = absurd e
 any_end n (SealAsked me journal) input left (Closed ran) text e = absurd e

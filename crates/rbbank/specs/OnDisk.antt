@@ -1,6 +1,7 @@
 -- A run of a site over a file of the operating system.
 use Rattle.std.specs.Prelude.{◌≡◌, ◌⊎◌, ◌<◌, ◌-◌, ◌^◌, ◌++◌, ℕ, Bool, true, false, List, [], length, codes, string_bytes}
 use Rattle.std.specs.Prelude.{Option, Some, None, Result, Err}
+use Rattle.std.specs.Borrow.{Bor}
 use Rattle.std.specs.IoError.{error_kind}
 use Rattle.std.specs.declared.io.ErrorKind.{ErrorKind}
 use Rattle.std.specs.declared.io.ErrorKind.TheVariants.{WouldBlock, OutOfMemory as NoMemory}
@@ -26,6 +27,11 @@ use Rattle.rb_run_site.specs.declared.fault.SiteFault.TheVariants.{NoJournal, Jo
 abbrev pub most_of : Option ℕ → ℕ
 most_of (Some n) = n
 most_of None = 2 ^ 64 - 1
+
+-- the bytes of the bank's name, none if it has no name
+abbrev pub bank_name_of : Option (Bor (List ℕ)) → List ℕ
+bank_name_of (Some name) = name.now
+bank_name_of None = []
 
 -- all events are recorded, and not only those that change the site
 abbrev pub records_all : Record → Bool
@@ -76,29 +82,29 @@ module _ {R P : Type 0} where
     pub output : output_of (disk_log disk) ≡ []
     pub durable : Only (file_of disk) (leaves (disk_log disk))
 
-  -- site `me`, which records all events or those that change it, ran over the file of this name: it answered the lines
-  -- behind the configuration, or stopped in the opening, as the promises of a site's run have it
-  pub record HasRunOn (all : Bool) (me most : ℕ) (name : List ℕ) (is_new : Bool) (input left : Option (List ℕ))
-      (disk : Disk R P) (ended : Result ℕ SiteFault) : Type 0 where
+  -- site `me` of this bank, which records all events or those that change it, ran over the file of this name: it answered
+  -- the lines behind the configuration, or stopped in the opening, as the promises of a site's run have it
+  pub record HasRunOn (all : Bool) (me : ℕ) (bank : List ℕ) (most : ℕ) (name : List ℕ) (is_new : Bool)
+      (input left : Option (List ℕ)) (disk : Disk R P) (ended : Result ℕ SiteFault) : Type 0 where
     pub start : Disk R P
     pub opened : IsOpened name is_new start
     pub ended_as : RunsTo
-        (λ end. AnswersBehind all me most input left (recovered (file_of start)) [] (recovered (file_of disk))
+        (λ end. AnswersBehind all me bank most input left (recovered (file_of start)) [] (recovered (file_of disk))
         (output_of (disk_log disk)) end
         × IsAtRest (file_of disk) (leaves (disk_log disk)))
-        (λ fault. (disk ≡ start) × IsOpeningCause me input left (file_of start) fault) ended
-    pub any_moment : LeavesOnly moment_of crash_left_of start disk (IsSiteRun all me most input (file_of start) [])
-    pub steps : LeavesOnly moment_of crash_left_of start disk (IsRunOfSteps all me most input (file_of start) [])
+        (λ fault. (disk ≡ start) × IsOpeningCause me bank input left (file_of start) fault) ended
+    pub any_moment : LeavesOnly moment_of crash_left_of start disk (IsSiteRun all me bank most input (file_of start) [])
+    pub steps : LeavesOnly moment_of crash_left_of start disk (IsRunOfSteps all me bank most input (file_of start) [])
     pub write : ended ≡ Err Write → faults_of (disk_log start) < faults_of (disk_log disk)
     pub journal : ended ≡ Err Journal → (faults_of (disk_log start) < faults_of (disk_log disk))
-        ⊎ IsFullBehind all me input (recovered (file_of start))
+        ⊎ IsFullBehind all me bank input (recovered (file_of start))
 
   -- the file wasn't opened, and nothing was read; or the site ran over it
-  abbrev pub IsRunOn : Bool → ℕ → List ℕ → Bool → Option ℕ → Option (List ℕ) → Option (List ℕ) → Option (Disk R P)
-      → Result ℕ SiteFault → Type 0
-  IsRunOn all me name is_new resend input left None ended = (left ≡ input) × IsUnopened is_new ended
-  IsRunOn all me name is_new resend input left (Some disk) ended =
-      HasRunOn all me (most_of resend) name is_new input left disk ended
+  abbrev pub IsRunOn : Bool → ℕ → List ℕ → List ℕ → Bool → Option ℕ → Option (List ℕ) → Option (List ℕ)
+      → Option (Disk R P) → Result ℕ SiteFault → Type 0
+  IsRunOn all me bank name is_new resend input left None ended = (left ≡ input) × IsUnopened is_new ended
+  IsRunOn all me bank name is_new resend input left (Some disk) ended =
+      HasRunOn all me bank (most_of resend) name is_new input left disk ended
 
   -- the file of this name was sealed as site `me`'s journal, or it stopped, as the promises of a seal have it
   pub record HasSealedOn (me : ℕ) (name : List ℕ) (disk : Disk R P) (ended : Result ℕ SiteFault) : Type 0 where

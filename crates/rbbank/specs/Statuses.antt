@@ -1,5 +1,6 @@
 -- The statuses that the program ends with.
-use Rattle.std.specs.Prelude.{◌≡◌, ◌⊎◌, ◌≤◌, ℕ, Bool, true, false, List, [], length, map, IfSome, Option, Result, Ok, Err}
+use Rattle.std.specs.Prelude.{◌≡◌, ◌⊎◌, ◌≤◌, ◌++◌, ℕ, Bool, true, false, List, [], length, map, IfSome, Option, Result, Ok, Err}
+use Rattle.std.specs.Prelude.{codes}
 use Rattle.rb_money.specs.declared.limits.TheConstants.{MOST_SITES}
 use Rattle.std.specs.declared.io.ErrorKind.{ErrorKind as IoErrorKind}
 use Rattle.std.specs.declared.io.ErrorKind.TheVariants.{OutOfMemory as IoOutOfMemory}
@@ -12,12 +13,13 @@ use Rattle.rb_run_site.specs.declared.fault.SiteFault.{SiteFault}
 use Rattle.rb_run_site.specs.Faults.{site_status_of}
 use Rattle.rb_runs.specs.Closes.{ClosesAs, close_status_of}
 use Rattle.rb_runs.specs.declared.books.close_fault.CloseFault.{CloseFault}
-use Rattle.rbbank.specs.OnDisk.{IsRunOn, IsSealOn, records_all}
+use Rattle.rb_history.specs.Ids.{is_id}
+use Rattle.rbbank.specs.OnDisk.{IsRunOn, IsSealOn, bank_name_of, records_all}
 use Rattle.rbbank.specs.declared.over_files.OverFiles.{OverFiles}
 use Rattle.rbbank.specs.declared.over_files.OverFiles.TheVariants.{Site, Closed}
 use Rattle.rbbank.specs.declared.on_streams.Streamed.{Streamed}
 use Rattle.rbbank.specs.declared.on_streams.Streamed.TheVariants.{Script, Histories, Audit, Migrate, Threads, SiteAsked, SealAsked}
-use Rattle.rbbank.specs.declared.on_streams.Streamed.TheVariants.{CloseAsked}
+use Rattle.rbbank.specs.declared.on_streams.Streamed.TheVariants.{BadBank, CloseAsked}
 
 -- the status if the words can't be read
 abbrev pub status_of_unread : IoErrorKind → ℕ
@@ -75,15 +77,20 @@ IsEndOf (Histories ran) input left done text n = IsEndOfHistories ran n × (text
 IsEndOf (Audit ran) input left done text n = IsEndOfAudit ran n × (text ≡ [])
 IsEndOf (Migrate ran) input left done text n = IsEndOfScript ran n × (text ≡ [])
 IsEndOf (Threads ran) input left done text n = IsEndOfHistories ran n × (text ≡ [])
-IsEndOf (SiteAsked me journal is_new resend recorded) input left (Site ran) text n =
-    IsRunOn (records_all recorded) me journal.now is_new resend input left ran.disk ran.ended × IsEndOfSite ran.ended n
-    × (text ≡ [])
+IsEndOf (SiteAsked me journal is_new resend recorded bank) input left (Site ran) text n =
+    IsRunOn (records_all recorded) me (bank_name_of bank) journal.now is_new resend input left ran.disk ran.ended
+    × IsEndOfSite ran.ended n × (text ≡ [])
+IsEndOf (BadBank name) input left done text n = IsReportedStatus 2 n × (text ≡ []) × (left ≡ input)
 IsEndOf (SealAsked me journal) input left (Site ran) text n =
     IsSealOn me journal.now ran.disk ran.ended × IsEndOfSite ran.ended n × (text ≡ []) × (left ≡ input)
 IsEndOf (CloseAsked sites accounts journals) input left (Closed ran) text n =
     ClosesAs (record { sites = sites; added = map (λ name. name.now) accounts.items }) (length journals.items) ran.read.files ran.ended text
     × IsEndOfClosing ran.ended n × (left ≡ input)
 IsEndOf _ input left done text n = ⊥
+
+-- what is said of a name that is none of a bank
+abbrev pub bank_message_of : List ℕ → List ℕ
+bank_message_of name = codes "rbbank: bank " ++ name ++ codes ": 1 to 64 of A-Z a-z 0-9 . _ : -"
 
 -- 0, 1, or the status of a fault
 abbrev pub IsEnd : ℕ → Type 0
@@ -92,12 +99,14 @@ IsEnd n = (n ≡ 0) ⊎ ((n ≡ 1) ⊎ (((fault : ScriptFault) × (n ≡ status_
 
 -- files are to be run over, by a site, a seal or closing the books
 abbrev pub IsAskedOfFiles : Streamed → Type 0
-IsAskedOfFiles (SiteAsked me journal is_new resend recorded) = Unit {0}
+IsAskedOfFiles (SiteAsked me journal is_new resend recorded bank) = Unit {0}
 IsAskedOfFiles (SealAsked me journal) = Unit {0}
 IsAskedOfFiles (CloseAsked sites accounts journals) = Unit {0}
 IsAskedOfFiles _ = ⊥
 
--- the books are to be closed by one journal or more, and for a number of sites that a bank may have
+-- a bank's name is an id; the books are to be closed by one journal or more, and for a number of sites that a bank may
+-- have
 abbrev pub IsFitting : Streamed → Type 0
+IsFitting (SiteAsked me journal is_new resend recorded bank) = IfSome bank (λ name. is_id name.now ≡ true)
 IsFitting (CloseAsked sites accounts journals) = IfSome sites (λ n. (2 ≤ n) × (n ≤ MOST_SITES)) × (1 ≤ length journals.items)
 IsFitting _ = Unit {0}

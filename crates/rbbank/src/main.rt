@@ -3,7 +3,7 @@
 //! Tests: rb_tests_runs, words.rt; the program itself runs in the gate and on examples/.
 #![tactic(auto)]
 
-ghost use Rattle.std.specs.Prelude.{◌≡◌, ◌⊎◌, List, MatchResult, false, ℕ};
+ghost use Rattle.std.specs.Prelude.{◌≡◌, ◌⊎◌, IfOk, List, MatchResult, false, string_bytes, ℕ};
 ghost use Rattle.std.specs.Io.KnownBytes.{Appends};
 ghost use Rattle.std.specs.IoError.{error_kind};
 ghost use Rattle.std.specs.Process.{exit_status};
@@ -12,7 +12,7 @@ ghost use Rattle.rb_lines.specs.Messages.{status_of};
 ghost use Rattle.rb_lines.specs.declared.fault.ScriptFault.TheVariants.{Write as NotWritten};
 ghost use Rattle.rbbank.specs.Statuses.{IsEnd, IsEndOf, IsEndOfAudit, IsEndOfHistories, IsEndOfScript, IsEndOfWords};
 ghost use Rattle.rbbank.specs.Statuses.{IsAskedOfFiles, IsFitting};
-ghost use Rattle.rbbank.specs.Statuses.{IsReportedStatus, status_of_unread};
+ghost use Rattle.rbbank.specs.Statuses.{IsReportedStatus, bank_message_of, status_of_unread};
 
 mod closing;
 mod on_disk;
@@ -26,7 +26,7 @@ use on_disk::{RanOnDisk, run_on_disk, seal_on_disk};
 use on_streams::{Streamed, run_on_streams};
 use over_files::OverFiles;
 use rb_lines::{FromReader, ScriptFault, Sink, Source, ToWriter, message, status};
-use std::alloc::AllocError;
+use std::alloc::{AllocError, Global};
 use std::process::ExitCode;
 use std::sync::Wait;
 use std::thread::Threads;
@@ -138,6 +138,20 @@ fn end_of_histories(rt: &HostRuntime, ran: Result<(), ScriptFault>) -> ExitCode
     }
 }
 
+/// The text about a name that is none of a bank.
+fn bank_message(alloc: Global, name: &str) -> Result<String, AllocError>
+    ensures { IfOk result (λ text. string_bytes text ≡ bank_message_of name.now) }
+{
+    format!(in alloc; "rbbank: bank {name}: 1 to 64 of A-Z a-z 0-9 . _ : -")
+}
+
+/// Says that the name is none of a bank.
+fn report_bank(rt: &HostRuntime, name: &str) -> ExitCode
+    ensures { IsReportedStatus 2 (exit_status result) }
+{
+    print_line(rt, bank_message(rt.alloc(), name), WRONG_WORDS)
+}
+
 /// How the program ends: its status, and what ran over files.
 struct Ended {
     code: ExitCode,
@@ -188,7 +202,9 @@ fn end<S: Source, W: Sink>(
             is_new,
             resend,
             record,
-        } => of_site(run_on_disk(rt, reader, me, journal, is_new, resend, record)),
+            bank,
+        } => of_site(run_on_disk(rt, reader, me, journal, is_new, resend, record, bank)),
+        Streamed::BadBank { name } => without_files(report_bank(rt, name)),
         Streamed::SealAsked { me, journal } => of_site(seal_on_disk(rt, me, journal)),
         Streamed::CloseAsked {
             sites,

@@ -1,13 +1,16 @@
 //! A site over a file of the operating system.
-ghost use Rattle.std.specs.Prelude.{◌≡◌, ◌⊎◌, ◌≤◌, Err, IfOk, None, string_bytes, true};
+ghost use Rattle.std.specs.Prelude.{◌≡◌, ◌⊎◌, ◌≤◌, Err, IfOk, IfSome, None, string_bytes, true};
 ghost use Rattle.std.specs.Process.{exit_status};
 ghost use Rattle.rb_lines.specs.declared.limits.TheConstants.{MOST_READS};
 ghost use Rattle.rb_run_site.specs.declared.fault.SiteFault.TheVariants.{Read as NotRead};
-ghost use Rattle.rbbank.specs.OnDisk.{IsJournalMessage, IsRunOn, IsSealOn, fault_of_open, most_of, records_all};
+ghost use Rattle.rb_history.specs.Ids.{is_id};
+ghost use Rattle.rbbank.specs.OnDisk.{IsJournalMessage, IsRunOn, IsSealOn, bank_name_of, fault_of_open, most_of};
+ghost use Rattle.rbbank.specs.OnDisk.{records_all};
 ghost use Rattle.rbbank.specs.Statuses.{IsEndOfSite};
 
 use crate::print_line;
 use rb_cli::Record;
+use rb_history::BankName;
 use rb_journal::{Disk, OpenError, open_disk};
 use rb_lines::Source;
 use rb_run_site::{
@@ -118,7 +121,34 @@ fn most_resent(resend: Option<u32>) -> usize
     }
 }
 
-/// Runs a site that records the events of `M`, as `run_on_disk` does.
+/// The bank of this name, or one without a name.
+fn bank_named(alloc: Global, name: Option<&str>) -> Result<BankName, AllocError>
+    requires { IfSome name (λ name. is_id name.now ≡ true) }
+    ensures { IfOk result (λ bank. bank ≡ bank_name_of name.entry) }
+{
+    let mut bank = BankName::none(alloc);
+    if let Some(name) = name {
+        bank.set(name)?;
+    }
+    Ok(bank)
+}
+
+/// There was no memory for the bank's name, so the journal isn't opened.
+fn without_memory(rt: &HostRuntime, journal: &str) -> RanOnDisk
+    ensures none { result.disk ≡ None }
+    ensures ended { result.ended ≡ Err SiteFault.OutOfMemory }
+    ensures status { IsEndOfSite result.ended (exit_status result.code) }
+{
+    let ended = Err(SiteFault::OutOfMemory);
+    let code = end_of_site(rt, journal, ended, None);
+    RanOnDisk {
+        disk: None,
+        ended,
+        code,
+    }
+}
+
+/// Runs a site of this bank that records the events of `M`, as `run_on_disk` does.
 fn run_recording<S: Source, M: Records>(
     rt: &HostRuntime,
     reader: &mut S,
@@ -126,9 +156,10 @@ fn run_recording<S: Source, M: Records>(
     journal: &str,
     is_new: bool,
     resend: Option<u32>,
+    bank: BankName,
 ) -> RanOnDisk
     requires { S.calls reader.old ≡ 0 }
-    ensures ran { IsRunOn M.ALL me journal.now is_new resend (S.remaining reader.old)
+    ensures ran { IsRunOn M.ALL me bank journal.now is_new resend (S.remaining reader.old)
         (S.remaining reader.new) result.disk result.ended }
     ensures unread { result.disk ≡ None → reader.new ≡ reader.old }
     ensures status { IsEndOfSite result.ended (exit_status result.code) }
@@ -143,6 +174,7 @@ fn run_recording<S: Source, M: Records>(
                 disk,
                 bytes,
                 me,
+                bank,
                 most_resent(resend),
             );
             let code = end_of_site(rt, journal, ended, host.error());
@@ -158,7 +190,7 @@ fn run_recording<S: Source, M: Records>(
 
 /// Runs a site from this reader to standard output, over its journal on the disk, which is made if it is a new one.
 /// What the last `resend` entries of it sent is put out again, or what all of them sent. All events are recorded, or
-/// those that change the site.
+/// those that change the site. If its bank has a name, each message has it.
 pub fn run_on_disk<S: Source>(
     rt: &HostRuntime,
     reader: &mut S,
@@ -167,18 +199,25 @@ pub fn run_on_disk<S: Source>(
     is_new: bool,
     resend: Option<u32>,
     recorded: Record,
+    bank: Option<&str>,
 ) -> RanOnDisk
-    requires { S.calls reader.old ≡ 0 }
-    ensures ran { IsRunOn (records_all recorded) me journal.now is_new resend (S.remaining reader.old)
-        (S.remaining reader.new) result.disk result.ended }
+    requires unread { S.calls reader.old ≡ 0 }
+    requires bank { IfSome bank (λ name. is_id name.now ≡ true) }
+    ensures ran { IsRunOn (records_all recorded) me (bank_name_of bank.entry) journal.now is_new resend
+        (S.remaining reader.old) (S.remaining reader.new) result.disk result.ended }
     ensures unread { result.disk ≡ None → reader.new ≡ reader.old }
     ensures status { IsEndOfSite result.ended (exit_status result.code) }
     ensures read { result.ended ≡ Err NotRead → (S.failed reader.new ≡ true) ⊎ (S.calls reader.new ≡ MOST_READS) }
     ensures calls { S.calls reader.new ≤ MOST_READS }
 {
+    let Ok(bank) = bank_named(rt.alloc(), bank) else {
+        return without_memory(rt, journal);
+    };
     match recorded {
-        Record::Changes => run_recording::<S, Changes>(rt, reader, me, journal, is_new, resend),
-        Record::All => run_recording::<S, AllEvents>(rt, reader, me, journal, is_new, resend),
+        Record::Changes => run_recording::<S, Changes>(
+            rt, reader, me, journal, is_new, resend, bank,
+        ),
+        Record::All => run_recording::<S, AllEvents>(rt, reader, me, journal, is_new, resend, bank),
     }
 }
 

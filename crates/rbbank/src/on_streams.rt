@@ -11,6 +11,7 @@ ghost use Rattle.rbbank.specs.Statuses.{IsAskedOfFiles, IsFitting};
 
 use rb_branch::NoGate;
 use rb_cli::{Record, Words, read_words};
+use rb_history::is_id;
 use rb_lines::{ScriptFault, Sink, Source};
 use rb_run_threads::run_threads;
 use rb_runs::{run_audit, run_histories, run_migrate, run_script};
@@ -31,13 +32,19 @@ pub enum Streamed<'a> {
     Migrate(Result<u64, ScriptFault>),
     /// Tellers ran.
     Threads(Result<(), ScriptFault>),
-    /// A site is to run over this file, or over a new one, which takes a disk as well. Nothing is done yet.
+    /// A site is to run over this file, or over a new one, which takes a disk as well. Nothing is done yet. If its bank
+    /// has a name, it is an id.
     SiteAsked {
         me: u8,
         journal: &'a str,
         is_new: bool,
         resend: Option<u32>,
         record: Record,
+        bank: Option<&'a str>,
+    },
+    /// A site was asked for, whose bank is to have this name, and that is none. Nothing is done.
+    BadBank {
+        name: &'a str,
     },
     /// This file is to be sealed, as the site's journal. Nothing is done yet.
     SealAsked {
@@ -102,14 +109,19 @@ pub fn run_on_streams<'a, H: Threads + Wait + Sync, S: Source, W: Sink>(
                 is_new,
                 resend,
                 record,
+                bank,
             },
-        ) => Ok(Streamed::SiteAsked {
-            me,
-            journal,
-            is_new,
-            resend,
-            record,
-        }),
+        ) => match bank {
+            Some(name) if !is_id(name) => Ok(Streamed::BadBank { name }),
+            _ => Ok(Streamed::SiteAsked {
+                me,
+                journal,
+                is_new,
+                resend,
+                record,
+                bank,
+            }),
+        },
         Ok(Words::Seal { me, journal }) => Ok(Streamed::SealAsked { me, journal }),
         Ok(
             Words::Close {

@@ -1,7 +1,7 @@
 -- Nothing more is written, but by closing the books.
 use Rattle.std.proofs.Common.{[], ap, refl}
 use Rattle.std.specs.Process.{exit_status}
-use Rattle.rbbank.proofs.Done.{appends_nothing, audit_done, histories_done, migration_done, script_done, seal_done, site_done, threads_done}
+use Rattle.rbbank.proofs.Done.{appends_nothing, audit_done, bad_bank_done, histories_done, migration_done, script_done, seal_done, site_done, threads_done}
 use Rattle.rbbank.proofs.end.Goals as goal
 
 pub returns-in-Script : goal.returns-in-Script
@@ -39,9 +39,17 @@ returns-in-SiteAsked g c =
     let met = c.in-SiteAsked in (
       [],
       appends_nothing _,
-      site_done _ _ _ _ _ _ met.me met.journal met.is_new met.resend met.record c.run_on_disk.result met.is
+      site_done _ _ _ _ _ _ met.me met.journal met.is_new met.resend met.record met.bank c.run_on_disk.result met.is
           c.of_site.ensures.done (ap exit_status c.of_site.ensures.code) c.run_on_disk.ensures.ran c.run_on_disk.ensures.status,
     )
+
+pub returns-in-BadBank : goal.returns-in-BadBank
+returns-in-BadBank g c = (
+  [],
+  appends_nothing _,
+  bad_bank_done _ _ _ _ _ _ c.in-BadBank.name c.in-BadBank.is c.without_files-in-BadBank.ensures refl
+      c.report_bank.ensures,
+)
 
 pub returns-in-SealAsked : goal.returns-in-SealAsked
 returns-in-SealAsked g c =

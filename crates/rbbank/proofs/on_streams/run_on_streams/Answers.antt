@@ -1,5 +1,5 @@
 -- The words are read as what was done.
-use Rattle.std.proofs.Common.{◌≤◌, Bor, List, [], map, refl, subst}
+use Rattle.std.proofs.Common.{◌≤◌, Bor, List, [], map, refl, sym, subst, ◌∙◌}
 use Rattle.std.proofs.lemmas.List.{length-map}
 use Rattle.rb_cli.specs.Words.{AreReadAs, IsAsUsual, IsInRange, as_asked}
 use Rattle.rb_cli.specs.declared.words.Words.{Words}
@@ -53,13 +53,21 @@ returns-in-Ok-Threads-clause-done g c =
     let run = Threads c.in-Ok-Threads.sites c.in-Ok-Threads.tellers c.in-Ok-Threads.seed in
     (run, asked.0, asked.1, ran.written.0, ran.written.1, (ran.written.2, refl))
 
-pub returns-in-Ok-Site-clause-done : goal.returns-in-Ok-Site-clause-done
-returns-in-Ok-Site-clause-done g c =
+pub returns-in-Some-clause-done : goal.returns-in-Some-clause-done
+returns-in-Some-clause-done g c =
     let words = map (λ word. word.now) c.args.words.now in
     let met = c.in-Ok-Site in
     let asked = subst (AreAsked words) met.field-0-is (met.ensures.ok, met.ensures.usual) in
-    let run = Site met.me met.journal met.is_new met.resend met.record in
-    (run, asked.0, asked.1, [], appends_nothing _, (refl, refl, refl, refl, refl, refl, refl))
+    let run = Site met.me met.journal met.is_new met.resend met.record met.bank in
+    (run, asked.0, asked.1, [], appends_nothing _, (c.in-Some.is, sym c.is_id.ensures ∙ c.if-not-is_id.true, refl, refl))
+
+pub returns-in_default-clause-done : goal.returns-in_default-clause-done
+returns-in_default-clause-done g c =
+    let words = map (λ word. word.now) c.args.words.now in
+    let met = c.in-Ok-Site in
+    let asked = subst (AreAsked words) met.field-0-is (met.ensures.ok, met.ensures.usual) in
+    let run = Site met.me met.journal met.is_new met.resend met.record met.bank in
+    (run, asked.0, asked.1, [], appends_nothing _, (refl, refl, refl, refl, refl, refl, refl, refl))
 
 pub returns-in-Ok-Seal-clause-done : goal.returns-in-Ok-Seal-clause-done
 returns-in-Ok-Seal-clause-done g c =
