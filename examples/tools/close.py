@@ -6,9 +6,10 @@ A folder contains a bank's periods. The first line of period 1 is in 0001.bank, 
 
     close.py FOLDER --account zed --sites 4
 
-starts the sites of the last period, gives each what it lacks of what the others sent, and ends them. It seals their
-journals, asks `rbbank close`, and keeps the line as 0002.bank. The added accounts start with 0. If the books can't be
-closed, nothing is sealed, and what `rbbank close` says is printed: it is asked about sealed copies first.
+starts the sites of the last period, whose bank's name is 0001, gives each what it lacks of what the others sent, and
+ends them. It seals their journals, asks `rbbank close`, and keeps the line as 0002.bank. The next sites are started
+with --bank 0002, so that they refuse what comes late of the closed bank. The added accounts start with 0. If the books
+can't be closed, nothing is sealed, and what `rbbank close` says is printed: it is asked about sealed copies first.
 
 Whenever it is ended, it can be run again. The next period's files may not be there yet. The status is 0 if the books
 are closed, that of `rbbank close` if it says why they aren't, and else 1.
@@ -116,12 +117,12 @@ def carry(sites: list[Site]) -> None:
         last *= 10
 
 
-def made_equal(program: str, found: list[Journal]) -> None:
-    """Starts the sites on their journals, carries what each lacks, and ends them."""
+def made_equal(program: str, name: str, found: list[Journal]) -> None:
+    """Starts the sites of the bank of this name on their journals, carries what each lacks, and ends them."""
     sites: list[Site] = []
     try:
         for number, journal in enumerate(found):
-            sites.append(Site(program, number, journal.path, journal.first))
+            sites.append(Site(program, number, journal.path, journal.first, "--bank", name))
         carry(sites)
         for site in sites:
             sys.stderr.write(site.end())
@@ -162,7 +163,7 @@ def close(program: str, words: list[str], period: Period) -> Closing:
     """Closes the books of a period, whose sites don't run. The answer is what `rbbank close` says."""
     found = journals_of(period)
     if not any(journal.is_sealed for journal in found):
-        made_equal(program, found)
+        made_equal(program, period.name, found)
         found = journals_of(period)
     answer = of_copies(program, words, found)
     if answer.status != 0:
@@ -190,7 +191,7 @@ def said(closed: Period, period: Period, line: str) -> str:
     names = ", ".join(os.path.basename(period.journal(site)) for site in range(sites))
     return (f"{closed.name} is closed, with {cents} cents. {period.name}.bank is the next bank's first line: "
             f"{len(config['accounts'])} accounts, {sites} sites.\n"
-            f"Its journals are {names}.")
+            f"Its journals are {names}; start its sites with --bank {period.name}.")
 
 
 def main() -> int:
