@@ -74,6 +74,7 @@ examples: build
 	@tests/cases.py crates/rbbank/out/rbbank
 	@examples/tools/from_help.py --check crates/rbbank/out/rbbank
 	@tests/sites.py crates/rbbank/out/rbbank
+	@tests/banks.py crates/rbbank/out/rbbank
 	@tests/closings.py crates/rbbank/out/rbbank
 	@tests/older.py crates/rbbank/out/rbbank
 	@tests/tools.py crates/rbbank/out/rbbank
@@ -99,6 +100,7 @@ test: toolchain
 	@tests/cases.py --quiet crates/rbbank/out/rbbank
 	@examples/tools/from_help.py --check crates/rbbank/out/rbbank
 	@tests/sites.py --quiet crates/rbbank/out/rbbank
+	@tests/banks.py --quiet crates/rbbank/out/rbbank
 	@tests/closings.py --quiet crates/rbbank/out/rbbank
 	@tests/older.py --quiet crates/rbbank/out/rbbank
 	@tests/tools.py --quiet crates/rbbank/out/rbbank

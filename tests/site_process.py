@@ -28,11 +28,12 @@ def has_word_for_new(program):
     return b"--new" in subprocess.run([program, "site", "--help"], capture_output=True).stdout
 
 
-def words_of_start(program, me, journal, resend=None, record=None):
-    """The words that start a site on a journal, which may not be there yet."""
+def words_of_start(program, me, journal, resend=None, record=None, bank=None):
+    """The words that start a site on a journal, which may not be there yet. Its bank may have a name."""
     words = [program, "site", "--me", str(me), "--journal", journal]
     words += [] if resend is None else ["--resend", str(resend)]
     words += [] if record is None else ["--record", record]
+    words += [] if bank is None else ["--bank", bank]
     return words + (["--new"] if not os.path.exists(journal) and has_word_for_new(program) else [])
 
 
@@ -80,6 +81,16 @@ def names_of(reply):
     return [reply["applied"]] if "applied" in reply else reply.get("names", [])
 
 
+def is_of(bank, event):
+    """Whether an event is of the bank of this name: one that has no name is, unless it is a message."""
+    return event.get("bank", None if "shadow" in event or "token" in event else bank) == bank
+
+
+def without_bank(event):
+    """An event as an entry has it, without its bank's name."""
+    return {key: value for key, value in event.items() if key != "bank"}
+
+
 def is_recorded(event, reply):
     """Whether an event of this reply changed the site, so that it is an entry: a refusal is, of what was held alone."""
     if "refused" in reply:
@@ -88,8 +99,8 @@ def is_recorded(event, reply):
 
 
 def entry(event, reply, number):
-    """The line of an entry of a site. It has the id of a request that was made."""
-    event = dict(event)
+    """The line of an entry of a site. It has the id of a request that was made, and no bank's name."""
+    event = without_bank(event)
     asked = event.pop("id", None)
     made = {"id": asked} if asked is not None and "refused" not in reply else {}
     return compact({"event": event, "reply": reply, "site": number} | made)
@@ -122,7 +133,7 @@ class Site:
             if limit is not None:
                 signal.signal(signal.SIGXFSZ, signal.SIG_IGN if ignored else signal.SIG_DFL)
                 resource.setrlimit(resource.RLIMIT_FSIZE, (limit, limit))
-        words = words_of_start(self.bank.program, self.number, self.journal, resend)
+        words = words_of_start(self.bank.program, self.number, self.journal, resend, bank=self.bank.name)
         self.process = subprocess.Popen(words, stdin=subprocess.PIPE, stdout=subprocess.PIPE, stderr=subprocess.PIPE,
                                         bufsize=0, preexec_fn=bounds, restore_signals=not ignored)
         self.limit = limit
@@ -161,16 +172,20 @@ class Site:
                 raise Failed(f"site {self.number} wrote {line[:200]!r}, and has to send {self.again[:1]} again")
 
     def sends(self, messages, names):
-        """Messages of these names go out. One that is sent again is what it was."""
+        """Messages of these names go out, each with the bank's name. One that is sent again is what it was."""
         if [name_of(message) for message in messages] != names:
             raise Failed(f"site {self.number} sent {compact(messages)[:200]} and not {names}")
         for name, message in zip(names, messages):
+            if message.get("bank") != self.bank.name:
+                raise Failed(f"site {self.number} sent a message without its bank's name: {compact(message)[:200]}")
             if self.sent.setdefault(name, message) != message:
                 raise Failed(f"site {self.number} sent two messages of one name: {compact(message)}")
         self.bank.route(self.number, messages)
 
     def answered(self, answer, event):
         """An answer to an event: its entry, if it has one, and those of the applications have to be there."""
+        if not is_of(self.bank.name, event):
+            return self.refused(answer, event)
         reply, asked = answer["reply"], event.get("id")
         if answer.get("id") != asked:
             raise Failed(f"site {self.number} answered {compact(event)} by {compact(answer)[:200]}")
@@ -192,6 +207,15 @@ class Site:
         self.bank.count["events"] += 1
         self.bank.clients.hear(self.number, reply)
         self.sends(answer["sends"], sent_by(reply))
+        return None
+
+    def refused(self, answer, event):
+        """The answer to another bank's event: refusal 26 alone, and nothing is recorded."""
+        if answer != {"reply": {"refused": 26}, "sends": [], "then": []}:
+            text = compact(answer)[:200]
+            raise Failed(f"site {self.number} answered {compact(event)[:200]} of another bank by {text}")
+        self.replies.append(answer["reply"])
+        self.bank.count["other banks"] += 1
 
     def answered_again(self, answer, asked):
         """A request of this id was made before. Its reply is the first one, if that is known."""
@@ -233,7 +257,7 @@ class Site:
         self.process.stdout.close()
         self.process.stderr.close()
         self.process = None
-        self.unanswered += [event for event in map(json.loads, self.asked) if "id" in event]
+        self.unanswered += [event for event in self.left() if "id" in event]
         errors = without_notes(errors)
         known = [(0, ""), (-signal.SIGKILL, "")]
         if self.limit is not None:
@@ -245,6 +269,10 @@ class Site:
         if self.buffered and status in (0, 3):
             raise Failed(f"site {self.number} wrote a line in part: {self.buffered[:200]!r}")
         return status, self.look()
+
+    def left(self):
+        """The events of its bank that have no answer."""
+        return [event for event in map(json.loads, self.asked) if is_of(self.bank.name, event)]
 
     def look(self):
         """Whether the journal is at rest. It has to have what it had, what was answered, and a part of what wasn't."""
@@ -266,8 +294,8 @@ class Site:
 
     def look_behind(self, lines):
         """What is behind the answered events has to be of a first part of the others, in their order, with what was
-        applied after each."""
-        waiting = map(json.loads, self.asked)
+        applied after each. Another bank's event has no entry."""
+        waiting = iter(self.left())
         for line in lines:
             found = json.loads(line)
             if "applied" in found["reply"]:

@@ -70,12 +70,12 @@ class Sites:
     def __init__(self, program):
         self.program = os.path.abspath(program)
 
-    def words(self, journal, me=0, resend=None, new=None, record="all"):
+    def words(self, journal, me=0, resend=None, new=None, record="all", bank=None):
         """The words of a site. A new journal is asked for where none is there, unless `new` says otherwise. All events
-        are recorded, unless `record` says otherwise: so each line shows in the journal."""
+        are recorded, unless `record` says otherwise: so each line shows in the journal. Its bank may have a name."""
         new = not os.path.exists(journal) if new is None else new
         more = (["--new"] if new else []) + ([] if resend is None else ["--resend", str(resend)])
-        more += [] if record is None else ["--record", record]
+        more += ([] if record is None else ["--record", record]) + ([] if bank is None else [f"--bank={bank}"])
         return [self.program, "site", "--me", str(me), "--journal", journal, *more]
 
     def run(self, given, before=None, limit=None, signals=True, output=subprocess.PIPE, **words):
