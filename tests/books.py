@@ -11,7 +11,7 @@ import sys
 import time
 from typing import TYPE_CHECKING, Any
 
-from site_process import Failed, Site, compact, read, whole_lines, without_notes
+from site_process import Failed, Site, compact, read, whole_lines, without_bank, without_notes
 
 if TYPE_CHECKING:
     from crash import Bank
@@ -79,7 +79,7 @@ def look_at_sealed(bank: Bank, site: Site) -> None:
     config, *found = lines.decode().split("\n")[:-1]
     if data != lines + b"\t" or config != bank.written or found[:len(site.entries)] != site.entries:
         raise Failed(f"{site.journal} isn't sealed, or lost something")
-    sent = [message for other in bank.all for message in other.sent.values()]
+    sent = [without_bank(message) for other in bank.all for message in other.sent.values()]
     for line in map(json.loads, found[len(site.entries):]):
         if line["event"] not in sent and "apply" not in line["event"]:
             raise Failed(f"{site.journal} has what was never sent: {compact(line)}")

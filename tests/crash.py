@@ -3,11 +3,12 @@
 
 Three to five sites run as processes over pipes. Between them a router delays, reorders, repeats and loses messages;
 clients ask for everything, each request by an id of its own, and ask it again at the same site until it is answered, at
-times once more. Processes are ended by SIGKILL at random moments, also while they start, and by a limit on the file's
-size in the middle of a write, and are started again on their journals. After each end the journal has to be what it was
-before, then the entry of each event that was answered and changed the site, with that very answer, and then those of a
-first part of the events that were given and not answered. What a site sends again as it starts has to be what its
-journal says it sent.
+times once more. Each period's sites have its name (`--bank 0001`): late messages of the closed bank, messages without a
+name and requests of the closed bank come too. Each has to be answered by refusal 26, and to leave no entry. Processes
+are ended by SIGKILL at random moments, also while they start, and by a limit on the file's size in the middle of a
+write, and are started again on their journals. After each end the journal has to be what it was before, then the entry
+of each event that was answered and changed the site, with that very answer, and then those of a first part of the
+events that were given and not answered. What a site sends again as it starts has to be what its journal says it sent.
 A bank lasts for some periods. Between two of them its books are closed by examples/tools/close.py, which is ended at
 random moments too, and an account and a site are added (books.py). At the end all messages are sent again and
 delivered. Then, and whenever books were closed, all sites have the same operations, an audit orders the journals, each
@@ -32,7 +33,7 @@ from collections import Counter
 
 import books
 import lost_disk
-from site_process import Failed, Site, compact, name_of, names_of, read
+from site_process import Failed, Site, compact, name_of, names_of, read, without_bank
 
 LOST, REPEATED = 0.05, 0.1  # of the messages, how many the router loses, and how many it delivers once more
 LONGEST = 300  # messages on their way to a site, beyond which the router loses them
@@ -40,6 +41,8 @@ MOST_BYTES = 40_000  # of the lines that are given at once, so that a pipe takes
 LIMITED = 0.15  # of the starts, how many have a limit on the file's size
 AT_THE_START = 0.1  # of the ends, how many come while a site starts
 ONCE_MORE = 0.03  # of the events of clients, how many are requests that were answered before
+LATE = 0.04  # of the events, how many are of another bank
+NAMED = 0.5  # of the events of clients, how many have the bank's name
 LIMITS = {"blue": 10**6, "epoch": 4 * 10**9, "history": 10**8, "inbox": 4096, "red": 10**6}
 STARTS = 1000  # cents of each account of the first period
 ACCOUNTS = ("ann", "bob", "eve")
@@ -140,8 +143,9 @@ def first_config(asked, pick):
 class Bank:
     """The sites of one period, the messages on their way, and what happened."""
 
-    def __init__(self, program, folder, pick, config, period):
+    def __init__(self, program, folder, pick, config, period, closed=()):
         self.program, self.folder, self.pick, self.period = program, folder, pick, period
+        self.name, self.closed = f"{period:04}", closed  # the messages of the bank before it
         self.sites = config["sites"]
         self.written = compact(config)
         self.config = compact({key: value for key, value in config.items() if LIMITS.get(key) != value})
@@ -152,7 +156,7 @@ class Bank:
 
     def file(self, what):
         """The path of a file of this period."""
-        return os.path.join(self.folder, f"{self.period:04}.{what}")
+        return os.path.join(self.folder, f"{self.name}.{what}")
 
     def route(self, sender, messages):
         """Puts messages on their way. Some are lost."""
@@ -173,13 +177,32 @@ class Bank:
         return wire.pop()
 
     def event(self, site):
-        """An event of the router; or of a client, which asks first what got no answer."""
+        """An event of the router; or of a client, which asks first what got no answer; or of another bank."""
+        if self.pick.random() < LATE:
+            return self.late(site)
         wire = self.wires[site.number]
         if wire and self.pick.random() < (0.5 if len(wire) < 60 else 0.95):
             return self.arrives(wire)
         if site.unanswered and self.pick.random() < 0.5:
             return site.unanswered.pop(0)
-        return self.clients.event(site.number)
+        event = self.clients.event(site.number)
+        return event | {"bank": self.name} if self.pick.random() < NAMED else event
+
+    def late(self, site):
+        """A message of the closed bank, or a message without a name; or a request of the closed bank, which may have an
+        id that a request of this one has."""
+        sent = list(site.sent.values())
+        kind = self.pick.randrange(3)
+        if kind == 0 and self.closed:
+            return self.pick.choice(self.closed)
+        if kind == 1 and sent:
+            return without_bank(self.pick.choice(sent))
+        asked = {"bank": f"{self.period - 1:04}", "id": f"c-{1 + self.pick.randrange(self.clients.count + 1)}"}
+        return self.clients.request(site.number) | asked
+
+    def sent(self):
+        """All messages that its sites sent."""
+        return [message for site in self.all for message in site.sent.values()]
 
     def events(self, site):
         """One event, some, or many, that are given to a site at once: of clients and of the router."""
@@ -326,9 +349,9 @@ def shares(kills, periods):
 def run(asked, folder):
     """A whole run, period by period. What happened in each, in lines."""
     pick = random.Random(asked.seed)
-    config, moved = first_config(asked, pick), 0
+    config, moved, closed = first_config(asked, pick), 0, []
     for period, kills in enumerate(shares(asked.kills, asked.periods), 1):
-        bank = Bank(os.path.abspath(asked.program), folder, pick, config, period)
+        bank = Bank(os.path.abspath(asked.program), folder, pick, config, period, closed)
         try:
             while bank.count["kills"] < kills:
                 bank.turn()
@@ -339,6 +362,7 @@ def run(asked, folder):
                 bank.compare()
             bank.once()
             yield happened(bank, bank.applied(), bank.audit())
+            closed = bank.sent()
             moved += sum(bank.clients.balances().values()) - sum(bank.clients.starts.values())
             if period == asked.periods:
                 yield lost_disk.lose(bank)
@@ -357,7 +381,8 @@ def happened(bank, operations, entries):
     return (f"  period {bank.period}: {bank.sites} sites, {count['events']:,} events answered, {count['kills']} kills "
             f"({count['in a write']} in a write, {count['closing']} while books were closed), {count['torn']} torn "
             f"ends,\n  {count['unreported']:,} entries recorded and not reported, {count['again']:,} requests answered "
-            f"again, {count['lost']:,} messages lost, {count['repeats']:,} repeats.\n"
+            f"again, {count['lost']:,} messages lost, {count['repeats']:,} repeats, {count['other banks']:,} lines of "
+            f"other banks.\n"
             f"  All sites have {cents} after {operations:,} operations; the audit orders {entries:,} entries.")
 
 
