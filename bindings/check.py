@@ -129,12 +129,15 @@ NEEDS = {"C": "C compiler", "Rust": "cargo", "Python": "Python"}
 
 
 def fault_of(text):
-    """A line on standard error, whose kind of bad line the library's caller doesn't know."""
+    """A line on standard error, whose kind of bad line the library's caller doesn't know. What a crash left behind the
+    last line is kept by the program alone, which says so."""
+    text = re.sub(rb"(?m)^rbbank: journal line .* cut off, kept in .*\n", b"", text)
     return re.sub(rb"(?m)^(rbbank: line \d+): .*$", rb"\1", text)
 
 
 def row(rows, path, word):
-    """Whether an example is answered as it is stored, and its journal is what it has to be."""
+    """Whether an example is answered as it is stored, and its journal is what it has to be. A site of the library
+    records all events; by default one of the program doesn't, so then only its answers are compared."""
     stem = path.removesuffix(".jsonl")
     before = stored(stem + ".before", None)
     with tempfile.TemporaryDirectory() as folder:
@@ -144,15 +147,17 @@ def row(rows, path, word):
                 file.write(before)
         more = [*stored(stem + ".words").decode().split(), "--journal", journal] if word == "site" else []
         found = run([*rows, word, *more], stored(path))
-        after = stored(journal, None)
+        after = stored(journal, None) if "--record" in more else None
     wanted = stored(stem + ".expected"), fault_of(stored(stem + ".fault")), int(stored(stem + ".status", b"0"))
-    return found == wanted and after == stored(stem + ".journal", after)
+    return found == wanted and (after is None or after == stored(stem + ".journal", after))
 
 
 def same_rows(name, rows):
     """Each example through the rows of a language."""
     for path in sorted(glob.glob(os.path.join(EXAMPLES, "*", "*.jsonl")), key=os.path.basename):
         kind = WORDS.get(path.removesuffix(".jsonl").rpartition(".")[2], "script")
+        if b"--bank" in stored(path.removesuffix(".jsonl") + ".words", b""):
+            continue  # a bank of the library has no name
         for word in ["script", "bank"] if kind == "script" else [kind]:
             yield f"{name}, {word}: {os.path.basename(path)}", row(rows, path, word)
 
@@ -208,10 +213,12 @@ class Program:
             return run([self.path, "script"], b"".join(line + b"\n" for line in [odd_lines.CONFIG[:-1], *lines]))
         with tempfile.TemporaryDirectory() as folder:
             words = [self.path, "site", "--me", "0", "--journal", os.path.join(folder, "journal"), "--new"]
+            words += ["--record", "all"]
             return run(words, b"".join(line + b"\n" for line in [odd_lines.CONFIG[:-1], *lines]))
 
     def is_bad(self, form, line):
-        return self.answer(form, [line]) == (b"", b"rbbank: line 2: bad line\n", 2)
+        stops, goes_on = (b"", b"rbbank: line 2: bad line\n", 2), (b'{"bad":"line","line":2}\n', b"", 0)
+        return self.answer(form, [line]) == (stops if form == "odd" else goes_on)
 
 
 def odd(program, form):

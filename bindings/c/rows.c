@@ -1,7 +1,7 @@
 /* The commands of the program over the library, for check.py: what each writes has to be what the program writes.
  *
  * usage: rows script|audit|migrate|bank|odd < LINES
- *        rows site --me S --journal FILE [--new] [--resend N] < LINES
+ *        rows site --me S --journal FILE [--new] [--resend N] [--record all] < LINES
  *        rows close [--sites N] [--account NAME].. JOURNAL..
  *        rows odd-site --me S < LINES
  *        rows calls COUNT < TWO LINES
@@ -253,19 +253,18 @@ static int site(struct text all, unsigned me, const char *path, int is_new, long
         return 3;
     fwrite(kept.bytes, 1, kept.length, journal);
     free(kept.bytes);
-    while (status == RBBANK_OK && next_line(all, &line)) {
+    while ((status == RBBANK_OK || status == RBBANK_BAD_LINE) && next_line(all, &line)) {
         status = rbbank_site_answer(&site, line.text.bytes, line.text.length);
         if (status == RBBANK_OK) {
             keep_entries(&site, journal);
             print_site(&site);
-        }
+        } else if (status == RBBANK_BAD_LINE)
+            printf("{\"bad\":\"line\",\"line\":%zu}\n", line.number);
     }
     fwrite(" ", 1, 1, journal);
     fclose(journal);
     rbbank_site_close(&site);
-    if (status == RBBANK_BAD_LINE)
-        stop("line", line.number, "");
-    return status;
+    return status == RBBANK_BAD_LINE ? 0 : status;
 }
 
 /* A site that goes on after a bad line, with no journal. */

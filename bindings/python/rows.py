@@ -2,7 +2,7 @@
 """The commands of the program over the Python module, for check.py: what each writes has to be what the program writes.
 
 usage: rows.py script|audit|migrate|bank < LINES
-       rows.py site --me S --journal FILE [--new] [--resend N] < LINES
+       rows.py site --me S --journal FILE [--new] [--resend N] [--record all] < LINES
        rows.py close [--sites N] [--account NAME].. JOURNAL..
        rows.py calls COUNT < TWO LINES
 
@@ -104,6 +104,17 @@ def replay(site, journal, config, resend):
     return before or config
 
 
+def answered(at, number, line, journal):
+    """The answer to a line, whose entries are in the journal before. A site goes on after a bad line."""
+    try:
+        answer = at.answer(line)
+    except rbbank.BadLine:
+        return f'{{"bad":"line","line":{number}}}'
+    journal.write(at.entries())
+    journal.flush()
+    return answer
+
+
 def site(words, data):
     """A site with its journal, which is written before the answer is."""
     asked = argparse.ArgumentParser()
@@ -111,6 +122,7 @@ def site(words, data):
     asked.add_argument("--journal")
     asked.add_argument("--new", action="store_true")
     asked.add_argument("--resend", type=int)
+    asked.add_argument("--record", choices=["all"])
     given = asked.parse_args(words)
     lines = lines_of(data)
     number, config = first(lines)
@@ -127,14 +139,9 @@ def site(words, data):
             kept = replay(at, before, at.entries(), given.resend)
             with open(given.journal, "wb") as journal:
                 journal.write(kept)
-                try:
-                    for number, line in lines[1:]:
-                        answer = at.answer(line)
-                        journal.write(at.entries())
-                        journal.flush()
-                        write(answer + "\n")
-                finally:
-                    journal.write(b" ")
+                for number, line in lines[1:]:
+                    write(answered(at, number, line, journal) + "\n")
+                journal.write(b" ")
     except rbbank.NoSuchSite:
         raise Stop("no such site") from None
     except rbbank.BadLine:

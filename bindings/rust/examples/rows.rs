@@ -2,7 +2,7 @@
 //! writes.
 //!
 //! usage: rows script|audit|migrate|bank < LINES
-//!        rows site --me S --journal FILE [--new] [--resend N] < LINES
+//!        rows site --me S --journal FILE [--new] [--resend N] [--record all] < LINES
 //!        rows close [--sites N] [--account NAME].. JOURNAL..
 //!        rows calls COUNT < TWO LINES
 //!
@@ -163,17 +163,17 @@ fn site(words: &[String], input: &str) -> Result<(), Stop> {
             .expect("the journal takes it")
     };
     keep(&kept);
-    let mut end = Ok(());
     for (number, line) in lines {
-        let Ok(answer) = site.answer(line).map(str::to_owned) else {
-            end = stop(format!("line {number}"));
-            break;
-        };
-        keep(site.entries());
-        write(&format!("{answer}\n"));
+        match site.answer(line).map(str::to_owned) {
+            Ok(answer) => {
+                keep(site.entries());
+                write(&format!("{answer}\n"));
+            }
+            Err(_) => write(&format!("{{\"bad\":\"line\",\"line\":{number}}}\n")),
+        }
     }
     keep(" ");
-    end
+    Ok(())
 }
 
 /// A fault with the journal's file in place of its number.
