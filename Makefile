@@ -59,6 +59,8 @@ play-test:
 	@test -x crates/rbbank/out/rbbank || { echo 'there is no program yet: make build'; exit 1; }
 	@$(PYTHON) play/browse.py crates/rbbank/out/rbbank
 	@$(PYTHON) play/mutants.py crates/rbbank/out/rbbank
+	@if command -v eslint > /dev/null; then eslint play/page/*.js; \
+		else echo 'no eslint on PATH (Debian: apt-get install eslint): its rules were not checked'; fi
 
 # The program, and the manual page and completions that are made from its help, below PREFIX.
 PREFIX ?= /usr/local

@@ -51,12 +51,12 @@ export const act = (find) => queue(async () => {
   if (world.error) return say(world.words.join('\n'));
   keep();
   if (S.current < S.commands.length) forgetMessages(fold().sent.length);
-  S.world = world;
+  Object.assign(S, {world});
   const more = S.isAuto ? applications(world.steps.length) : [];
-  if (more.length) S.world = await post('/world', script(S.config, commands = [...commands, ...more]));
+  if (more.length) Object.assign(S, {world: await post('/world', script(S.config, commands = [...commands, ...more]))});
   Object.assign(S, {commands, current: S.world.steps.length, note: null, next: null, isLive: true});
   changed(true);
-  S.isLive = false;
+  Object.assign(S, {isLive: false});
   return undefined;
 });
 export async function restore(snap) {
@@ -126,7 +126,7 @@ export const crash = (at) => queue(async () => {
       sites.forEach((site, to) => S.again.set(`${to}:${index + 1}`, site.came[index + 1] || 0));
   });
   if (isSame) S.done.add('crash');
-  S.next = null;
+  Object.assign(S, {next: null});
   const mine = sent.filter((message) => S.world.steps[message.step].site === at).map((message) => message.what);
   return say([`Site ${at} was ended, and started from its journal of ${found.entries} entries.`,
     isSame ? 'It has the balances that it had.' : 'ITS BALANCES ARE OTHERS than before.',
@@ -138,7 +138,7 @@ export const closeBooks = () => queue(async () => {
   if (S.text !== null) return say('Histories are only drawn here. Undo, or open a script, to go on.');
   const found = await post('/close', scriptSoFar());
   S.done.add(found.fault === 'open' ? 'open' : found.fault || 'closed');
-  S.next = found.fault ? null : found;
+  Object.assign(S, {next: found.fault ? null : found});
   const lacks = (found.lacks || []).map((names, site) => names.length ? `site ${site} lacks ${names.join(', ')}` : '');
   return say([JSON.stringify(found), found.fault === 'open' ? `Not at rest: ${lacks.filter(Boolean).join('; ')}.`
     : found.fault ? 'The books can’t be closed.'
