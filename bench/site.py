@@ -27,6 +27,7 @@ KINDS = {
     "deposit": lambda n: '{"deposit":["a0",5]}\n',
     "deposit-by-id": lambda n: f'{{"deposit":["a0",5],"id":"order-{n:07}"}}\n',
     "receive": lambda n: RECEIVED.format(before=n - 1, n=n),
+    "receive-of-a-bank": lambda n: '{"bank":"0001",' + RECEIVED.format(before=n - 1, n=n)[1:],
 }
 # How many lines a client gives at once before it waits for their answers, and how many in all. None: all at once.
 READS = [(1, 2_000), (64, 50_000), (1_000, 100_000), (None, 200_000)]
@@ -42,6 +43,8 @@ def script(kind, count):
     """The lines of a script that has the same done at site 0. What is received has to be made first, at site 1."""
     if kind == "deposit-by-id":
         return script("deposit", count)
+    if kind == "receive-of-a-bank":
+        return script("receive", count)
     if kind != "receive":
         return [line.replace("}\n", ',"site":0}\n') for line in events(kind, count)]
     comes = [f'{{"deliver":{n},"site":0}}\n{{"apply":"B1.{n}","site":0}}\n' for n in range(1, count + 1)]
@@ -52,14 +55,15 @@ def made(count):
     return ['{"deposit":["a0",5],"site":1}\n'] * count
 
 
-def words(program, journal):
+def words(program, journal, kind):
     new = [] if os.path.exists(journal) else ["--new"]
-    return [program, "site", "--me", "0", "--journal", journal, *new, "--resend", "0"]
+    named = ["--bank", "0001"] if kind.endswith("-of-a-bank") else []
+    return [program, "site", "--me", "0", "--journal", journal, *new, *named, "--resend", "0"]
 
 
-def by_turns(program, journal, lines, at_once):
+def by_turns(command, lines, at_once):
     """Seconds that a client takes that gives this number of lines at once, and then waits for their answers."""
-    site = subprocess.Popen(words(program, journal), stdin=subprocess.PIPE, stdout=subprocess.PIPE, bufsize=0)
+    site = subprocess.Popen(command, stdin=subprocess.PIPE, stdout=subprocess.PIPE, bufsize=0)
     parts = ["".join(lines[n:n + at_once]).encode() for n in range(0, len(lines), at_once)]
     site.stdin.write(BANK.encode() + parts[0])
     wait_for(site, parts[0])
@@ -88,15 +92,15 @@ def ended(process):
         raise SystemExit(f"{' '.join(process.args)}: status {process.returncode}")
 
 
-def at_once(program, journal, lines, folder):
+def at_once(program, kind, lines, folder):
     """Seconds an event of a site that reads a file of these lines, less those of a site that reads none."""
-    return (from_file(program, journal, lines, folder) - from_file(program, journal + "-none", [], folder)) / len(lines)
+    some, none = (words(program, os.path.join(folder, name), kind) for name in ("some", "none"))
+    return (from_file(some, lines, folder) - from_file(none, [], folder)) / len(lines)
 
 
-def from_file(program, journal, lines, folder):
+def from_file(command, lines, folder):
     """Seconds of a site that reads a file."""
-    path = written(folder, [BANK, *lines])
-    return seconds(words(program, journal), path)
+    return seconds(command, written(folder, [BANK, *lines]))
 
 
 def written(folder, lines):
@@ -120,11 +124,10 @@ def rate(program, place, kind, lines_a_read, count, runs):
     best, lines = None, events(kind, count)
     for _ in range(runs):
         with tempfile.TemporaryDirectory(dir=place) as folder:
-            journal = os.path.join(folder, "journal")
             if lines_a_read is None:
-                taken = at_once(program, journal, lines, folder)
+                taken = at_once(program, kind, lines, folder)
             else:
-                taken = by_turns(program, journal, lines, lines_a_read)
+                taken = by_turns(words(program, os.path.join(folder, "journal"), kind), lines, lines_a_read)
             best = taken if best is None else min(best, taken)
     return 1 / best
 
@@ -135,7 +138,7 @@ def entry_bytes(program, kind):
         sizes = []
         for count in (1_000, 2_000):
             journal = os.path.join(folder, f"journal{count}")
-            from_file(program, journal, events(kind, count), folder)
+            from_file(words(program, journal, kind), events(kind, count), folder)
             sizes.append(os.path.getsize(journal))
         return (sizes[1] - sizes[0]) / 1_000
 
@@ -145,7 +148,7 @@ def site_instructions(program, kind, folder):
     counts = []
     for name, lines in [("some", events(kind, COUNTED)), ("none", [])]:
         path, journal = written(folder, [BANK, *lines]), os.path.join(folder, f"{kind}-{name}")
-        counts.append(measure.instructions(program, "site", path, *words(program, journal)[2:]))
+        counts.append(measure.instructions(program, "site", path, *words(program, journal, kind)[2:]))
     return None if None in counts else (counts[0] - counts[1]) / COUNTED
 
 
@@ -189,10 +192,10 @@ def restarts(asked):
     for kind in ("deposit", "deposit-by-id"):
         with tempfile.TemporaryDirectory(dir=asked.memory) as folder:
             journal = os.path.join(folder, "journal")
-            from_file(asked.program, journal, events(kind, asked.entries), folder)
+            from_file(words(asked.program, journal, kind), events(kind, asked.entries), folder)
             nothing = written(folder, [BANK])
             # By turns, so that other work on the machine meets all of them.
-            start = words(asked.program, journal)
+            start = words(asked.program, journal, kind)
             runs = [(start, nothing), (start[:-2], nothing), ([asked.program, "audit"], journal)]
             rounds = [[seconds(*each) for each in runs] for _ in range(asked.runs)]
             best = [min(each) for each in zip(*rounds)]
@@ -212,7 +215,7 @@ def memory(asked):
     for kind in ("deposit", "deposit-by-id"):
         with tempfile.TemporaryDirectory(dir=asked.memory) as folder:
             path = written(folder, [BANK, *events(kind, count)])
-            taken.append(most_memory(words(asked.program, os.path.join(folder, "journal")), path) / count)
+            taken.append(most_memory(words(asked.program, os.path.join(folder, "journal"), kind), path) / count)
     yield [f"{count:,}", f"{taken[0]:.0f}", f"{taken[1]:.0f}", f"{taken[1] - taken[0]:.0f}"]
 
 
