@@ -5,8 +5,8 @@ help:
 	@echo 'At once:'
 	@echo '  make demo          the stored run, drawn, each command beside its reply; a minute'
 	@echo '  make try FILE=examples/scripts/stale_token.jsonl'
-	@echo '                     a script, histories or a migration (NAME.migration.jsonl), run with no proof; it builds'
-	@echo '                     for a minute each time'
+	@echo '                     a script, histories or a migration (NAME.migration.jsonl), by the built program; if none'
+	@echo '                     is built from these sources, with no proof, and it builds for a minute each time'
 	@echo
 	@echo 'With time (on four processors; on two it takes about twice as long):'
 	@echo '  make build         proves and builds the program; less than an hour the first time'
@@ -37,7 +37,7 @@ help:
 demo:
 	@examples/tools/demo.py --draw
 
-# A file through the sources as they are, with no proof.
+# A file through the program that is built from the sources as they are, else through the sources with no proof.
 try:
 	@test -n "$(FILE)" || { echo 'usage: make try FILE=examples/scripts/stale_token.jsonl'; exit 2; }
 	@examples/tools/bank.py --try "$(FILE)"
