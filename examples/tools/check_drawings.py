@@ -108,6 +108,9 @@ def words(program):
     yield "draw.py --color", status == 0 and "\x1b[31m●" in out
     out, err, status = run_of(program, ["explain.py", path, *asked, "--as", "audit"])
     yield "explain.py --as audit", status == 2 and "this is a command, and a history has entries" in out
+    config = bank.read(path).split(b"\n")[0] + b"\n"
+    out, err, status = run_of(program, ["explain.py", "-", *asked], config)
+    yield "explain.py of a configuration alone", (err, status) == ("", 0) and out.endswith("No command.\n")
     changed = bank.example("changed_reply.histories.jsonl")
     out, err, status = run_of(program, ["demo.py", changed, *asked, "--draw"])
     yield "demo.py of histories", status == 1 and "The replies are those that are stored." in out

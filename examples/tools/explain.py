@@ -69,7 +69,9 @@ def asked(found, step):
     if step.verb in words:
         return words[step.verb].format(event[step.verb])
     if step.verb == "asof":
-        return "the balance of {} after the first {} operations".format(*event["asof"])
+        account, count = event["asof"]
+        when = {0: "before the first operation", 1: "after the first operation"}
+        return f"the balance of {account} {when.get(count, f'after the first {count} operations')}"
     return request(event)
 
 
@@ -112,6 +114,12 @@ def of_script(found, data):
         yield f"line {step.line:>{wide}}  {of_step(found, step)}"
     if found.error:
         yield bad_lines.explained(data, found.error, found.bad_line, False)
+    elif not found.steps and found.config:
+        yield f"A bank of {counted(found.config['accounts'], 'account')} at {found.config['sites']} sites. No command."
+
+
+def counted(things, word):
+    return f"{len(things)} {word}" + ("" if len(things) == 1 else "s")
 
 
 def text_of(data, line, most=400):
