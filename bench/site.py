@@ -203,10 +203,12 @@ def restarts(asked):
 
 
 def most_memory(command, path):
-    """The most bytes that a command has in memory at once."""
-    with open(path, "rb") as given:
-        process = subprocess.Popen(command, stdin=given, stdout=subprocess.DEVNULL)
-        return os.wait4(process.pid, 0)[2].ru_maxrss * 1024
+    """The most bytes that a command has in memory at once. A small interpreter starts it: a process counts for its own
+    what the one that started it has."""
+    code = ("import os, subprocess, sys\n"
+            "child = subprocess.Popen(sys.argv[2:], stdin=open(sys.argv[1], 'rb'), stdout=subprocess.DEVNULL)\n"
+            "print(os.wait4(child.pid, 0)[2].ru_maxrss * 1024)")
+    return int(subprocess.check_output([sys.executable, "-c", code, path, *command]))
 
 
 def memory(asked):
