@@ -68,7 +68,7 @@ PAGES = {
     "crates/*/README.md": (480, 21),
     "docs/ARCHITECTURE.md": (1500, 17),
     "docs/CHANGING.md": (2500, 17),
-    "docs/DECISIONS.md": (2280, 18),
+    "docs/DECISIONS.md": (2000, 17),
     "docs/FORMAT.md": (4290, 19),
     "docs/PROVED.md": (4110, 19),
     "docs/RUNNING.md": (2470, 15),
