@@ -70,7 +70,7 @@ PAGES = {
     "docs/CHANGING.md": (2500, 17),
     "docs/DECISIONS.md": (2000, 17),
     "docs/FORMAT.md": (4290, 19),
-    "docs/PROVED.md": (4110, 19),
+    "docs/PROVED.md": (3500, 17),
     "docs/RUNNING.md": (2470, 15),
     "docs/TUTORIAL.md": (2100, 15),
     "examples/README.md": (1620, 14),
