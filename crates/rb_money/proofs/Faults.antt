@@ -1,4 +1,4 @@
--- What follows where nothing is wrong with a configuration that is asked for.
+-- Facts that follow if nothing is wrong with a configuration that is asked for.
 use Rattle.std.proofs.Common.{◌≡◌, List, [], ◌∷◌, ◌++◌, ℕ, ◌+◌, zero, suc, Bool, true, false, Option, Some, None, refl, ap, sym, subst, ◌∙◌}
 use Rattle.std.proofs.Common.{◌≤◌, length, slice_get, inl, inr}
 use Rattle.std.specs.Prelude.{map, not, ◌&&◌, nat_le, nat_lt, if◌then◌else◌}
@@ -116,7 +116,7 @@ length_starts : (accounts : List Account) → length (starts accounts) ≡ lengt
 length_starts [] = refl
 length_starts (a ∷ later) = ap suc (length_starts later)
 
--- what is looked at, where nothing is wrong
+-- what is looked at, if nothing is wrong
 pub record IsProper (sites : ℕ) (accounts : List Account) (limits : Limits) : Type 0 where
   pub some_sites : 2 ≤ sites
   pub few_sites : sites ≤ MOST_SITES

@@ -1,3 +1,3 @@
--- What other crates cite.
+-- Facts that other crates cite.
 pub mod Tests
 pub mod Configured

@@ -33,7 +33,7 @@ last_first true false = refl
 last_first false true = refl
 last_first false false = refl
 
--- the next name, where the set doesn't have it, is put in
+-- the next name, if the set doesn't have it, is put in
 pub one_more_seen : {S : Type 0} (seen new : HashSet (Bor (List ℕ)) S) (k : Bor (List ℕ)) (i : ℕ) (accounts : Entries)
     (a : String Global × ℕ)
     → HasSeen seen i accounts → i < length accounts → k.now ≡ string_bytes (get_or accounts i a).0

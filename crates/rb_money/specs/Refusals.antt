@@ -7,7 +7,7 @@ use Rattle.rb_money.specs.declared.refusal.Refusal.TheVariants.{WouldOverdraw, D
 use Rattle.rb_money.specs.declared.refusal.Refusal.TheVariants.{InboxFull, BadMessage, Conflict, NoMessage, NoSite, NotYours}
 use Rattle.rb_money.specs.declared.refusal.Refusal.TheVariants.{PositionBeyond, HistoryFull, SameAccount}
 
--- what comes of a refusal, or of whatever else there may be, and where there is none what comes next
+-- what comes of a refusal, or of whatever else there may be, and if there is none what comes next
 abbrev pub unless : {A E : Type 0} → (E → A) → Option E → A → A
 unless refused (Some why) next = refused why
 unless refused None next = next

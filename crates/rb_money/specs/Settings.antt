@@ -1,4 +1,4 @@
--- What a configuration fixes.
+-- The settings that a configuration fixes.
 use Rattle.std.specs.List.{list_all}
 use Rattle.std.specs.Prelude.{◌≡◌, ℕ, Bool, true, ◌&&◌, ◌||◌, nat_le, nat_lt, ◌==◌, List, length, Option, Some, option_map, position}
 use Rattle.std.specs.Prelude.{slice_get, slice_index, ◌≤◌, ◌⊎◌, if◌then◌else◌}

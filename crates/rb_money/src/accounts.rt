@@ -43,7 +43,7 @@ impl Model for Accounts {
       starts = map (λ e. e.1) a.by_name.entries;
     } };
 
-    // The table has no place that the map hasn't.
+    // The table contains no place that the map doesn't.
     ghost invariant = { λ a. (length a.by_name.entries ≤ MOST_ACCOUNTS)
         × AreShort (map (λ e. string_bytes e.0) a.by_name.entries) a.short.slots.items };
 }
@@ -84,7 +84,7 @@ impl Accounts {
         self.by_name.len()
     }
 
-    /// What the account at the place starts with, in cents. `None` where there is no such account.
+    /// The balance in cents that the account at the place starts with. `None` if there is no such account.
     pub fn start(&self, place: Place) -> Option<Cents>
         ensures account { is_some result ≡ nat_lt place.0 (length self.now.starts) }
         ensures start { IfSome result (λ start. start.0 ≡ slice_index self.now.starts place.0) }
@@ -95,7 +95,7 @@ impl Accounts {
         }
     }
 
-    /// The name of the account at the place. `None` where there is no such account.
+    /// The name of the account at the place. `None` if there is no such account.
     pub fn name(&self, place: Place) -> Option<&str>
         ensures { option_map (λ name. name.now) result ≡ slice_get self.now.names place.0 }
     {
@@ -105,7 +105,7 @@ impl Accounts {
         }
     }
 
-    /// The place of the account with the name. `None` where there is no such account.
+    /// The place of the account with the name. `None` if there is no such account.
     pub fn place(&self, name: &str) -> Option<Place>
         ensures { result ≡ place_in self.now.names name.now }
     {

@@ -1,4 +1,6 @@
 //! Amounts of deposits, withdrawals and transfers.
+//!
+//! The range is tested once, by `Amount::new`, and is the type's invariant: code that has an `Amount` needs no check.
 ghost use Rattle.std.specs.Prelude.{◌≡◌, true, false, IfOk, OnOk, IfErr, OnErr};
 ghost use Rattle.rb_money.specs.Amounts.{is_amount};
 
@@ -6,7 +8,7 @@ use crate::cents::{Cents, MOST_CENTS};
 use crate::refusal::Refusal;
 use std::marker::Model;
 
-/// What a deposit, a withdrawal or a transfer moves: 1 to `MOST_CENTS` cents.
+/// The amount that a deposit, a withdrawal or a transfer moves: 1 to `MOST_CENTS` cents.
 #[derive(Clone, Copy, Debug, PartialEq, Eq)]
 pub struct Amount {
     cents: u64,
@@ -26,7 +28,7 @@ impl Model for Amount {
 }
 
 impl Amount {
-    /// The amount of this number of cents, or `BadAmount` where it isn't 1 to `MOST_CENTS`.
+    /// The amount of this number of cents, or `BadAmount` if it isn't 1 to `MOST_CENTS`.
     pub fn new(cents: u64) -> Result<Amount, Refusal>
         ensures value { IfOk result (λ amount. amount ≡ cents) }
         ensures proper { OnOk result (is_amount cents ≡ true) }

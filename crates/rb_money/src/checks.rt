@@ -1,4 +1,7 @@
-//! What is looked at before a configuration is made.
+//! The checks before a configuration is made.
+//!
+//! A repeated name is found by a set of the names before it, in time in proportion to the accounts. Without memory for
+//! the set each is compared with those before it, in the square of that time, as out of memory is the last fault.
 ghost use Rattle.std.specs.Prelude.{◌≡◌, ◌≢◌, ◌≤◌, [], false, length, map, true};
 ghost use Rattle.rb_money.specs.Faults.{AreNewUpTo, account_fault, account_of, are_limits, config_fault, is_among};
 ghost use Rattle.rb_money.specs.Faults.{is_limit};
@@ -47,7 +50,7 @@ fn has_name(accounts: &[(String, u64)], name: &str) -> bool
     false
 }
 
-/// Whether one of the accounts before has the name, which none has where it is known to be new.
+/// Whether one of the accounts before has the name, which none has if it is known to be new.
 fn is_repeated(before: &[(String, u64)], name: &str, is_new: bool) -> bool
     requires { is_new ≡ true → is_among (map (λ a. a.0) (map account_of before.now)) name.now ≡ false }
     ensures { result ≡ is_among (map (λ a. a.0) (map account_of before.now)) name.now }
@@ -55,8 +58,8 @@ fn is_repeated(before: &[(String, u64)], name: &str, is_new: bool) -> bool
     !is_new && has_name(before, name)
 }
 
-/// How many accounts there are before the first that has the name of an earlier one: fewer where there is no
-/// memory to look each name up among the earlier ones.
+/// How many accounts there are before the first that has the name of an earlier one: fewer if there is no memory to
+/// look each name up among the earlier ones.
 fn count_distinct(alloc: Global, accounts: &[(String, u64)]) -> usize
     ensures { AreNewUpTo result accounts.now }
 {
@@ -115,8 +118,7 @@ fn are_limits(limits: &Limits) -> bool
     blue && red && inbox && history && epoch
 }
 
-/// The first thing that is wrong with a configuration, if any, other than that memory may not suffice. With
-/// memory it takes time in proportion to the accounts, and without it their square.
+/// The first thing that is wrong with a configuration, if any, other than that memory may not suffice.
 pub fn config_fault(
     alloc: Global,
     sites: u8,

@@ -1,4 +1,4 @@
-//! What is wrong with a configuration.
+//! Faults of a configuration.
 
 use crate::limits::{MOST_ACCOUNTS, MOST_SITES};
 use thiserror::Error;

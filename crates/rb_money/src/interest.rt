@@ -1,4 +1,4 @@
-//! What interest comes to.
+//! The interest of a balance at a rate.
 ghost use Rattle.std.specs.Prelude.{◌≡◌, ◌<◌, ◌≤◌, IfOk, OnOk, IfErr, OnErr};
 ghost use Rattle.rb_money.specs.Amounts.{interest};
 ghost use Rattle.rb_money.specs.declared.cents.TheConstants.{MOST_CENTS};
@@ -7,7 +7,7 @@ use crate::cents::{Cents, MOST_CENTS};
 use crate::rate::{BASIS_POINTS_OF_ALL, Rate};
 use crate::refusal::Refusal;
 
-/// The interest of a balance at a rate, rounded down to whole cents, or `DeltaTooLarge` where that is
+/// The interest of a balance at a rate, rounded down to whole cents, or `DeltaTooLarge` if that is
 /// more than `MOST_CENTS`.
 pub fn interest_of(balance: Cents, rate: Rate) -> Result<Cents, Refusal>
     ensures value { IfOk result (λ cents. cents.0 ≡ interest balance.0 rate) }

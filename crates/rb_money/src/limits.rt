@@ -1,4 +1,4 @@
-//! What a configuration limits.
+//! The limits of a configuration.
 ghost use Rattle.std.specs.Prelude.{◌≡◌};
 ghost use Rattle.rb_money.specs.declared.limits.TheConstants.{MOST_BLUE, MOST_EPOCH, MOST_HISTORY, MOST_INBOX};
 ghost use Rattle.rb_money.specs.declared.limits.TheConstants.{MOST_RED};

@@ -1,4 +1,6 @@
 //! Rates of interest.
+//!
+//! The range is tested once, by `Rate::new`, and is the type's invariant: code that has a `Rate` needs no check.
 ghost use Rattle.std.specs.Prelude.{◌≡◌, ◌<◌, ◌≤◌, IfOk, OnOk, IfErr, OnErr};
 ghost use Rattle.rb_money.specs.declared.rate.TheConstants.{MOST_RATE};
 
@@ -31,7 +33,7 @@ impl Model for Rate {
 }
 
 impl Rate {
-    /// The rate of this number of basis points, or `BadRate` where it is more than `MOST_RATE`.
+    /// The rate of this number of basis points, or `BadRate` if it is more than `MOST_RATE`.
     pub fn new(basis_points: u32) -> Result<Rate, Refusal>
         ensures value { IfOk result (λ rate. rate ≡ basis_points) }
         ensures within { OnOk result (basis_points ≤ MOST_RATE) }

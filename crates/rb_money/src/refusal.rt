@@ -1,7 +1,7 @@
 //! Refusals.
 ghost use Rattle.std.specs.Prelude.{◌≡◌};
 
-/// What stopped a batch: a withdrawal or a transfer that would be declined, or a refusal by its number.
+/// The cause that stopped a batch: a withdrawal or a transfer that would be declined, or a refusal by its number.
 #[derive(Clone, Copy, Debug, PartialEq, Eq)]
 pub enum Cause {
     Declined,
@@ -41,7 +41,7 @@ pub enum Refusal {
     BatchRefused { index: u8, cause: Cause },
     /// Nothing is held under the name.
     NotHeld,
-    /// Its past isn't applied here yet, or, where `Ledger::check` says so, it is applied already.
+    /// Its past isn't applied here yet, or, if `Ledger::check` says so, it is applied already.
     NotReady,
     /// The inbox is full, and the operation isn't ready.
     InboxFull,
@@ -66,7 +66,7 @@ pub enum Refusal {
 impl Refusal {
     ghost use Rattle.rb_money.specs.Refusals.{number_of_refusal};
 
-    /// The number by which lines name the refusal: 1 to 24, and 0 where memory runs out, which no line reports.
+    /// The number by which lines name the refusal: 1 to 24, and 0 if memory runs out, which no line reports.
     pub fn number(&self) -> u8
         ensures { result ≡ number_of_refusal self.now }
     {

@@ -1,4 +1,7 @@
 //! Short names of accounts, each looked up as one number.
+//!
+//! The number of a name is that of no other name, so one comparison finds it. A slot keeps the name that was put in
+//! last: a look-up reads one slot and never probes, and a name that lost its slot is found by the map of `Accounts`.
 ghost use Rattle.std.specs.Prelude.{◌≡◌, ◌≤◌, List, [], ℕ, length, map, string_bytes, None, Some, IfOk, IfSome};
 ghost use Rattle.rb_money.specs.Faults.{account_fault, account_of};
 ghost use Rattle.rb_money.specs.Settings.{place_in};
@@ -12,7 +15,7 @@ use std::alloc::{AllocError, Global};
 /// The most bytes of a name that is looked up as one number.
 const SHORT: usize = 7;
 
-/// How many such names a table has places for, in a bank of few accounts and in any other.
+/// How many places for such names a table contains, in a bank of few accounts and in any other.
 const FEW_SLOTS: usize = 128;
 
 const SLOTS: usize = 2_048;
@@ -20,7 +23,7 @@ const SLOTS: usize = 2_048;
 /// Spreads words over a table: an odd number near 2^64 by the golden ratio.
 const SPREAD: u64 = 0x9e37_79b9_7f4a_7c15;
 
-/// Most short names of a bank: the word of each with its place, where `slot_of` has it.
+/// Most short names of a bank: the word of each with its place, in the slot that `slot_of` gives.
 #[derive(Drop)]
 pub(crate) struct ShortNames {
     slots: Vec<(u64, Place)>,
@@ -42,7 +45,7 @@ fn word_of(name: &[u8]) -> u64
     word
 }
 
-/// Where a word is looked for in a table of this length, a power of two.
+/// The slot of a word in a table of this length, a power of two.
 #[inline(always)]
 fn slot_of(word: u64, len: usize) -> usize {
     (word.wrapping_mul(SPREAD) >> 40) as usize & len.wrapping_sub(1)
