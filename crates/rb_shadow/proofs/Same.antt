@@ -53,6 +53,6 @@ tests_fields u v =
     ∙ ap (λ b. same_name u.name v.name && (u.home == v.home) && pointwise nat_eq u.deps.blue v.deps.blue && (u.deps.red == v.deps.red)
     && (u.account.0 == v.account.0) && (u.amount == v.amount) && b) (kind_tested u.kind v.kind)
 
--- so it is true exactly where the shadows are equal
+-- so it is true exactly if the shadows are equal
 pub same_means : (b : Bool) (u v : Shadow) → b ≡ same_shadow u v → IsTrue b ↔ (u ≡ v)
 same_means b u v h = (λ e. same_shadow-true u v (sym h ∙ e), λ e. h ∙ ap (same_shadow u) (sym e) ∙ same_shadow-refl u)

@@ -182,7 +182,7 @@ abbrev pub number_of : OpName → ℕ
 number_of (Blue i n) = n
 number_of (Red n) = n
 
--- the row of a name, where operations are kept in rows: first the red ones, and then the blue ones of each site
+-- the row of a name, for operations kept in rows: first the red ones, and then the blue ones of each site
 abbrev pub row_of : OpName → ℕ
 row_of (Blue i n) = suc i
 row_of (Red n) = 0

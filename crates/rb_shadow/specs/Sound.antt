@@ -1,4 +1,4 @@
--- What is wrong with a shadow by itself.
+-- Faults of a shadow by itself.
 use Rattle.std.specs.Prelude.{◌≡◌, ℕ, ◌+◌, ◌-◌, Bool, true, false, if◌then◌else◌, not, ◌&&◌, ◌||◌, nat_le, nat_lt, ◌==◌, List, [], ◌∷◌}
 use Rattle.std.specs.Prelude.{length, Option, Some, None, is_some}
 use Rattle.rb_money.specs.Refusals.{unless}

@@ -1,4 +1,7 @@
-//! What an operation depends on.
+//! The operations that an operation depends on, counted.
+//!
+//! The test of the entries has no early end, so that several are compared at once. In a bank of up to three sites the
+//! limit applies to the first entries alone, and all others are compared with 0.
 ghost use Rattle.std.specs.Prelude.{◌≡◌, ◌≤◌, length, ℕ};
 ghost use Rattle.rb_money.specs.declared.limits.TheConstants.{MOST_SITES};
 ghost use Rattle.rb_shadow.specs.declared.deps.TheConstants.{FEW};
@@ -19,7 +22,7 @@ pub struct Deps {
 }
 
 impl Deps {
-    /// The entry that counts names such as this one: 0 where the site has none.
+    /// The entry that counts names such as this one: 0 if the site has none.
     pub fn entry(&self, name: OpName) -> u32
         ensures { result ≡ entry_of self.now name }
     {
@@ -58,7 +61,7 @@ fn are_within(entries: &[u32], sites: u8, limit: u32) -> bool
     are_within_many(entries, sites, limit)
 }
 
-/// The same for a small bank: all but the first entries are tested together.
+/// The same for a small bank.
 #[inline(always)]
 fn are_within_few(entries: &[u32], sites: u8, limit: u32) -> bool
     requires all { length entries.now ≡ MOST_SITES }
@@ -71,7 +74,7 @@ fn are_within_few(entries: &[u32], sites: u8, limit: u32) -> bool
     (entries[0] <= first) & (entries[1] <= second) & (entries[2] <= third) & are_none(&entries[3..])
 }
 
-/// Whether all entries are 0. Each is looked at, as several are compared at once.
+/// Whether all entries are 0.
 #[inline(always)]
 fn are_none(entries: &[u32]) -> bool
     ensures { (limit : ℕ) → result ≡ are_entries 0 limit entries.now }

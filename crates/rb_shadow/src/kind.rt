@@ -7,7 +7,7 @@ ghost use Rattle.rb_shadow.specs.Sound.{cancels_unseen, is_miscoloured, is_misdi
 use crate::{Colour, Deps, Label, OpName};
 use rb_money::Place;
 
-/// What an operation does.
+/// The kind of an operation, by what it does.
 #[derive(Clone, Copy, Debug, PartialEq, Eq)]
 pub enum Kind {
     /// Adds its amount.
@@ -99,7 +99,7 @@ impl Kind {
         }
     }
 
-    /// What an operation of this kind and amount, in cents, adds to its own account, and what it takes from it.
+    /// The cents that an operation of this kind and amount adds to its own account, and those that it takes from it.
     #[inline(always)]
     pub fn moved(self, amount: u64) -> (u64, u64)
         ensures sums { pos result.0 ≡ pos result.1 +ℤ moved self amount }

@@ -40,7 +40,7 @@ impl Label {
         if rest.is_empty() { Some(label) } else { None }
     }
 
-    /// The kind whose word the text begins with, and the text behind the word. `None` where it begins with none.
+    /// The kind whose word the text begins with, and the text behind the word. `None` if it begins with none.
     #[inline(always)]
     fn strip_word(text: &str) -> Option<(Label, &str)>
         ensures some { IfSome result (λ p. text.now ≡ word_of p.0 ++ p.1.now) }

@@ -25,7 +25,7 @@ impl OpName {
         }
     }
 
-    /// The row of the name, where operations are kept in rows: first that of the red ones, then that of the
+    /// The row of the name, for operations that are kept in rows: first that of the red ones, then that of the
     /// first site's blue ones, and so on.
     pub fn row(self) -> usize
         ensures { result ≡ row_of self }

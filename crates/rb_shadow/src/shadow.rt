@@ -6,14 +6,14 @@ ghost use Rattle.rb_shadow.specs.Sound.{fault_of};
 use crate::{Deps, Kind, OpName};
 use rb_money::{Config, MOST_CENTS, Place, Refusal};
 
-/// What a request did, as it is sent to every site.
+/// The effect of a request, as it is sent to every site.
 #[derive(Clone, Copy, Debug, PartialEq, Eq)]
 pub struct Shadow {
     pub name: OpName,
     /// The number of the site that made it, from 0.
     pub home: u8,
     pub account: Place,
-    /// What its home had applied when it was made.
+    /// The counts of what its home had applied when it was made.
     pub deps: Deps,
     /// In cents. A cancellation has its target's.
     pub amount: u64,

@@ -46,7 +46,7 @@ unnamed_without us front back u v absent h k = at (Members.bool_cases (same_name
         ∙ ap (names (front ++ back)) (sym (Members.same_name-true u.name v.name e)) ∙ absent))
     at (inr e) = Members.false-or _ _ e k
 
--- a sum over part of a list is at most that over the list, where what is left out adds nothing negative
+-- a sum over part of a list is at most that over the list, if what is left out adds nothing negative
 pub total-part : (f : Shadow → ℤ) (us vs : List Shadow) → IsUnique us → IsUnique vs → IsPart us vs →
     ((v : Shadow) → Among v vs → names us v.name ≡ false → pos 0 ≤ℤ f v) → total f us ≤ℤ total f vs
 total-part f [] vs uu uv part rest = omega (arith, ints, Totals.total-le (λ _. pos 0) f vs (λ v h. rest v h refl), Totals.total-none vs)

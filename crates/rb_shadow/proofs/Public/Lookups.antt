@@ -1,4 +1,4 @@
--- What is found in a list of operations.
+-- Look-ups in a list of operations.
 use Rattle.std.proofs.Common.{◌≡◌, ℕ, zero, suc, ◌<◌, Bool, true, false, cond, ◌||◌, List, [], ◌∷◌, length, get_or, refl, ap, ◌∙◌, arith}
 use Rattle.std.proofs.Common.{inl, inr, Some, None}
 use Rattle.std.specs.Prelude.{option_map}

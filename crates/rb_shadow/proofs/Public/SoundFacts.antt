@@ -1,4 +1,4 @@
--- What is known of a sound shadow.
+-- Facts of a sound shadow.
 use Rattle.std.proofs.Common.{◌≡◌, ℕ, ◌+◌, ◌≤◌, Bool, true, false, cond, not, ◌&&◌, length, refl, arith}
 use Rattle.std.specs.Prelude.{nat_le, nat_lt, ◌==◌, Option, Some, None}
 use Rattle.std.proofs.lemmas.Bool.Decides.{nat_tests}
