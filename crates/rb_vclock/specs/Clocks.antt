@@ -11,7 +11,7 @@ pub record IsAtLeast (c d : Deps) : Type 0 where
   pub blue : (i : ℕ) → slice_index d.blue i ≤ slice_index c.blue i
   pub red : d.red ≤ c.red
 
--- one clock is at least another, entry by entry, exactly where it counts all the other's names
+-- one clock is at least another, entry by entry, exactly if it counts all the other's names
 abbrev pub AtLeastMeansWithin : Type 0
 AtLeastMeansWithin = (c d : Deps) → IsAtLeast c d ↔ IsWithin (names_of_clock d) (names_of_clock c)
 

@@ -1,4 +1,7 @@
 //! Clocks.
+//!
+//! A site's operations are counted in order of their numbers, so a count for each site and one of the red ones are the
+//! whole set of names. Two clocks are compared to the end, as several pairs of entries are compared at once.
 ghost use Rattle.std.specs.Prelude.{◌≡◌, ◌↔◌, ◌≤◌, ◌+◌, ◌&&◌, ◌||◌, false, not, IsTrue, slice_index, length, ℕ};
 ghost use Rattle.rb_shadow.specs.declared.op_name.OpName.{OpName};
 ghost use Rattle.rb_shadow.specs.Operations.{HasEntry, IsWithin, entry_of, names_of_clock, number_of, same_name};

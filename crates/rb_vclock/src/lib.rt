@@ -8,7 +8,7 @@ ghost use Rattle.rb_vclock.specs.Clocks.{AtLeastMeansWithin};
 
 pub use clock::Clock;
 
-/// One clock is at least another, entry by entry, exactly where it counts all the other's names.
+/// One clock is at least another, entry by entry, exactly if it counts all the other's names.
 pub fn at_least_means_within()
     ensures { AtLeastMeansWithin }
 {}
