@@ -1,4 +1,4 @@
--- What a log of undo records is.
+-- A log of undo records, as clients see it.
 use Rattle.std.specs.Prelude.{ℕ, List}
 use Rattle.rb_undo.specs.declared.parts.UndoParts.{UndoParts}
 

@@ -1,4 +1,4 @@
-//! What is kept to undo an entry of a ledger.
+//! Records that undo entries of a ledger, and logs of them.
 //! Tests: rb_tests, undo.rt.
 #![tactic(auto)]
 

@@ -1,11 +1,11 @@
-//! What an undo record holds.
+//! The parts of an undo record.
 //!
 //! A record has what an application changed, in 40 bytes, and no copy of the list. A log of them is a quarter of what a
 //! site keeps of an operation.
 use rb_money::Place;
 use rb_shadow::OpName;
 
-/// What is known of an entry of a ledger as it is applied.
+/// The facts of an entry of a ledger, as it is applied.
 #[derive(Clone, Copy, Debug, PartialEq, Eq)]
 pub struct UndoParts {
     /// The entry's position, from 1.
@@ -20,12 +20,12 @@ pub struct UndoParts {
     pub target: u32,
     /// The entry's second account, or `Place::NOWHERE`.
     pub other: Place,
-    /// The second account's balance before the entry, in cents, or 0 where there is none.
+    /// The second account's balance before the entry, in cents, or 0 if there is none.
     pub other_balance: u64,
 }
 
 impl UndoParts {
-    /// What a place for a record holds before there is one: zeros, so that a list of it is set at once.
+    /// The content of a place for a record before there is one: zeros, so that a list of it is set at once.
     pub const BLANK: UndoParts = UndoParts {
         position: 0,
         name: OpName::Blue { site: 0, n: 0 },

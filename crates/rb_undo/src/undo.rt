@@ -1,9 +1,11 @@
 //! Undo records.
+//!
+//! A record is used once, by its type: the compiler refuses a second use, and a program that lets a record go.
 use crate::UndoParts;
 use std::marker::Model;
 
-/// What is kept to undo an entry of a ledger. Clients see its parts. A record can't be dropped: it
-/// is spent to undo the entry, or sealed where the entry is to stay.
+/// The record by which an entry of a ledger is undone. Clients see its parts. A record can't be dropped: it is spent
+/// to undo the entry, or sealed if the entry is to stay.
 pub struct Undo {
     parts: UndoParts,
 }

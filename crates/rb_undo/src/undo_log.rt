@@ -1,4 +1,7 @@
 //! Logs of undo records.
+//!
+//! Clients see how many more records fit without memory. So memory is taken before a ledger changes, and no entry is
+//! without its record.
 ghost use Rattle.std.specs.Prelude.{◌≡◌, ◌↔◌, ◌+◌, ◌<◌, ◌≤◌, [], ◌∷◌, ◌++◌, length, MatchResult, MatchOption, OnOk};
 ghost use Rattle.std.specs.Prelude.{OnErr, IfErr};
 
@@ -39,7 +42,7 @@ impl UndoLog {
         self.undos.len()
     }
 
-    /// Reserves capacity for `additional` more records. It takes no memory where there is enough. `Err` means out of
+    /// Reserves capacity for `additional` more records. It takes no memory if there is enough. `Err` means out of
     /// memory.
     pub fn reserve(&mut self, additional: usize) -> Result<(), AllocError>
         ensures parts { self.new.parts ≡ self.old.parts }
@@ -64,7 +67,7 @@ impl UndoLog {
         Ok(())
     }
 
-    /// Takes memory for a record where there is no spare capacity. `Err` means out of memory.
+    /// Takes memory for a record if there is no spare capacity. `Err` means out of memory.
     fn make_room(&mut self) -> Result<(), AllocError>
         ensures parts { self.new.parts ≡ self.old.parts }
         ensures ok { OnOk result (0 < self.new.room) }
@@ -86,7 +89,7 @@ impl UndoLog {
         self.undos.push_reserved(undo)
     }
 
-    /// Takes the last record out. `None` where there is none.
+    /// Takes the last record out. `None` if there is none.
     pub fn pop(&mut self) -> Option<Undo>
         ensures { MatchOption result ((self.old.parts ≡ []) × (self.new ≡ self.old))
             (λ undo. (self.old.parts ≡ self.new.parts ++ undo ∷ []) × (self.new.room ≡ self.old.room + 1)) }
