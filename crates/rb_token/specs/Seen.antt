@@ -1,4 +1,4 @@
--- What a site keeps of the token, and what it shows of it.
+-- The state of the token that a site keeps, and the part that it shows.
 use Rattle.std.specs.Prelude.{◌≡◌, ℕ}
 use Rattle.rb_money.specs.declared.limits.Limits.{Limits}
 use Rattle.rb_token.specs.declared.view.TokenView.{TokenView}

@@ -1,6 +1,6 @@
-//! What came of a token message.
+//! Outcomes of token messages.
 
-/// What a site did with a token message that was for it.
+/// The outcome of a token message at the site that it is for.
 #[derive(Clone, Copy, Debug, PartialEq, Eq)]
 pub enum Accepted {
     /// The site has the token now.

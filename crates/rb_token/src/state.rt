@@ -1,4 +1,7 @@
-//! What a site keeps of the token.
+//! The token, as a site knows it.
+//!
+//! Each pass has the next epoch, so a message that comes again or late is stale and changes nothing. A message says how
+//! many red operations were applied before: the addressee makes none until it has applied as many.
 ghost use Rattle.std.specs.Prelude.{◌≡◌, ◌<◌, true, false, Some, None, OnOk, OnErr, IfOk, IfErr, MatchResult};
 ghost use Rattle.rb_token.specs.Token.{first_token, refusal_of_pass, pass_message, passed_token, refusal_of_token};
 ghost use Rattle.rb_token.specs.Token.{is_stale, taken_token, refusal_of_red};
@@ -9,8 +12,8 @@ use rb_money::{Config, Limits, Refusal};
 use rb_vclock::Clock;
 use std::marker::Model;
 
-/// What a site knows of the token, with the limits that bound it. The site, the number of sites and
-/// the limits never change.
+/// The token as a site knows it, with the limits that bound it. The site, the number of sites and the limits never
+/// change.
 #[derive(Drop)]
 pub struct TokenState {
     me: u8,
@@ -35,7 +38,7 @@ impl Model for TokenState {
 }
 
 impl TokenState {
-    /// What site `me` knows at first: site 0 has the token.
+    /// The token as site `me` knows it at first: site 0 has it.
     pub fn open(me: u8, config: &Config) -> TokenState
         requires { me < config.now.sites }
         ensures me { result.me ≡ me }
@@ -68,7 +71,7 @@ impl TokenState {
         }
     }
 
-    /// What a generator at this site knows of the token.
+    /// The token, as a generator at this site knows it.
     pub fn view(&self) -> TokenView
         ensures me { result.me ≡ self.now.me }
         ensures shows { Shows result self.now.token }
@@ -90,8 +93,8 @@ impl TokenState {
     /// Gives up the token, and makes the message that hands it to site `to`. The message says how
     /// many red operations the addressee needs: the larger of this site's need and its clock's count.
     ///
-    /// Refuses, and changes nothing: with `NoSite` where there is no other site `to`, then with
-    /// `NumbersExhausted` where the epochs are used up, then with `NeedToken` where it hasn't the token.
+    /// Refuses, and changes nothing: with `NoSite` if there is no other site `to`, then with
+    /// `NumbersExhausted` if the epochs are used up, then with `NeedToken` if it hasn't the token.
     pub fn pass(&mut self, to: u8, clock: &Clock) -> Result<TokenMessage, Refusal>
         ensures allowed { OnOk result (refusal_of_pass self.old.sites self.old.limits self.old.me self.old.token to
             ≡ None) }
@@ -123,8 +126,8 @@ impl TokenState {
 
     /// Takes a token message, or leaves a stale one: that of an epoch which the site has seen.
     ///
-    /// Refuses, and changes nothing: with `NotYours` where the message is for another site, then
-    /// with `BadMessage {why: 2}` where its epoch or its count of red operations is over the limit.
+    /// Refuses, and changes nothing: with `NotYours` if the message is for another site, then
+    /// with `BadMessage {why: 2}` if its epoch or its count of red operations is over the limit.
     pub fn accept(&mut self, message: TokenMessage) -> Result<Accepted, Refusal>
         ensures allowed { OnOk result (refusal_of_token self.old.limits self.old.me message ≡ None) }
         ensures stale { is_stale self.old.token message ≡ true →
@@ -153,8 +156,8 @@ impl TokenState {
 
     /// Whether the site may make a red operation, having applied what the clock counts.
     ///
-    /// Refuses with `NeedToken` where it hasn't the token, then with `RedBehind` where it applied
-    /// fewer red operations than it needs.
+    /// Refuses with `NeedToken` if it hasn't the token, then with `RedBehind` if it applied fewer red operations than
+    /// it needs.
     pub fn may_red(&self, clock: &Clock) -> Result<(), Refusal>
         ensures { MatchResult result (λ _. refusal_of_red self.now.token clock.now.red
             ≡ None) (λ why. refusal_of_red self.now.token clock.now.red ≡ Some why) }

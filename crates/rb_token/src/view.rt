@@ -1,4 +1,4 @@
-//! What a generator knows of the token.
+//! The token, as a generator knows it.
 ghost use Rattle.std.specs.Prelude.{◌≡◌, Some, None, MatchResult};
 ghost use Rattle.rb_token.specs.Token.{Token, refusal_of_red};
 ghost use Rattle.rb_token.specs.Seen.{Shows};
@@ -6,7 +6,7 @@ ghost use Rattle.rb_token.specs.Seen.{Shows};
 use rb_money::Refusal;
 use rb_vclock::Clock;
 
-/// What a site knows of the token when a request comes.
+/// The token as a site knows it when a request comes.
 #[derive(Clone, Copy, Debug, PartialEq, Eq)]
 pub struct TokenView {
     /// The site, from 0.
@@ -20,8 +20,8 @@ pub struct TokenView {
 impl TokenView {
     /// Whether the site may make a red operation, having applied what the clock counts.
     ///
-    /// Refuses with `NeedToken` where it hasn't the token, then with `RedBehind` where it applied
-    /// fewer red operations than it needs.
+    /// Refuses with `NeedToken` if it hasn't the token, then with `RedBehind` if it applied fewer red operations than
+    /// it needs.
     pub fn may_red(&self, clock: &Clock) -> Result<(), Refusal>
         ensures { (known : Token) → Shows self.now known → MatchResult result (λ _. refusal_of_red known clock.now.red
             ≡ None) (λ why. refusal_of_red known clock.now.red ≡ Some why) }
