@@ -1,4 +1,4 @@
-//! Items that are equal only where they are the same.
+//! Items that are equal only if they are the same.
 ghost use Rattle.std.specs.Prelude.{◌≡◌, ◌↔◌, IsTrue};
 
 /// A type whose `==` is true exactly of the same values, and whose `clone` gives the same value.

@@ -1,4 +1,4 @@
-//! What any crate may use: lists that contracts see as lists, and spare capacity.
+//! Lists that contracts see as lists, and spare capacity, for any crate.
 //! Tests: rb_tests, site.rt, statements.rt.
 #![tactic(auto)]
 

@@ -1,4 +1,6 @@
 //! Lists.
+//!
+//! A `List` is a `Vec` whose capacity no contract sees, so two of the same items are the same value.
 ghost use Rattle.std.specs.Prelude.{◌≡◌, ◌↔◌, IfOk, IsTrue};
 
 use crate::Exact;
