@@ -1,4 +1,4 @@
--- What is read of the numbers of cancellations.
+-- Reads of the numbers of cancellations.
 use Rattle.std.proofs.Common.{◌≡◌, ℕ, zero, suc, ◌-◌, ◌≤◌, true, false, cond, List, [], ◌∷◌, ◌++◌, length}
 use Rattle.std.proofs.Common.{get_or, map, refl, ap, sym, ◌∙◌, arith, ◌⊎◌, inl, inr, Some, None}
 use Rattle.std.specs.Prelude.{slice_get, Option, option_map, option_and_then}

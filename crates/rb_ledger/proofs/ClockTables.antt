@@ -1,4 +1,4 @@
--- What lists of clocks are after a change.
+-- Lists of clocks after a change.
 use Rattle.std.proofs.Common.{◌≡◌, ℕ, zero, suc, ◌+◌, ◌-◌, ◌*◌, ◌<◌, ◌≤◌, List, [], ◌∷◌, ◌++◌, length, take, drop, get_or}
 use Rattle.std.proofs.Common.{append_assoc, mul-le-mul_right}
 use Rattle.std.proofs.Common.{refl, ap, sym, ◌∙◌, subst, arith, inl, inr, Some, ◌⊎◌, length-take-le}
@@ -317,7 +317,7 @@ set_seam : (xs ys : List ℕ) (y x : ℕ) → slice_set (xs ++ y ∷ ys) (length
 set_seam [] ys y x = refl
 set_seam (z ∷ xs) ys y x = ap (λ zs. z ∷ zs) (set_seam xs ys y x)
 
--- one more entry is read, where there are zeros behind those so far
+-- one more entry is read, if there are zeros behind those so far
 pub read_on : (ns bs : List ℕ) (j x : ℕ) → bs ≡ take j (drop 1 ns) ++ replicate (16 - j) 0 → j + 1 < length ns → j < 16 →
     x ≡ get_or ns (j + 1) 0 → slice_set bs j x ≡ take (j + 1) (drop 1 ns) ++ replicate (16 - (j + 1)) 0
 read_on [] bs j x is near small read = absurd (omega (arith, near))

@@ -28,7 +28,7 @@ pub record Latest (s : Settings) (us : List Shadow) (n : ℕ) (x : Index) (ps : 
   pub parts : r ≡ parts_of s (take n us) last
   pub records : ps ≡ records_of s (take n us)
 
--- what the last record of the log says, where a rewound ledger goes back one operation
+-- what the last record of the log says, as a rewound ledger goes back one operation
 pub latest : (s : Settings) (us : List Shadow) (m n : ℕ) (ls : List Links) (x : Index) (l : Log) (ps : List UndoParts) (r : UndoParts) →
     IsAt s us m ls x l → m ≡ n + 1 → l.parts ≡ ps ++ r ∷ [] → Latest s us n x ps r
 latest s us m n ls x l ps r at next popped =

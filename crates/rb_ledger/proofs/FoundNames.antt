@@ -1,4 +1,4 @@
--- What is at a position, and under a name that was found.
+-- The operation at a position, and under a name that was found.
 use Rattle.std.proofs.Common.{◌≡◌, ℕ, zero, suc, ◌-◌, ◌<◌, ◌≤◌, true, false, cond, List, [], ◌∷◌, length}
 use Rattle.std.proofs.Common.{get_or, refl, ap, sym, ◌∙◌, arith, ◌⊎◌, inl, inr, Some, None}
 use Rattle.std.specs.Prelude.{slice_get, ◌==◌, Option, option_map, option_and_then, unwrap_or}

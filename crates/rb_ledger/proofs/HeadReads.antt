@@ -1,4 +1,4 @@
--- What is read of the accounts' heads.
+-- Reads of the accounts' heads.
 use Rattle.std.proofs.Common.{◌≡◌, ℕ, zero, suc, ◌<◌, ◌≤◌, List, [], ◌∷◌, ◌++◌, length}
 use Rattle.std.proofs.Common.{get_or, refl, ap, ◌∙◌, arith, inl, Some, None}
 use Rattle.std.specs.Prelude.{slice_get, Option, option_map}

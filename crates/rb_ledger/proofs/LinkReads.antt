@@ -1,4 +1,4 @@
--- What is read of an account's links, and whether an operation is on an account.
+-- Reads of an account's links, and whether an operation is on an account.
 use Rattle.std.proofs.Common.{◌≡◌, ℕ, ◌+◌, ◌-◌, ◌<◌, ◌≤◌, Bool, true, false, cond, ◌||◌, List, ◌∷◌, length, take, drop}
 use Rattle.std.proofs.Common.{refl, ap, sym, ◌∙◌, subst, arith, inr, Some, None}
 use Rattle.std.specs.Prelude.{pos, slice_get, slice_index, ◌==◌}

@@ -1,4 +1,4 @@
--- What lists of links are after a change.
+-- Lists of links after a change.
 use Rattle.std.proofs.Common.{◌≡◌, ◌⊎◌, ℕ, zero, suc, ◌+◌, ◌-◌, ◌<◌, ◌≤◌, List, [], ◌∷◌, ◌++◌, length, map, take, get_or, set}
 use Rattle.std.proofs.Common.{refl, ap, sym, ◌∙◌, subst, arith, inl, inr, Some}
 use Rattle.std.specs.Prelude.{Option, option_map, option_to_list, slice_get, Bool, false}
@@ -37,7 +37,7 @@ one_with k n [] o are one = inr (one ∙ ap (λ i. i + 1) (sym are), ap (λ i. i
 one_with k n (p ∷ os) o (inl (is, are)) one = inl (is, one_with k n os o are one)
 one_with k n (p ∷ os) o (inr (is, are)) one = inr (is, one_with (k + 1) n os o are one)
 
--- without the last operation the numbers end before its own, or where they did
+-- without the last operation the numbers end before its own, or as they did
 pub all_but_last : (k n : ℕ) (os : List OwnLink) (o : OwnLink) → AreNumbered k (os ++ o ∷ []) n →
     ((o.second ≡ 0) × AreNumbered k os n) ⊎ ((m : ℕ) × (o.second ≡ m + 1) × (n ≡ m + 1) × AreNumbered k os m)
 unfolding AreNumbered

@@ -1,4 +1,4 @@
--- What an operation of the list moved, which is little.
+-- The money that an operation of the list moved, which is little.
 use Rattle.std.proofs.Common.{◌≡◌, ℕ, ◌+◌, ◌-◌, ◌≤◌, Bool, true, false, cond, List, take}
 use Rattle.std.proofs.Common.{refl, ap, sym, ◌∙◌, arith, Some, None}
 use Rattle.std.specs.Prelude.{ℤ, pos, neg_ℤ, ◌+ℤ◌, ◌≤ℤ◌, ◌==◌, Option, option_map}

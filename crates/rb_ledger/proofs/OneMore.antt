@@ -1,4 +1,4 @@
--- What one more operation moves, and the balances with it.
+-- The money that one more operation moves, and the balances with it.
 use Rattle.std.proofs.Common.{◌≡◌, ℕ, ◌+◌, ◌-◌, ◌≤◌, false, List, [], ◌∷◌, ◌++◌}
 use Rattle.std.proofs.Common.{ap, sym, ◌∙◌, subst, cond, true, arith, Some, None}
 use Rattle.std.specs.Prelude.{pos, neg_ℤ, ◌+ℤ◌}

@@ -1,4 +1,4 @@
--- What lists of operations are after a change.
+-- Lists of operations after a change.
 use Rattle.std.proofs.Common.{◌≡◌, ℕ, zero, suc, ◌+◌, ◌-◌, ◌<◌, ◌≤◌, List, [], ◌∷◌, ◌++◌, length, take, drop, get_or}
 use Rattle.std.proofs.Common.{refl, ap, sym, ◌∙◌, subst, arith, inl, inr, Some, None, true, false}
 use Rattle.std.proofs.Common.{length-take-le}
@@ -63,7 +63,8 @@ few_clocks k (b ∷ bs) (inl next, are) = omega (arith, next, few_clocks (b.cloc
 few_clocks k (b ∷ bs) (inr same, are) = omega (arith, same, few_clocks (b.clock + 1) bs are)
 
 -- an operation's clock is one of those
-pub clock_near : (k : ℕ) (bs : List KeptOperation) (i : ℕ) (b : KeptOperation) → AreInOrder k bs → slice_get bs i ≡ Some b → b.clock + 1 ≤ clock_count k bs
+pub clock_near : (k : ℕ) (bs : List KeptOperation) (i : ℕ) (b : KeptOperation) → AreInOrder k bs → slice_get bs i ≡ Some b →
+    b.clock + 1 ≤ clock_count k bs
 unfolding AreInOrder
 clock_near k [] i b are there = cc
 clock_near k (c ∷ bs) zero b (step, are) there =
@@ -77,7 +78,8 @@ count_more k [] b = refl
 count_more k (c ∷ bs) b = count_more (c.clock + 1) bs b
 
 -- there is one clock more than the last operation's number
-pub count_last : (k : ℕ) (bs : List KeptOperation) (b : KeptOperation) → slice_get bs (length bs - 1) ≡ Some b → clock_count k bs ≡ b.clock + 1
+pub count_last : (k : ℕ) (bs : List KeptOperation) (b : KeptOperation) → slice_get bs (length bs - 1) ≡ Some b →
+    clock_count k bs ≡ b.clock + 1
 count_last k [] b there = cc
 count_last k (c ∷ []) b there = ap (λ (o : Option KeptOperation). unwrap_or (option_map (λ (b : KeptOperation). b.clock + 1) o) 0) there
 count_last k (c ∷ d ∷ bs) b there =
@@ -90,7 +92,8 @@ at_most m n (inl next) = omega (arith, next)
 at_most m n (inr same) = omega (arith, same)
 
 -- one more operation, with the next clock or the last one
-order_more : (k : ℕ) (bs : List KeptOperation) (b : KeptOperation) → AreInOrder k bs → (b.clock ≡ clock_count k bs) ⊎ (b.clock + 1 ≡ clock_count k bs) →
+order_more : (k : ℕ) (bs : List KeptOperation) (b : KeptOperation) → AreInOrder k bs →
+    (b.clock ≡ clock_count k bs) ⊎ (b.clock + 1 ≡ clock_count k bs) →
     AreInOrder k (bs ++ b ∷ [])
 unfolding AreInOrder
 order_more k [] b are step = (step, tt)
@@ -138,7 +141,8 @@ own_red [] d e is near = absurd (omega (arith, near))
 own_red (n ∷ ms) d e is near = ap (λ (c : Deps). record { blue = c.blue; red = e }) is
 
 -- the kind of the operation at an index
-pub kind_at : (w : ℕ) (bs : List KeptOperation) (ns : List (List ℕ)) (i : ℕ) (b : KeptOperation) (d : Shadow) → i < length bs → b ≡ get_or bs i b →
+pub kind_at : (w : ℕ) (bs : List KeptOperation) (ns : List (List ℕ)) (i : ℕ) (b : KeptOperation) (d : Shadow) →
+    i < length bs → b ≡ get_or bs i b →
     b.kind ≡ (get_or (operations_of w bs ns) i d).kind
 kind_at w [] ns i b d near is = absurd (omega (arith, near))
 kind_at w (c ∷ bs) ns zero b d near is = ap (λ (x : KeptOperation). x.kind) is
@@ -155,7 +159,8 @@ same_operations w k (b ∷ bs) cs ds (step, are) many =
     ∙ ap (λ us. with_counts w b (get_or cs b.clock []) ∷ us) (same_operations w (b.clock + 1) bs cs ds are many)
 
 -- one more operation
-pub pushed : (w : ℕ) (bs : List KeptOperation) (cs ds : List (List ℕ)) (b : KeptOperation) → AreInOrder 0 bs → length cs ≡ clock_count 0 bs →
+pub pushed : (w : ℕ) (bs : List KeptOperation) (cs ds : List (List ℕ)) (b : KeptOperation) →
+    AreInOrder 0 bs → length cs ≡ clock_count 0 bs →
     operations_of w (bs ++ b ∷ []) (cs ++ ds) ≡ operations_of w bs cs ++ with_counts w b (get_or (cs ++ ds) b.clock []) ∷ []
 pushed w bs cs ds b are count =
     map_push (λ (b : KeptOperation). with_counts w b (get_or (cs ++ ds) b.clock [])) bs b
@@ -166,7 +171,8 @@ pub popped_order : (bs cs : List KeptOperation) (b : KeptOperation) → bs ≡ c
 popped_order bs cs b is are = (order_front 0 cs b (subst (AreInOrder 0) is are)).0
 
 -- as many clocks are there as are kept without the last operation
-pub popped_count : (bs cs : List KeptOperation) (b : KeptOperation) → bs ≡ cs ++ b ∷ [] → AreInOrder 0 bs → clock_count 0 cs ≤ clock_count 0 bs
+pub popped_count : (bs cs : List KeptOperation) (b : KeptOperation) → bs ≡ cs ++ b ∷ [] → AreInOrder 0 bs →
+    clock_count 0 cs ≤ clock_count 0 bs
 popped_count bs cs b is are = less (order_front 0 cs b (subst (AreInOrder 0) is are)).1
   where
     less : (b.clock ≡ clock_count 0 cs) ⊎ (b.clock + 1 ≡ clock_count 0 cs) → clock_count 0 cs ≤ clock_count 0 bs
@@ -219,7 +225,7 @@ whole_clock : (w : ℕ) (d : Deps) → IsOfSites w d → length d.blue ≡ MOST_
 whole_clock w d (limit, are) full = ap (λ n. take w d.blue ++ replicate (n - length (take w d.blue)) 0) (sym full)
     ∙ entries_back w limit d.blue are
 
--- a name is what is kept of it, where a blue one's site is the home
+-- a name is what is kept of it, if a blue one's site is the home
 name_again : (x : OpName) (home : ℕ) → is_foreign x home ≡ false → kept_name (shown_colour x) home (number_of x) ≡ x
 name_again (Blue i n) home own = ap (λ k. Blue k n) (let same : home ≡ i = grind (arith, nat_tests) in same)
 name_again (Red n) home own = refl
@@ -263,7 +269,7 @@ kept_whole w d x sites full own =
     ∙ ap (λ ks. record { blue = padded ks; red = d.red }) (take-take w w d.blue (omega arith))
     ∙ ap (λ ks. record { blue = ks; red = d.red }) (whole_clock w d sites full)
 
--- a clock is what is kept of another, where the two are the same but for the own entry
+-- a clock is what is kept of another, if the two are the same but for the own entry
 pub kept_same : (w : ℕ) (ns : List ℕ) (d : Deps) (x : OpName) → IsOfSites w d → length d.blue ≡ MOST_SITES →
     entry_of d x + 1 ≡ number_of x →
     ((m : ℕ) → slice_set ns (row_of x) m ≡ slice_set (d.red ∷ take w d.blue) (row_of x) m) →
@@ -308,6 +314,7 @@ of_sites s v w sound more =
     passed false h = sym h
 
 -- what a pop takes that finds one
-pub popped_kept : (r : Option KeptOperation) (bs cs : List KeptOperation) → bs ≡ cs ++ option_to_list r → true ≡ is_some r → (b : KeptOperation) × (bs ≡ cs ++ b ∷ [])
+pub popped_kept : (r : Option KeptOperation) (bs cs : List KeptOperation) → bs ≡ cs ++ option_to_list r → true ≡ is_some r →
+    (b : KeptOperation) × (bs ≡ cs ++ b ∷ [])
 popped_kept (Some b) bs cs is some = (b, is)
 popped_kept None bs cs is some = cc

@@ -109,7 +109,7 @@ IsChanged us h hs f g a new =
     ((is_on us h a ≡ true) × (((h.account ≡ a) × (f ≡ new)) ⊎ ((other_of us h.kind ≡ Some a) × (g ≡ new))))
     ⊎ ((is_on us h a ≡ false) × (slice_get hs a.0 ≡ Some new))
 
--- what is read where two accounts have other heads: that of the own account, of the second one, or of neither
+-- what is read if two accounts have other heads: that of the own account, of the second one, or of any other
 pub changed : (s : Settings) (us : List Shadow) (h : Shadow) (hs : List Head) (f g : Head) → IsConfigured s → IsValid s us →
     Legal.MayFollow s us h → length hs ≡ length s.starts
     → (a : Place) (new : Head) → slice_get (heads_at (unwrap_or (other_of us h.kind) NOWHERE).0 g (heads_at h.account.0 f hs)) a.0

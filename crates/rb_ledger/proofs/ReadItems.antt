@@ -1,4 +1,4 @@
--- What is read of lists, rows and options.
+-- Reads of lists, rows and options.
 use Rattle.std.proofs.Common.{◌≡◌, ℕ, zero, suc, ◌+◌, ◌-◌, ◌<◌, ◌≤◌, List, length, take}
 use Rattle.std.proofs.Common.{get_or, refl, ap, sym, ◌∙◌, arith, Some, None, Bor}
 use Rattle.std.specs.Prelude.{slice_get, Option}
@@ -14,7 +14,7 @@ read_at xs ys i j x same at read = ap (λ zs. slice_get zs j) (sym same) ∙ ap 
 pub read_item : {X : Type 0} (xs : List X) (i j m : ℕ) (x : X) → m ≡ length xs → i < m → i ≡ j → x ≡ get_or xs i x → slice_get xs j ≡ Some x
 read_item xs i j m x count near at read = ap (slice_get xs) (sym at) ∙ slice_get_read xs m i x count near read
 
--- what a pop leaves, where the list was one longer
+-- what a pop leaves, if the list was one longer
 pub shorter : {X : Type 0} (xs ys : List X) (m n : ℕ) → length xs ≡ n + 1 → m ≡ length xs → ys ≡ take (m - 1) xs → ys ≡ take n xs
 shorter xs ys m n long count is = is ∙ ap (λ k. take k xs) (let z : m - 1 ≡ n = omega (arith, long, count) in z)
 

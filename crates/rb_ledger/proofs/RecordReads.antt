@@ -1,4 +1,4 @@
--- What is read to make the record of an operation, where all the operations are there and not only those before it.
+-- Reads to make the record of an operation, if all the operations are there and not only those before it.
 use Rattle.std.proofs.Common.{◌≡◌, ℕ, ◌+◌, ◌-◌, List, take, drop, refl, ap, sym, ◌∙◌, subst}
 use Rattle.std.proofs.Common.{arith, inr, Some, None, length}
 use Rattle.std.proofs.Common.{length-take-le}

@@ -1,4 +1,4 @@
--- What a ledger's parts are for the list that its clients see.
+-- A ledger's parts, for the list that its clients see.
 use Rattle.std.proofs.Common.{◌≡◌, ℕ, List}
 use Rattle.std.proofs.Common.{subst, ap, sym, ◌∙◌}
 use Rattle.rb_money.specs.Settings.{Settings}

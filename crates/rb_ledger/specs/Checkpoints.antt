@@ -1,4 +1,4 @@
--- What checkpoints are: the last operations on the accounts, at regular points of the list.
+-- Checkpoints: the last operations on the accounts, at regular points of the list.
 use Rattle.std.specs.Prelude.{◌≡◌, ℕ, ◌+◌, ◌*◌, ◌<◌, ◌≤◌, List, length, take, slice_get, Some}
 use Rattle.rb_money.specs.Settings.{Settings}
 use Rattle.rb_money.specs.declared.place.Place.{Place}

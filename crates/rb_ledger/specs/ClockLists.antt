@@ -1,4 +1,4 @@
--- What lists of clocks are.
+-- Lists of clocks.
 use Rattle.std.specs.Prelude.{◌≡◌, ℕ, ◌+◌, ◌-◌, ◌%◌, ◌<◌, ◌≤◌, List, [], ◌∷◌, length, map, take, drop, slice_index}
 use Rattle.rb_ledger.specs.declared.counts.TheConstants.{LESS}
 

@@ -1,4 +1,4 @@
--- What lists of links are.
+-- Lists of links.
 use Rattle.std.specs.Prelude.{Bool, false, map, slice_set, ◌≡◌, ◌⊎◌, ℕ, zero, suc, ◌+◌, ◌==◌, if◌then◌else◌, List, [], ◌∷◌, slice_index_or}
 use Rattle.rb_money.specs.declared.place.Place.{Place}
 use Rattle.rb_ledger.specs.declared.marks.Link.{Link}
@@ -28,7 +28,7 @@ other_link ns o = record { balance = second_balance ns o.second; earlier = o.oth
 abbrev pub both_links : List ℕ → OwnLink → Links
 both_links ns o = record { own = own_link o; account = o.account; other = other_link ns o }
 
--- what is kept of an operation's links, where the balance on the second account has the number
+-- what is kept of an operation's links, if the balance on the second account has the number
 abbrev pub kept_link : Links → ℕ → OwnLink
 kept_link l n = record {
   balance = l.own.balance;
@@ -52,7 +52,8 @@ marked_at (suc i) b bs = slice_set bs i b
 abbrev pub link_at_place : Links → Place → Link
 link_at_place l a = if l.account.0 == a.0 then l.own else l.other
 
--- the operations with a balance on a second account are numbered in their order, from the first number plus 1 to the last
+-- the operations with a balance on a second account are numbered in their order, from the first number plus 1 to the
+-- last
 unfoldable pub AreNumbered : ℕ → List OwnLink → ℕ → Type 0
 AreNumbered first [] last = first ≡ last
 AreNumbered first (o ∷ os) last = ((o.second ≡ 0) × AreNumbered first os last) ⊎

@@ -1,4 +1,4 @@
--- What lists of operations are.
+-- Lists of operations.
 use Rattle.std.specs.Prelude.{◌≡◌, ◌⊎◌, true, ℕ, ◌+◌, ◌-◌, List, [], ◌∷◌, ◌++◌, length, map, take, drop, replicate}
 use Rattle.std.specs.Prelude.{slice_index, slice_index_or, slice_set}
 use Rattle.rb_money.specs.declared.limits.TheConstants.{MOST_SITES}

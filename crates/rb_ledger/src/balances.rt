@@ -12,7 +12,7 @@ use rb_money::Place;
 
 impl Ledger {
     /// The balance of the account, in cents: what it starts with, and what the operations moved that
-    /// neither cancel nor are cancelled. `None` where there is no such account.
+    /// neither cancel nor are cancelled. `None` if there is no such account.
     pub fn balance(&self, place: Place) -> Option<u64>
         ensures absent { IsNone result ↔ (length self.now.settings.starts ≤ place.0) }
         ensures sum { IfSome result (λ n. pos n ≡ bal self.now.settings self.now.entries place) }
@@ -22,7 +22,7 @@ impl Ledger {
         Some(head.balance)
     }
 
-    /// The balance of the account after the first `position` operations, in cents. `None` where there is no
+    /// The balance of the account after the first `position` operations, in cents. `None` if there is no
     /// such account.
     pub fn balance_after(&self, position: u32, place: Place) -> Option<u64>
         requires { position ≤ length self.now.entries }
@@ -34,9 +34,8 @@ impl Ledger {
         Some(self.balance_at(self.last_within(position, head.last, place), place))
     }
 
-    /// What the operation at the position, counted from 1, moved on an account when it was applied, in
-    /// cents: the balance as of it less the balance as of the one before. `None` where there is no such
-    /// position.
+    /// The cents that the operation at the position, counted from 1, moved on an account when it was applied: the
+    /// balance as of it less the balance as of the one before. `None` if there is no such position.
     pub fn moved(&self, position: u32, place: Place) -> Option<i64>
         ensures moved { result ≡ moved_at self.now.settings self.now.entries place position }
         ensures least { IfSome result (λ n. neg_ℤ (pos MOST_CENTS) ≤ℤ n) }
@@ -66,7 +65,7 @@ impl Ledger {
     }
 }
 
-/// What there was after an operation less what there was before it.
+/// The balance after an operation less the balance before it.
 fn net(after: u64, before: u64) -> i64
     requires after { after ≤ MOST_BALANCE }
     requires before { before ≤ MOST_BALANCE }

@@ -1,4 +1,4 @@
-//! What changes a ledger.
+//! Changes to a ledger.
 //!
 //! From 64 entries on the lists grow to 32,768 at once. The C library copies a list of 4 to 128 kilobytes as it grows,
 //! and the heap keeps a hole; a larger one is a mapping of its own, of which only what is used takes memory. That is
@@ -87,7 +87,7 @@ impl Ledger {
         self.checkpoints.pop(position);
     }
 
-    /// Reserves capacity for `additional` more operations. It takes no memory where there is enough.
+    /// Reserves capacity for `additional` more operations. It takes no memory if there is enough.
     /// `Err` means out of memory.
     pub fn reserve(&mut self, additional: usize) -> Result<(), AllocError>
         ensures settings { self.new.settings ≡ self.old.settings }
@@ -108,7 +108,7 @@ impl Ledger {
         }
     }
 
-    /// Takes memory for one more entry where there is no spare capacity. `Err` means out of memory.
+    /// Takes memory for one more entry if there is no spare capacity. `Err` means out of memory.
     #[inline(always)]
     fn make_room(&mut self) -> Result<(), AllocError>
         ensures settings { self.new.settings ≡ self.old.settings }
@@ -142,7 +142,7 @@ impl Ledger {
     }
 }
 
-/// For how many entries in all memory is taken where that for `count` is used up. From a few on it is for as many as
+/// For how many entries in all memory is taken if that for `count` is used up. From a few on it is for as many as
 /// make each list a mapping of its own at once, which grows without a copy and of which only what is used takes memory;
 /// the checkpoints, a byte an entry, become one later.
 fn next_limit(count: usize) -> usize

@@ -26,7 +26,7 @@ use std::alloc::{AllocError, Global};
 pub const OPERATIONS_PER_ENTRY: u32 = 4;
 
 /// Checkpoints of a list of operations: a row after each stride, which is `OPERATIONS_PER_ENTRY` operations for each
-/// account. A search back along an account begins at the next one. They belong to the whole list, also where the index
+/// account. A search back along an account begins at the next one. They belong to the whole list, even if the index
 /// is as of a position before its end.
 #[derive(Drop)]
 pub struct Checkpoints {
@@ -54,7 +54,7 @@ impl Checkpoints {
     }
 
     /// The position of the last operation on an account as of the first checkpoint that is as of `limit` operations or
-    /// more. `None` where there is no such checkpoint yet.
+    /// more. `None` if there is no such checkpoint yet.
     pub fn last_from(&self, limit: u32, place: Place) -> Option<u32>
         requires account { place.0 < self.now.accounts }
         requires rows { (n : ℕ) × (length self.now.lasts.items ≡ n * self.now.accounts) }
@@ -70,8 +70,8 @@ impl Checkpoints {
         self.lasts.get(index).copied()
     }
 
-    /// Adds the row that is due, if it is, where there are `count` operations, by the heads of the accounts. There is
-    /// spare capacity for it.
+    /// Adds the row that is due, if one is due at `count` operations, by the heads of the accounts. There is spare
+    /// capacity for it.
     #[inline(always)]
     pub fn push(&mut self, count: u32, heads: &[Head])
         requires there { (s : Settings) × (us : List TheShadow) × AreCheckpoints s us self.old }
@@ -106,7 +106,7 @@ impl Checkpoints {
         self.due += OPERATIONS_PER_ENTRY * self.accounts;
     }
 
-    /// Takes the last row out again where the last of `count` operations, which is taken out, completed it.
+    /// Takes the last row out again if the last of `count` operations, which is taken out, completed it.
     pub fn pop(&mut self, count: u32)
         requires { (s : Settings) × (us : List TheShadow) × AreCheckpoints s us self.old }
         ensures checkpoints { (s : Settings) (us : List TheShadow) (h : TheShadow) → IsConfigured s →

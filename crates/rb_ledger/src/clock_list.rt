@@ -20,14 +20,14 @@ use rb_shadow::{Deps, OpName, Shadow};
 use std::alloc::{AllocError, Global};
 use std::marker::Model;
 
-/// What is kept of clocks, each by its red entry and those of the first sites. An entry is kept in one byte, as what it
-/// is more than that of a base, which is that of the clock before if all entries fit, and else is kept anew. So there
-/// are at most as many bases as clocks.
+/// The entries that are kept of clocks: of each the red one and those of the first sites. An entry is kept in one byte,
+/// as what it is more than that of a base, which is that of the clock before if all entries fit, and else is kept anew.
+/// So there are at most as many bases as clocks.
 #[derive(Drop)]
 pub struct ClockList {
     /// The bases, one after another.
     bases: Vec<u32>,
-    /// For each clock, where its base begins.
+    /// For each clock, the index at which its base begins.
     starts: Vec<u32>,
     /// For each clock, one after another, by how much its entries are more than its base's.
     steps: Vec<u8>,
@@ -88,7 +88,7 @@ impl ClockList {
         self.sites
     }
 
-    /// What is kept of the clock at an index, from 0.
+    /// The counts that are kept of the clock at an index, from 0.
     #[inline(always)]
     pub fn at(&self, index: usize) -> KeptClock<'_>
         requires { index < length self.now.items }
@@ -114,7 +114,7 @@ impl ClockList {
         }
     }
 
-    /// The number, from 0, of an operation's clock among those that are kept. It is that of the last one, where the two
+    /// The number, from 0, of an operation's clock among those that are kept. It is that of the last one, if the two
     /// differ in the operation's own entry alone, which is implied; else the clock is kept behind the others, in spare
     /// capacity.
     #[inline(always)]

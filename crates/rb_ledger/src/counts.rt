@@ -1,4 +1,4 @@
-//! What is kept of clocks.
+//! The counts that are kept of clocks.
 //!
 //! The entries of up to three sites are copied one by one, and of more sites by a call, which takes 5 to 17
 //! instructions more.

@@ -21,9 +21,8 @@ use rb_undo::UndoParts;
 use rb_vclock::Clock;
 use std::alloc::{AllocError, Global};
 
-/// What is read of a list of operations, so that no look-up, check, application or undo walks it. It changes
-/// in place with each operation that comes to the end of the list or leaves it. The list itself is
-/// kept elsewhere.
+/// The index of a list of operations, by which no look-up, check, application or undo walks it. It changes in place
+/// with each operation that comes to the end of the list or leaves it. The list itself is kept elsewhere.
 #[derive(Drop)]
 pub struct Index {
     /// The configuration, under which the list is valid.
@@ -116,7 +115,7 @@ impl Index {
         self.cancels[index as usize].count > 0
     }
 
-    /// The running balance of an account, in cents, or 0 where there is no such account.
+    /// The running balance of an account, in cents, or 0 if there is no such account.
     fn balance(&self, place: Place) -> u64
         ensures { result ≡ (slice_index_or self.now.heads.items place.0 no_head).balance }
     {
@@ -127,7 +126,7 @@ impl Index {
         self.heads[index].balance
     }
 
-    /// What is kept to undo a shadow that may follow, as the next operation after those before.
+    /// The parts of the record that undoes a shadow, which may follow as the next operation after those before.
     #[inline(always)]
     pub fn parts(&self, before: &Prefix<'_>, shadow: &Shadow) -> UndoParts
         requires index { IsIndex self.now.config before.now self.now }
@@ -206,7 +205,7 @@ pub fn other_at(before: &Prefix<'_>, kind: Kind, target: u32) -> Option<Place>
     }
 }
 
-/// Gives an account another last entry: its position, or 0 for none, and the balance after it. Nothing changes where
+/// Gives an account another last entry: its position, or 0 for none, and the balance after it. Nothing changes if
 /// there is no such account.
 fn set_head(heads: &mut Vec<Head>, place: Place, last: u32, balance: u64)
     ensures { heads.new.items ≡ heads_at place.0 (record { last = last; balance = balance }) heads.old.items }
@@ -230,7 +229,7 @@ fn starting_heads(alloc: Global, config: &Config) -> Result<Vec<Head>, AllocErro
     Ok(heads)
 }
 
-/// What an account starts with, in cents.
+/// The balance that an account starts with, in cents.
 pub fn start(config: &Config, place: Place) -> u64
     requires { place.0 < length config.now.starts }
     ensures { result ≡ slice_index config.now.starts place.0 }

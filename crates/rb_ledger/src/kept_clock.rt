@@ -1,4 +1,6 @@
-//! A clock, where a list keeps it.
+//! A clock as a list keeps it.
+//!
+//! It borrows its base and its steps from the list, and a count is added up as it is read: no clock is copied.
 ghost use Rattle.std.specs.Prelude.{◌≡◌, ◌+◌, ◌<◌, ◌≤◌, length, slice_index};
 ghost use Rattle.rb_money.specs.declared.limits.TheConstants.{MOST_SITES};
 ghost use Rattle.rb_ledger.specs.declared.counts.TheConstants.{FEW_SITES};
@@ -6,7 +8,7 @@ ghost use Rattle.rb_ledger.specs.declared.counts.TheConstants.{FEW_SITES};
 use crate::counts::FEW_SITES;
 use std::marker::Model;
 
-/// What a list keeps of a clock: its red entry, and then those of the first sites. Clients see these counts.
+/// The part of a clock that a list keeps: its red entry, and then those of the first sites. Clients see these counts.
 #[derive(Drop)]
 pub struct KeptClock<'a> {
     pub base: &'a [u32],

@@ -1,4 +1,4 @@
-//! What an operation is beside its clock's entries.
+//! An operation without its clock's entries.
 ghost use Rattle.std.specs.Prelude.{◌≡◌, IsTrue};
 ghost use Rattle.rb_shadow.specs.Operations.{number_of, shown_colour};
 ghost use Rattle.rb_ledger.specs.OperationLists.{kept_name};

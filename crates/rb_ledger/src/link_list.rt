@@ -31,7 +31,7 @@ pub struct OwnLink {
     pub balance: u64,
     /// The position of the last operation before it on its own account, or 0.
     pub earlier: u32,
-    /// The same of its second account, or 0 where there is none.
+    /// The same of its second account, or 0 if there is none.
     pub other_earlier: u32,
     /// The number, from 1, of the balance on its second account, or 0.
     pub second: u32,
@@ -116,7 +116,7 @@ impl LinkList {
         own.other_earlier
     }
 
-    /// Whether the operation at an index, from 0, is cancelled, or `false` where there is none.
+    /// Whether the operation at an index, from 0, is cancelled, or `false` if there is none.
     #[inline(always)]
     pub fn is_cancelled(&self, index: usize) -> bool
         ensures { result ≡ slice_index_or self.now.cancelled index false }
@@ -193,7 +193,7 @@ impl LinkList {
 }
 
 impl OwnLink {
-    /// What is kept of the links, where the balance on the second account has the number.
+    /// The kept form of the links, with the number of the balance on the second account.
     #[inline(always)]
     fn new(links: &Links, second: u32) -> OwnLink
         ensures { result ≡ kept_link links.now second }

@@ -1,4 +1,7 @@
 //! The entries on an account, from the last back.
+//!
+//! An entry has a link to the one before it on each of its accounts, so a statement reads the entries of its account
+//! alone. A search as of a position begins at the next checkpoint, in place of the end of the list.
 ghost use Rattle.std.specs.Prelude.{◌≡◌, ◌≤◌, ◌<◌, ◌-◌, length, take, Some, [], ◌∷◌, ◌++◌};
 ghost use Rattle.rb_money.specs.Settings.{IsConfigured};
 ghost use Rattle.rb_ledger.specs.Valid.{IsValid, parts_of};
@@ -12,7 +15,7 @@ use rb_shadow::Shadow;
 use rb_undo::UndoParts;
 
 impl Ledger {
-    /// The position of the last operation on the account, or 0 where none is on it.
+    /// The position of the last operation on the account, or 0 if none is on it.
     pub fn last_on(&self, place: Place) -> u32
         ensures last { IsLast self.now.entries place result }
         ensures within { result ≤ length self.now.entries }
@@ -24,7 +27,7 @@ impl Ledger {
     }
 
     /// The position of the last operation on the account before the one at the position, which is on it.
-    /// It is 0 where there is none.
+    /// It is 0 if there is none.
     #[inline(always)]
     pub fn earlier(&self, position: u32, place: Place) -> u32
         requires on { IsOn self.now.entries place position }

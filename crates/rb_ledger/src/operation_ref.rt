@@ -1,4 +1,7 @@
-//! An operation, where a list keeps it.
+//! An operation as a list keeps it.
+//!
+//! It is lent, since a plan of a cancellation and a statement read two fields of one. Its clock is put together only if
+//! the whole operation is asked for.
 ghost use Rattle.std.specs.Prelude.{◌≡◌};
 
 use crate::clock_list::ClockList;

@@ -1,4 +1,6 @@
 //! The first operations of a list.
+//!
+//! A rewound ledger keeps its whole list, and its index is that of the operations up to its position: a prefix.
 ghost use Rattle.std.specs.Prelude.{◌≡◌, ◌<◌, length, slice_index_or};
 ghost use Rattle.rb_shadow.specs.declared.shadow.Shadow.{Shadow as TheShadow};
 ghost use Rattle.rb_shadow.specs.Operations.{receiver_of};

@@ -13,7 +13,7 @@ use rb_undo::UndoParts;
 
 impl Ledger {
     /// The record to undo the operation at a position, counted from 1: that of the operations before it. It is made
-    /// from what is kept beside the operations, in a bounded number of steps. `None` where there is no such position.
+    /// from what is kept beside the operations, in a bounded number of steps. `None` if there is no such position.
     pub fn record(&self, position: u32) -> Option<UndoParts>
         ensures { result ≡ record_at self.now.settings self.now.entries position }
     {
@@ -51,7 +51,7 @@ impl Ledger {
         self.balance_at(link.earlier, place)
     }
 
-    /// The same of the second account, or 0 where there is none.
+    /// The same of the second account, or 0 if there is none.
     fn second_before(&self, position: u32, second: Option<Place>) -> u64
         requires valid { IsValid self.now.settings self.now.entries }
         requires on { IfSome second (λ place. IsOn self.now.entries place position) }

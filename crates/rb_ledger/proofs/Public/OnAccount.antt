@@ -107,7 +107,7 @@ none_in_front us n a p all i u there own = let (near, here) = Fronts.get_take n 
 
 -- ---- as of the last entry on an account
 
--- what no entry of other accounts changes is as it was, where no entry after a position is on the account
+-- what no entry of other accounts changes is as it was, if no entry after a position is on the account
 unmoved : {V : Type 0} (f : List Shadow → V) (us : List Shadow) (a : Place) (p d : ℕ) →
     ((i : ℕ) (u : Shadow) → slice_get us i ≡ Some u → is_on (take i us) u a ≡ false → f (take (i + 1) us) ≡ f (take i us))
     → p + d ≤ length us → IsNoneAfter (take (p + d) us) a p → f (take (p + d) us) ≡ f (take p us)
