@@ -167,7 +167,7 @@ row_read lists held slice r h same e = e ∙ ap (filter (is_of r)) (sym same) �
 held_numbered : (lists : List (List Shadow)) (u : Shadow) → AreHeldRows 0 lists → Among u (held_of lists) → IsNumbered u
 held_numbered lists u h a = (row_at lists (row_of u.name) h).numbered u (among_row lists u h a)
 
--- what is held is in a row, where its name says that
+-- what is held is in a row, if its name says that
 in_row : (lists : List (List Shadow)) (r : ℕ) (u : Shadow) → AreHeldRows 0 lists → Among u (held_of lists) → row_of u.name ≡ r
     → Among u (get_or lists r [])
 in_row lists r u h a e = subst (λ k. Among u (get_or lists k [])) e (among_row lists u h a)

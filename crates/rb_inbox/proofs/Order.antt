@@ -150,7 +150,7 @@ find-index (u ∷ us) x d h l = at (comes_before u.name x) refl l (find-index us
         here true q = refl
         here false q = before_all-find x us (before_all-trans x u.name us (before-other_way u.name x q e) h.0)
 
--- the same, where a read of the place gives an operation of the name, or of another
+-- the same, if a read of the place gives an operation of the name, or of another
 pub find-same : (us : List Shadow) (x : OpName) (u : Shadow) → IsInOrder us → held_before us x < length us →
     u ≡ get_or us (held_before us x) u → u.name ≡ x → Some u ≡ find_in us x
 find-same us x u h l e q =

@@ -1,4 +1,4 @@
--- What is held, and what can be.
+-- The shadows that are held, and those that can be.
 use Rattle.std.proofs.Common.{refl, ap, sym, ◌≡◌, ◌∙◌, ◌≤◌, Bool, true, false, cond, ◌||◌, ◌&&◌, List, [], ◌∷◌, ◌⊎◌, inl, inr, arith}
 use Rattle.std.proofs.lemmas.Bool.Decides.{nat_tests}
 use Rattle.rb_money.specs.Settings.{Settings}

@@ -1,4 +1,4 @@
--- What is ready in a row.
+-- The shadows of a row that are ready.
 use Rattle.std.proofs.Common.{◌≡◌, ℕ, suc, zero, ◌+◌, ◌<◌, Bool, true, false, cond, ◌&&◌, List, [], ◌∷◌, length, drop, refl, ap, sym, ◌∙◌}
 use Rattle.std.proofs.Common.{arith, ◌⊎◌, inl, inr, subst, get_or}
 use Rattle.std.specs.Prelude.{Some, filter, nat_le, slice_index}

@@ -37,7 +37,8 @@ earlier_home (Some u) v = if nat_le u.home v.home then u else v
 abbrev pub NoBlue : List Shadow → Deps → ℕ → Type 0
 NoBlue us c end = (u : Shadow) → Among u us → IsReady c u → 1 ≤ row_of u.name → end ≤ row_of u.name
 
--- the operation of the name is blue, in a row before this one, and ready; it is applied before each other ready blue one
+-- the operation of the name is blue, in a row before this one, and ready; it is applied before each other ready blue
+-- one
 pub record IsFirstBlue (us : List Shadow) (c : Deps) (end : ℕ) (x : OpName) : Type 0 where
   pub blue : Shadow
   pub found : find_in us x ≡ Some blue

@@ -2,7 +2,7 @@
 //!
 //! Held shadows are in a row for each home and one for red, free slots in front, so what comes backwards moves nothing.
 //! A row grows by doubling, and keeps its memory when it empties: giving that back takes 5 % more time for 4 % of the
-//! peak. What is held is compared with the clock itself, as a copy of the clock takes 10 instructions for each home.
+//! peak. Held shadows are compared with the clock itself, as a copy of the clock takes 10 instructions for each home.
 ghost use Rattle.std.specs.Prelude.{◌≡◌, ◌≢◌, ◌⊎◌, ◌==◌, ℕ, ◌+◌, ◌<◌, ◌≤◌, [], ◌++◌, filter, length, replicate, IfErr};
 ghost use Rattle.std.specs.Prelude.{IfNone, IfOk, IfSome, OnErr, OnOk, Some, None, Ok, Err};
 ghost use Rattle.std.specs.Bool.{OnFalse, OnTrue};
@@ -60,7 +60,7 @@ impl Inbox {
     ///
     /// A sound shadow meets the condition.
     ///
-    /// Errors: `Conflict` where another shadow is held under its name; `InboxFull` where the limit is
+    /// Errors: `Conflict` if another shadow is held under its name; `InboxFull` if the limit is
     /// reached and it isn't ready; `OutOfMemory`. Each leaves the inbox as it was.
     pub fn put(&mut self, shadow: Shadow, clock: &Clock) -> Result<PutAnswer, Refusal>
         requires { IsNumbered shadow }
@@ -112,7 +112,7 @@ impl Inbox {
 
     /// The answer that `put` would give if there is memory. Nothing changes.
     ///
-    /// Errors: `Conflict` and `InboxFull`, where `put` has them.
+    /// Errors: `Conflict` and `InboxFull`, as `put` has them.
     pub fn check(&self, shadow: &Shadow, clock: &Clock) -> Result<PutAnswer, Refusal>
         ensures welcome { result ≡ Ok PutAnswer.Held → IsWelcome self.now clock.now shadow.now }
         ensures already { result ≡ Ok PutAnswer.Already → find_in self.now.held shadow.now.name ≡ Some shadow.now }
@@ -221,7 +221,7 @@ impl Inbox {
 
     /// Takes out the shadow that is held under the name and is ready at the clock.
     ///
-    /// Errors: `NotHeld` where there is none of the name; `NotReady` where there is, but it isn't ready.
+    /// Errors: `NotHeld` if there is none of the name; `NotReady` if there is, but it isn't ready.
     /// Each leaves the inbox as it was.
     #[tactic(auto, unfolding(rb_shadow::specs::Operations::past))]
     pub fn take(&mut self, name: OpName, clock: &Clock) -> Result<Shadow, Refusal>
@@ -263,7 +263,7 @@ impl Inbox {
         self.count
     }
 
-    /// The held blue shadows of a site, in rising order of number: none where there is no such site.
+    /// The held blue shadows of a site, in rising order of number: none if there is no such site.
     pub fn blue_row(&self, site: u8) -> &[Shadow]
         ensures held { result.now ≡ filter (λ u. is_blue_of u.name site) self.now.held }
         ensures in_order { IsInOrder result.now }

@@ -1,6 +1,6 @@
-//! What an inbox answers to a shadow.
+//! Answers of an inbox to a shadow.
 
-/// What became of a shadow that was put into an inbox.
+/// The outcome of putting a shadow into an inbox.
 #[derive(Clone, Copy, Debug, PartialEq, Eq)]
 pub enum PutAnswer {
     /// It is held from now on.

@@ -1,13 +1,15 @@
 //! Rows of shadows.
+//!
+//! A row has free slots before it, so that at either end a shadow is put in or taken out without a move of the others.
+//! The slots that are made or given up at a time grow with the row: such a call costs a constant number of moves, on
+//! average.
 ghost use Rattle.std.specs.Prelude.{◌≡◌, ◌<◌, ◌≤◌, [], length, insert, remove, OnErr, OnOk};
 
 use rb_shadow::Shadow;
 use std::alloc::{AllocError, Global};
 use std::marker::Model;
 
-/// Shadows in a row, behind free slots: at either end one is put in or taken out without a move of the
-/// others. The slots that are made or given up at a time grow with the row, so that a call costs
-/// a constant number of moves, on average.
+/// Shadows in a row, behind free slots.
 #[derive(Drop)]
 pub struct Row {
     slots: Vec<Shadow>,
@@ -94,7 +96,7 @@ impl Row {
         }
     }
 
-    /// Gives up the free slots where there is no memory for more slots, and as many are free as not.
+    /// Gives up the free slots if there is no memory for more slots, and as many are free as not.
     #[inline(always)]
     fn make_room(&mut self)
         ensures { self.new ≡ self.old }
