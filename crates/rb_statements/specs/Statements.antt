@@ -1,4 +1,4 @@
--- What a statement shows.
+-- Statements of accounts, and balances as of a position.
 use Rattle.std.specs.Prelude.{ℕ, ◌+◌, if◌then◌else◌, not, nat_lt, List, [], ◌∷◌, ◌++◌, length, take, Result, Ok, Err, ◌+ℤ◌, neg_ℤ}
 use Rattle.rb_money.specs.Amounts.{cents}
 use Rattle.rb_money.specs.Settings.{Settings, is_account, start_of}

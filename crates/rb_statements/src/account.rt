@@ -8,7 +8,7 @@ use std::alloc::{AllocError, Global};
 /// An account's start, its entries and its balance.
 #[derive(Debug, Drop)]
 pub struct Statement {
-    /// What the account started with, in cents.
+    /// The balance that the account started with, in cents.
     pub start: u64,
     /// One row for each entry on the account, in order.
     pub rows: List<Row>,

@@ -10,7 +10,7 @@ pub struct Row {
     pub name: OpName,
     /// The entry's kind.
     pub kind: Label,
-    /// What the entry moved on the statement's account when it was applied, in cents.
+    /// The cents that the entry moved on the statement's account when it was applied.
     pub moved: i64,
     /// Whether some entry of the ledger cancels it.
     pub cancelled: bool,
