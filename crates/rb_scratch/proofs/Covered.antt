@@ -1,4 +1,4 @@
--- What is planned and allowed leaves no account less than nothing.
+-- An operation that is planned and allowed leaves no account less than nothing.
 use Rattle.std.proofs.Common.{◌≡◌, ℕ, Bool, true, false, cond, ◌&&◌, List, [], ◌∷◌, ◌++◌, length, refl, ap, sym}
 use Rattle.std.proofs.Common.{◌∙◌, arith, subst, Some, None, inl, inr}
 use Rattle.std.specs.Prelude.{pos, neg_ℤ, ◌+ℤ◌, ◌≤ℤ◌, nat_le, ◌==◌, option_and_then, is_some, int_lt}

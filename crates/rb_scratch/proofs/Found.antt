@@ -1,4 +1,4 @@
--- What is found by its name.
+-- Operations that are found by their names.
 use Rattle.rb_money.specs.Refusals.{unless}
 use Rattle.std.proofs.Common.{◌≡◌, ℕ, Bool, true, false, cond, not, List, refl, ap, sym, ◌∙◌, Option, Some, None, Result, Ok, Err}
 use Rattle.std.proofs.Common.{rules}

@@ -1,4 +1,4 @@
--- What is made, step by step.
+-- The making of an operation, step by step.
 use Rattle.std.proofs.Common.{◌≡◌, ℕ, ◌≤◌, ◌<◌, true, false, cond, List, ap, sym, ◌∙◌, Ok, Err}
 use Rattle.std.specs.Prelude.{nat_lt}
 use Rattle.rb_money.specs.Settings.{Settings}

@@ -1,4 +1,4 @@
--- What a request of a batch makes, by what it makes by itself.
+-- The operation that a request of a batch makes, by the one that it makes by itself.
 use Rattle.std.proofs.Common.{◌≡◌, ℕ, Bool, true, false, cond, List, refl, ap, ◌∙◌}
 use Rattle.std.specs.Prelude.{Result, Ok, Err}
 use Rattle.rb_money.specs.Refusals.{and_then}

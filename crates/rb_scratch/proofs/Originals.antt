@@ -1,4 +1,4 @@
--- What an operation does to every balance is what the published bank does.
+-- An operation does to every balance what the published bank does.
 use Rattle.rb_scratch.proofs.Found.{plan_of_cancel}
 use Rattle.std.proofs.Common.{◌≡◌, ℕ, Bool, true, false, cond, not, ◌&&◌, List, [], ◌∷◌, ◌++◌, refl, ap, sym, ◌∙◌, Option, Some, None}
 use Rattle.std.proofs.Common.{Result, Ok, Err}
@@ -162,7 +162,7 @@ granted s us (AskCancel x) p e = (plan_of_target s us x p e).kind
 granted s us (AskTransfer a c n) p e = sym (ap (λ (q : Plan). q.kind) (plan_of_transfer s us a c n p e))
     ∙ declined_if_not (int_lt (bal s us a) (pos n)) (Transfer c)
 
--- the kind of what was made, where it is known by another name
+-- the kind of what was made, if it is known by another name
 pub of_kind : (made : Result Shadow Refusal) (k g : Kind) → IfOk made (λ v. v.kind ≡ k) → k ≡ g → IfOk made (λ v. v.kind ≡ g)
 of_kind (Ok v) k g h e = h ∙ e
 of_kind (Err why) k g h e = tt

@@ -1,4 +1,4 @@
--- What a request's plan says.
+-- Facts of a request's plan.
 use Rattle.rb_scratch.proofs.Found.{plan_of_cancel}
 use Rattle.std.proofs.Common.{◌≡◌, ℕ, Bool, true, false, cond, not, List, refl, subst, Option, Some, None, Result, Ok}
 use Rattle.std.specs.Prelude.{nat_lt, ◌==◌, pos, int_lt}

@@ -1,4 +1,4 @@
--- Where an operation is found.
+-- The position at which an operation is found.
 use Rattle.std.proofs.Common.{◌≡◌, ℕ, ◌+◌, ◌≤◌, Bool, true, false, cond, ◌||◌, List, [], ◌∷◌, refl, suc, ap, ◌∙◌, arith, Some, None, subst}
 use Rattle.std.specs.Prelude.{◌-◌, slice_get}
 use Rattle.rb_money.proofs.Public.Tests.{positive}

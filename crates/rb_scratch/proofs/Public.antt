@@ -1,4 +1,4 @@
--- What other crates cite.
+-- Facts that other crates cite.
 pub mod Batches
 pub mod Errors
 pub mod Fits

@@ -1,4 +1,4 @@
--- What is tried on a ledger, operation by operation.
+-- Trials on a ledger, operation by operation.
 use Rattle.std.proofs.Common.{◌≡◌, ℕ, ◌-◌, List, [], ◌∷◌, ◌++◌, length, drop, refl, ap, sym, ◌∙◌, arith, append_assoc, length-append, ◌⊎◌}
 use Rattle.std.proofs.Common.{inl, inr}
 use Rattle.std.proofs.lemmas.List.{append-nil}
@@ -104,7 +104,7 @@ last_made base made book records n tried e =
     in
     ap (drop n) tried.entries ∙ ap (λ k. drop k (base ++ made)) at ∙ drop-append_seam base made
 
--- what may be added is refused only where memory runs out
+-- what may be added is refused only if memory runs out
 pub no_memory : (s : Settings) (us : List Shadow) (h : Shadow) (why : Refusal) (n : ℕ) → IsValid s (us ++ h ∷ []) →
     (refusal_of s us h ≡ Some why) ⊎ ((why ≡ OutOfMemory) × (refusal_of s us h ≡ None) × (n ≡ 0)) → why ≡ OutOfMemory
 no_memory s us h why n valid (inl e) =

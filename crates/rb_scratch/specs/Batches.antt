@@ -1,4 +1,4 @@
--- What a batch of requests makes.
+-- The operations that the requests of a batch make.
 use Rattle.std.specs.Prelude.{ℕ, ◌+◌, if◌then◌else◌, List, [], ◌∷◌, ◌++◌, map, Result, Ok, Err}
 use Rattle.rb_money.specs.Refusals.{and_then, number_of_refusal}
 use Rattle.rb_money.specs.Settings.{Settings}

@@ -1,4 +1,4 @@
--- What a generator decides on a request.
+-- Decisions of a generator on a request.
 use Rattle.rb_shadow.specs.Operations.{colour_in}
 use Rattle.std.specs.Prelude.{◌≡◌, List, Result, Ok, Err, MatchResult, IfOk}
 use Rattle.rb_money.specs.Settings.{Settings}

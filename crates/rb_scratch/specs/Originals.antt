@@ -16,15 +16,15 @@ use Rattle.rb_scratch.specs.Requests.{interest_on}
 abbrev pub after_deposit : (Place → ℤ) → Place → ℕ → Place → ℤ
 after_deposit b a x = λ q. b q +ℤ (if a.0 == q.0 then pos x else pos 0)
 
--- a withdrawal, and a transfer, is granted where there is enough
+-- a withdrawal, and a transfer, is granted if there is enough
 abbrev pub grants : (Place → ℤ) → Place → ℕ → Bool
 grants b a x = not (int_lt (b a) (pos x))
 
--- the balances after an amount is taken from an account, where there is enough
+-- the balances after an amount is taken from an account, if there is enough
 abbrev pub after_withdraw : (Place → ℤ) → Place → ℕ → Place → ℤ
 after_withdraw b a x = λ q. b q +ℤ (if grants b a x && (a.0 == q.0) then neg_ℤ (pos x) else pos 0)
 
--- the balances after an amount goes from an account to another, where there is enough
+-- the balances after an amount goes from an account to another, if there is enough
 abbrev pub after_transfer : (Place → ℤ) → Place → Place → ℕ → Place → ℤ
 after_transfer b a c x = λ q. b q +ℤ (if grants b a x then (if a.0 == q.0 then neg_ℤ (pos x) else (if c.0 == q.0 then pos x else pos 0))
     else pos 0)

@@ -1,4 +1,4 @@
--- What the records of a scratch are.
+-- The records of a scratch.
 use Rattle.std.specs.Prelude.{List}
 use Rattle.rb_undo.specs.declared.parts.UndoParts.{UndoParts}
 

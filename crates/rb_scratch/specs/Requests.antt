@@ -1,4 +1,4 @@
--- What a request makes.
+-- The operations that requests make.
 use Rattle.std.specs.Prelude.{ℕ, ℤ, ◌+◌, if◌then◌else◌, not, ◌&&◌, nat_lt, ◌==◌, List, Result, Ok, Err, pos, int_lt}
 use Rattle.std.specs.Prelude.{is_some}
 use Rattle.rb_money.specs.Amounts.{cents, is_amount, interest}

@@ -1,4 +1,4 @@
--- What is tried on a ledger: the requests of a batch, one by one.
+-- The requests of a batch that are tried on a ledger, one by one.
 use Rattle.std.specs.Prelude.{◌≡◌, ◌≤◌, ◌<◌, ℕ, List, [], ◌∷◌, ◌++◌, length, ◌⊎◌, Result, Ok, Err, OnOk, OnErr}
 use Rattle.std.specs.Borrow.{Fml, GName, RattleType, MutBor, follows_so}
 use mathlib.Core.Option as maybe

@@ -1,10 +1,10 @@
-//! What a request would do.
+//! Effects of requests.
 
 use rb_money::Place;
 use rb_shadow::{Colour, Kind};
 
-/// What a generator decided on a request: the account, the amount in cents, the kind and the
-/// colour of the operation that it would make.
+/// The decision of a generator on a request: the account, the amount in cents, the kind and the colour of the
+/// operation that it would make.
 #[derive(Clone, Copy)]
 pub struct Effect {
     pub account: Place,

@@ -24,7 +24,7 @@ use rb_money::{Amount, Cents, Place, Rate, Refusal, interest_of};
 use rb_shadow::{Colour, Kind, OpName, Shadow};
 use rb_token::TokenView;
 
-/// What a deposit would do.
+/// The effect of a deposit.
 #[tactic(auto, unfolding(crate::specs::Requests::plan_of))]
 fn deposit(ledger: &Ledger, account: Place, amount: u64) -> Result<Effect, Refusal>
     ensures plan { IsDecision ledger.now.settings ledger.now.entries (AskDeposit account amount) result }
@@ -42,7 +42,7 @@ fn deposit(ledger: &Ledger, account: Place, amount: u64) -> Result<Effect, Refus
     })
 }
 
-/// What a withdrawal would do: it is declined where the balance is below it.
+/// The effect of a withdrawal: it is declined if the balance is below it.
 #[tactic(auto, unfolding(crate::specs::Requests::plan_of))]
 fn withdrawal(ledger: &Ledger, account: Place, amount: u64) -> Result<Effect, Refusal>
     ensures plan { IsDecision ledger.now.settings ledger.now.entries (AskWithdraw account amount) result }
@@ -65,7 +65,7 @@ fn withdrawal(ledger: &Ledger, account: Place, amount: u64) -> Result<Effect, Re
     })
 }
 
-/// What a transfer would do: it is declined where the balance that it leaves is below it.
+/// The effect of a transfer: it is declined if the balance that it leaves is below it.
 #[tactic(auto, unfolding(crate::specs::Requests::plan_of))]
 fn transfer(ledger: &Ledger, from: Place, to: Place, amount: u64) -> Result<Effect, Refusal>
     ensures plan { IsDecision ledger.now.settings ledger.now.entries (AskTransfer from to amount) result }
@@ -95,7 +95,7 @@ fn transfer(ledger: &Ledger, from: Place, to: Place, amount: u64) -> Result<Effe
     })
 }
 
-/// What interest would do.
+/// The effect of interest.
 #[tactic(auto, unfolding(crate::specs::Requests::plan_of))]
 fn interest(ledger: &Ledger, account: Place, rate: u32) -> Result<Effect, Refusal>
     ensures plan { IsDecision ledger.now.settings ledger.now.entries (AskInterest account rate) result }
@@ -114,7 +114,7 @@ fn interest(ledger: &Ledger, account: Place, rate: u32) -> Result<Effect, Refusa
     })
 }
 
-/// What a cancellation would do.
+/// The effect of a cancellation.
 #[tactic(auto, unfolding(crate::specs::Requests::plan_of))]
 fn cancellation(ledger: &Ledger, target: OpName) -> Result<Effect, Refusal>
     ensures plan { IsDecision ledger.now.settings ledger.now.entries (AskCancel target) result }
@@ -129,7 +129,7 @@ fn cancellation(ledger: &Ledger, target: OpName) -> Result<Effect, Refusal>
     })
 }
 
-/// What the request would do, decided on the ledger as it is, or why it is refused.
+/// The effect of the request, decided on the ledger as it is, or why it is refused.
 #[inline(always)]
 pub(crate) fn decide(ledger: &Ledger, request: &Request) -> Result<Effect, Refusal>
     ensures plan { IsDecision ledger.now.settings ledger.now.entries request.now result }
@@ -221,9 +221,9 @@ fn permit_red(ledger: &Ledger, token: &TokenView, shadow: &Shadow) -> Result<(),
     Ok(())
 }
 
-/// What an effect that was decided on a request makes at the token's site. Nothing changes. It may be
-/// refused with `NumbersExhausted`, and a red one with `NeedToken` or `RedBehind`, a red cancellation then
-/// with `WouldOverdraw`.
+/// The operation that an effect, decided on a request, makes at the token's site. Nothing changes. It may be refused
+/// with `NumbersExhausted`, and a red one with `NeedToken` or `RedBehind`, a red cancellation then with
+/// `WouldOverdraw`.
 #[inline(always)]
 pub(crate) fn carry_out(
     ledger: &Ledger,
@@ -252,8 +252,8 @@ pub(crate) fn carry_out(
     Ok(shadow)
 }
 
-/// What the request makes at the token's site, whose ledger this is: the operation that every site
-/// is to apply. Nothing changes.
+/// The operation that the request makes at the token's site, whose ledger this is, and that every site is to apply.
+/// Nothing changes.
 ///
 /// After "Defining shadow operations" of the published paper: a generator runs at the submitting
 /// site, decides, and has no side effects. A withdrawal or a transfer above the balance makes a declined one.

@@ -1,4 +1,4 @@
-//! What a request of a batch makes.
+//! The operations that the requests of a batch make.
 ghost use Rattle.std.specs.Prelude.{◌≡◌, ◌<◌, ◌∷◌, ◌++◌, [], IfOk};
 ghost use Rattle.rb_ledger.specs.Valid.{IsValid};
 ghost use Rattle.rb_token.specs.Token.{Token};
@@ -12,8 +12,8 @@ use rb_ledger::Ledger;
 use rb_shadow::{Kind, Shadow};
 use rb_token::TokenView;
 
-/// What the request makes in a batch at the token's site: what it makes by itself, but for a withdrawal
-/// or a transfer that would be declined. Nothing changes.
+/// The operation that the request makes in a batch at the token's site: the one that it makes by itself, but for a
+/// withdrawal or a transfer that would be declined. Nothing changes.
 pub fn generate_in_batch(
     ledger: &Ledger,
     token: &TokenView,

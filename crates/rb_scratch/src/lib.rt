@@ -27,7 +27,7 @@ pub fn requests_of_a_batch()
     ensures { THE_MOST_REQUESTS ≡ 16 }
 {}
 
-/// What a request makes at a valid list may be added to it.
+/// An operation that a request makes at a valid list may be added to it.
 pub fn made_is_valid()
     ensures { MadeIsValid }
 {}

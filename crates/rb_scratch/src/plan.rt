@@ -11,7 +11,7 @@ use rb_ledger::Ledger;
 use rb_money::{Place, Refusal};
 use rb_shadow::{Colour, Kind, OpName};
 
-/// What cancelling an operation would do: the operation's account and amount, in cents, and the
+/// The plan to cancel an operation: the operation's account and amount, in cents, and the
 /// cancellation's colour.
 #[derive(Clone, Copy, Debug, PartialEq, Eq)]
 pub struct CancelPlan {
@@ -20,11 +20,11 @@ pub struct CancelPlan {
     pub colour: Colour,
 }
 
-/// What cancelling the operation of this name would do at this ledger.
+/// The plan to cancel the operation of this name at this ledger.
 ///
-/// Refuses with `UnknownOperation` where the ledger hasn't the operation, then with
-/// `NotCancellable` where it is a declined withdrawal or transfer, or a cancellation, then with
-/// `AlreadyCancelled` and the position of the first cancellation where the ledger has one.
+/// Refuses with `UnknownOperation` if the ledger hasn't the operation, then with
+/// `NotCancellable` if it is a declined withdrawal or transfer, or a cancellation, then with
+/// `AlreadyCancelled` and the position of the first cancellation if the ledger has one.
 pub fn cancel_of(ledger: &Ledger, target: OpName) -> Result<CancelPlan, Refusal>
     ensures planned { IfOk result (λ plan. plan_of ledger.now.settings ledger.now.entries (AskCancel target)
         ≡ Ok (record { account = plan.account; amount = plan.amount; kind = Kind.Cancel target })) }

@@ -48,7 +48,7 @@ impl Records {
         self.len
     }
 
-    /// Adds a record at the end, where there are fewer than the most.
+    /// Adds a record at the end: there are fewer than the most.
     pub fn push(&mut self, undo: Undo)
         requires { length self.old.parts < MOST_REQUESTS }
         ensures { self.new.parts ≡ self.old.parts ++ undo ∷ [] }
@@ -57,7 +57,7 @@ impl Records {
         self.len += 1;
     }
 
-    /// Takes the last record out. `None` where there is none.
+    /// Takes the last record out. `None` if there is none.
     pub fn pop(&mut self) -> Option<Undo>
         ensures { MatchOption result ((self.old.parts ≡ []) × (self.new ≡ self.old)) (λ undo. self.old.parts
             ≡ self.new.parts ++ undo ∷ []) }

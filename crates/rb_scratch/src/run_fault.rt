@@ -1,9 +1,9 @@
-//! What stops a batch.
+//! Faults that stop a batch.
 ghost use Rattle.std.specs.Prelude.{◌≡◌};
 
 use rb_money::{Cause, Refusal};
 
-/// What is wrong with one request of a batch: it would make a declined withdrawal or transfer, or be refused.
+/// The fault of one request of a batch: it would make a declined withdrawal or transfer, or be refused.
 #[derive(Clone, Copy, Debug, PartialEq, Eq)]
 pub enum RunFault {
     Declined,

@@ -1,4 +1,8 @@
 //! Requests that are tried together.
+//!
+//! The operations of a batch are applied to the ledger itself, so each request is decided after those before it, and no
+//! ledger is copied. If the batch isn't kept they are undone by their records. A scratch that is neither kept nor taken
+//! back doesn't compile.
 ghost use Rattle.std.specs.Prelude.{◌≡◌, ◌+◌, ◌≤◌, ◌<◌, ◌++◌, [], List, length, IfOk, IfErr, OnOk, OnErr};
 ghost use Rattle.std.specs.Borrow.{sem};
 ghost use Rattle.rb_shadow.specs.declared.shadow.Shadow.{Shadow as TheShadow};
@@ -120,7 +124,7 @@ impl<'a> Scratch<'a> {
     /// Runs a request: what it makes in a batch is at the ledger's end, and its name is answered.
     /// After a fault all is as before. The fault is `Refused(BadBatch)` for one request more than `MOST_REQUESTS`, else
     /// `Declined` or what refuses the request, else `Refused(OutOfMemory)`. A request that would be declined is at
-    /// fault before its number is looked at: where no number is left either, the fault is `Declined` and not
+    /// fault before its number is looked at: if no number is left either, the fault is `Declined` and not
     /// `Refused(NumbersExhausted)`.
     pub fn run(&mut self, request: &Request) -> Result<OpName, RunFault>
         requires { self.old.token.me < self.old.ledger.now.settings.sites }
@@ -146,7 +150,7 @@ impl<'a> Scratch<'a> {
 
     /// Keeps what was run: gives the shadows in order, and puts their records at the log's end. Out of
     /// memory the scratch comes back, and nothing changes but that the log may have more spare capacity.
-    /// That can be only where something was run.
+    /// That can be only if something was run.
     #[inline(always)]
     pub fn commit(self, log: &mut UndoLog) -> Result<Vec<Shadow>, Scratch<'a>>
         requires { IsOfTheLast self.ledger.now self.undos.parts }

@@ -1,4 +1,4 @@
--- What holds of the one error that `?` passes on.
+-- Facts of the one error that `?` passes on.
 use Rattle.std.proofs.Common.{◌≡◌, Ok, Err, ap, sym, subst}
 use Rattle.std.specs.Prelude.{Result, MatchResult, IfErr}
 use Rattle.std.specs.Result.{IsErrAnd}

@@ -1,4 +1,4 @@
--- What a request makes at a valid list may follow it.
+-- An operation that a request makes at a valid list may follow it.
 use Rattle.rb_money.specs.Refusals.{unless}
 use Rattle.std.proofs.Common.{◌≡◌, ℕ, ◌<◌, ◌≤◌, true, false, cond, List, [], ◌∷◌, ◌++◌, refl, ap, sym}
 use Rattle.std.proofs.Common.{◌∙◌, subst, Some, None, Ok}

@@ -1,4 +1,4 @@
--- What a view shows of the token, the colour of a name, and what a test of the money says.
+-- The token as a view shows it, the colour of a name, and tests of the money.
 use Rattle.std.proofs.Common.{◌≡◌, ℕ, ◌≤◌, false, List, refl, arith}
 use Rattle.std.specs.Prelude.{ℤ, pos, negsuc, ◌≤ℤ◌, int_lt}
 use Rattle.std.proofs.lemmas.Bool.Decides.{nat_tests}

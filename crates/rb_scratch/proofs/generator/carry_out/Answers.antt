@@ -1,4 +1,4 @@
--- What was decided is carried out as the model says.
+-- A decision is carried out as the model says.
 use Rattle.std.proofs.Common.{◌≡◌, ◌≤◌, refl, ap, sym, subst, ◌∙◌, Result, Err, ℕ}
 use Rattle.rb_money.specs.Settings.{Settings}
 use Rattle.rb_money.specs.declared.limits.TheConstants.{MOST_SITES}
@@ -50,7 +50,8 @@ returns-in_default-clause-valid c =
 
 pub returns-in_ok-permit_red-clause-made : goal.returns-in_ok-permit_red-clause-made
 returns-in_ok-permit_red-clause-made c =
-    λ known shows. sym (Generated.red_made _ _ _ known _ _ _ (c.requires.plan).1 c.in_ok-shadow.ensures.0 c.in_ok-shadow.ensures.1 (sym c.requires.colour
+    λ known shows. sym (Generated.red_made _ _ _ known _ _ _ (c.requires.plan).1
+        c.in_ok-shadow.ensures.0 c.in_ok-shadow.ensures.1 (sym c.requires.colour
     ∙ c.in-Red.is) ∙ c.in_ok-permit_red.ensures known shows) ∙ Generated.planned _ _ _ known _ _ (c.requires.plan).1
 
 pub returns-in_ok-permit_red-clause-valid : goal.returns-in_ok-permit_red-clause-valid
@@ -58,7 +59,8 @@ returns-in_ok-permit_red-clause-valid c =
     Makes.made_is_valid _ _ _ (Tokens.seen c.args.token.now) (c.requires.plan).0 _
     (few_sites _ _ _ c.config.ensures.same c.sites-sites.ensures.same c.sites-sites.ensures.few) c.requires.site c.config.ensures.valid
     (
-    Generated.red_made _ _ _ _ _ _ _ (c.requires.plan).1 c.in_ok-shadow.ensures.0 c.in_ok-shadow.ensures.1 (sym c.requires.colour ∙ c.in-Red.is)
+    Generated.red_made _ _ _ _ _ _ _ (c.requires.plan).1
+        c.in_ok-shadow.ensures.0 c.in_ok-shadow.ensures.1 (sym c.requires.colour ∙ c.in-Red.is)
     ∙ c.in_ok-permit_red.ensures (Tokens.seen c.args.token.now) (Tokens.seen_shows c.args.token.now)
     )
 
