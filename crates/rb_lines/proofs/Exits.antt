@@ -1,4 +1,4 @@
--- What a run has written where it ends, for a source whose bytes are known.
+-- The text that a run has written at its end, for a source whose bytes are known.
 use Rattle.std.proofs.Common.{◌≡◌, ◌<◌, ◌≤◌, ◌+◌, ◌⊎◌, ℕ, Bool, true, false, List, [], ◌∷◌, ◌++◌, length, take, drop, Option, Some, None}
 use Rattle.std.proofs.Common.{Result, Ok, Err, refl, sym, ap, ◌∙◌, rules, subst, append-nil, add-zero}
 use Rattle.std.specs.Prelude.{IfSome}
@@ -15,7 +15,7 @@ use Rattle.rb_lines.proofs.Follows.{Follows, Whole, at_start, after_read, after_
 use Rattle.rb_lines.proofs.Public.LongLines.{long_line}
 use Rattle.rb_lines.proofs.Public.Walks.{line_at_front}
 
--- these lines were answered, and this is written, where the source's bytes are known
+-- these lines were answered, and this is written, if the source's bytes are known
 abbrev pub FollowsKnown : Whole → Option (List ℕ) → Option (List ℕ) → RunState → List ℕ → Bool → List ℕ → Type 0
 FollowsKnown of None now s p e t = Unit {0}
 FollowsKnown of (Some all) None s p e t = ⊥

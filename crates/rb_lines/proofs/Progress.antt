@@ -1,4 +1,4 @@
--- What went out and what is buffered, together, as a run goes on.
+-- Bytes that went out and bytes that are buffered, together, as a run goes on.
 use Rattle.std.proofs.Common.{◌≡◌, ◌≢◌, ◌<◌, ◌≤◌, ◌+◌, ◌⊎◌, ℕ, Bool, true, false, List, [], ◌++◌, length, take, drop, Option, Some, None}
 use Rattle.std.proofs.Common.{Result, Err, refl, sym, ap, ◌∙◌, subst, append-nil, append_assoc}
 use Rattle.std.specs.Prelude.{IfSome}
@@ -22,7 +22,7 @@ use Rattle.rb_lines.proofs.Follows.{Whole}
 abbrev pub IsAt : Whole → Option (List ℕ) → Option (List ℕ) → Option (List ℕ) → Option (List ℕ) → RunState → List ℕ → Bool → List ℕ → Type 0
 IsAt of w0 w r0 r s p e buffered = (text : List ℕ) × Appends w0 w text × FollowsKnown of r0 r s p e (text ++ buffered)
 
--- at the end, where some may still be buffered
+-- at the end; some may still be buffered
 abbrev pub IsOver : Whole → Option (List ℕ) → Option (List ℕ) → Option (List ℕ) → Option (List ℕ) → Result ℕ ScriptFault → List ℕ → Type 0
 IsOver of w0 w r0 r result buffered = (text : List ℕ) × Appends w0 w text
     × IfSome r0 (λ input. RunWillEndAs of result input r (text ++ buffered))

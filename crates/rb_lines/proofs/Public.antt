@@ -1,4 +1,4 @@
--- What other crates cite.
+-- Lemmas that other crates cite.
 pub mod Chosen
 pub mod LongLines
 pub mod Sending

@@ -29,7 +29,7 @@ over_part xs ys end k n within few =
     ∙ take_at (front ++ take n ys) after (end + n)
     (omega (arith, length-append front (take n ys), length-take-le end xs within, length-take-le n ys few))
 
--- the same, where as many are taken as there were
+-- the same if as many are taken as there were
 pub over_part_of : (xs ys more : List ℕ) (len end k n : ℕ) → len ≡ length xs → end + k ≤ length xs → length ys ≡ k → n ≤ length ys
     → take (end + n) (take len (put_mid end k xs ys ++ more)) ≡ take end xs ++ take n ys
 over_part_of xs ys more len end k n all within full few =

@@ -1,4 +1,4 @@
--- What a reader has given after two reads, and what is read behind a part of a list.
+-- The bytes that a reader has given after two reads, and the list after a read behind a part of it.
 use Rattle.std.proofs.Common.{◌≤◌, ◌+◌, List, ℕ, ◌++◌, length, take, drop, slice_range, Option, sym, ap, ◌∙◌, append_assoc, arith}
 use Rattle.std.proofs.lemmas.List.{drop-append-le, length-take-le}
 use Rattle.std.proofs.lemmas.Slice.{between_is}

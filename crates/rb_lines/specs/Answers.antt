@@ -18,7 +18,7 @@ no_outcome f = record { text = []; count = 0; fault = Some f }
 abbrev pub after_text : List ℕ → ℕ → LinesOutcome → LinesOutcome
 after_text text count o = record { text = text ++ o.text; count = count + o.count; fault = o.fault }
 
--- ---- how a run ends, where `of` is what lines come to
+-- ---- how a run ends; `of` gives the outcome of lines
 
 -- the run ends at a line with this fault, and this is the text of the lines before
 pub record IsFaulty (o : LinesOutcome) (text : List ℕ) (f : ScriptFault) : Type 0 where
@@ -44,7 +44,7 @@ pub record IsAnswered (of : List (List ℕ) → LinesOutcome) (input rest text :
   pub text_is : (of (whole_lines taken)).text ≡ text
   pub unfinished : IsUnfinished (of (whole_lines taken)).fault
 
--- the result of a run over this input, of which the second part is left, where the text was written; a run over lines
+-- the result of a run over this input, of which the second part is left, that has written the text; a run over lines
 -- gathers no histories
 abbrev pub RunEndsAs : (List (List ℕ) → LinesOutcome) → Result ℕ ScriptFault → List ℕ → Option (List ℕ) → List ℕ → Type 0
 RunEndsAs of (Ok n) input left text = (of (lines_of input) ≡ record { text = text; count = n; fault = None }) × (left ≡ Some [])

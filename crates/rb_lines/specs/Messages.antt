@@ -1,4 +1,4 @@
--- What a failed run says on standard error, and its status.
+-- The message of a failed run on standard error, and its status.
 use Rattle.std.specs.Prelude.{ℕ, List, ◌++◌, codes, decimal}
 use Rattle.rb_lines.specs.declared.fault.ScriptFault.{ScriptFault}
 use Rattle.rb_lines.specs.declared.fault.ScriptFault.TheVariants.{NoConfig, BadConfig, BadLine, LongLine, Read, Write, OutOfMemory, Gather}

@@ -16,8 +16,8 @@ use crate::source::Source;
 use crate::write::flush;
 use std::alloc::Global;
 
-/// What was read and not yet answered, what was answered and not yet written, how many reads are left, and whether the
-/// reader has come to its end.
+/// The bytes read and not yet answered, the answers not yet written, the number of reads left, and whether the reader
+/// has come to its end.
 #[derive(Drop)]
 pub struct Buffers {
     pub pending: Pending,
@@ -85,8 +85,8 @@ impl Buffers {
         Ok(())
     }
 
-    /// Brings the next line to the front, and says how many bytes it has: `None` at the end. What is buffered for the
-    /// writer goes out before a read, and once it has `MOST_BUFFERED` bytes.
+    /// Brings the next line to the front, and says how many bytes it has: `None` at the end. The bytes buffered for the
+    /// writer go out before a read, and once there are `MOST_BUFFERED`.
     #[inline(always)]
     pub fn next_line<S: Source, W: Sink>(
         &mut self,

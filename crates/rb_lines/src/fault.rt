@@ -67,15 +67,15 @@ impl From<WriteFailed> for ScriptFault {
     }
 }
 
-/// What a program says on standard error, without the line feed. An `Err` means out of memory.
+/// The message of a program on standard error, without the line feed. An `Err` means out of memory.
 pub fn message(alloc: Global, fault: ScriptFault) -> Result<String, AllocError>
     ensures { IfOk result (λ text. string_bytes text ≡ message_of fault) }
 {
     format!(in alloc; "rbbank: {fault}")
 }
 
-/// A program's exit status: 2 where the input is wrong, 3 where a read or a write failed, 4 where memory ran out, 5
-/// where histories can't be gathered.
+/// A program's exit status: 2 if the input is wrong, 3 if a read or a write failed, 4 if memory ran out, 5 if histories
+/// can't be gathered.
 pub fn status(fault: ScriptFault) -> u8
     ensures { result ≡ status_of fault }
 {

@@ -3,7 +3,7 @@ ghost use Rattle.std.specs.Prelude.{◌≡◌, ◌<◌, false};
 
 use crate::source::{ReadFailed, Source};
 
-/// A reader of bytes in memory. It gives up to `piece` of them a read, and then the end, or, where `fails`, a read that
+/// A reader of bytes in memory. It gives up to `piece` of them a read, and then the end, or, if `fails`, a read that
 /// fails.
 #[derive(Drop)]
 pub struct FromBytes<'a> {

@@ -9,7 +9,7 @@ pub const LINE_LIMIT: usize = 1_048_576;
 /// The bytes that one read asks for.
 pub const READ_SIZE: usize = 65_536;
 
-/// Replies go out once they have this number of bytes, also where more lines wait.
+/// Replies go out once they have this number of bytes, even if more lines wait.
 pub const MOST_BUFFERED: usize = 65_536;
 
 /// A batch of lines that are committed together ends once its entries, or its texts, have more bytes than this.

@@ -1,4 +1,4 @@
-//! What can be said of a line before its text is read.
+//! Checks of a line's bytes, before its text is read.
 ghost use Rattle.std.specs.Prelude.{◌≡◌, false, true, MatchOption};
 ghost use Rattle.std.specs.Str.{is_utf8};
 ghost use Rattle.rb_lines.specs.Lines.{is_blank as blank};
@@ -14,7 +14,7 @@ pub fn is_blank(line: &[u8]) -> bool
         .all(|b| *b == b' ' || *b == b'\t' || *b == b'\r')
 }
 
-/// The text of a line, where it is UTF-8. Most lines are ASCII, which is seen at once.
+/// The text of a line, or `None` if it isn't UTF-8. Most lines are ASCII, which is seen at once.
 #[inline(always)]
 pub fn text_on(line: &[u8]) -> Option<&str>
     ensures { MatchOption result (is_utf8 line.now ≡ false)

@@ -1,4 +1,4 @@
-//! What answers the lines of a run.
+//! The trait of a type that answers the lines of a run.
 ghost use Rattle.std.specs.Prelude.{◌≡◌, ◌∷◌, ◌++◌, ◌^◌, ◌<◌, ◌≤◌, ℕ, List, length, MatchResult, OnOk};
 ghost use Rattle.rb_lines.specs.Answers.{AnswersLine, EndsAtLine, EndsWith, IsRunState, RunState};
 ghost use Rattle.rb_lines.specs.declared.limits.TheConstants.{LINE_LIMIT};
@@ -6,9 +6,9 @@ ghost use Rattle.rb_lines.specs.declared.limits.TheConstants.{LINE_LIMIT};
 use crate::fault::ScriptFault;
 use std::alloc::Global;
 
-/// What answers the lines of a run, one after another.
+/// A type that answers the lines of a run, one after another.
 pub trait Responder {
-    // What the lines to come come to, the number of the first of them, and how many were answered.
+    // The outcome of the lines to come, the number of the first of them, and how many were answered.
     ghost state: { Self → RunState };
 
     // The kind of value that lines make of a responder, beside their answers, and the value that they make of it.
@@ -37,7 +37,7 @@ pub trait Responder {
             (λ fault. (buffered.new.items ≡ buffered.old.items) × EndsAtLine (state self.old) line.now fault) }
         ensures made { OnOk result ((ls : List (List ℕ)) → made self.old (line.now ∷ ls) ≡ made self.new ls) };
 
-    /// Where there are no more lines: how many were answered, or that there was no configuration.
+    /// The end of the lines: how many were answered, or that there was no configuration.
     fn end(&self) -> Result<u64, ScriptFault>
         ensures { EndsWith (state self.now) result };
 

@@ -14,8 +14,8 @@ use crate::source::Source;
 use crate::write::flush;
 use std::alloc::Global;
 
-/// Answers each line, and says how many were answered. What is buffered at the end, or at a fault, is still to be
-/// written; after a failed write nothing is.
+/// Answers each line, and says how many were answered. Bytes that are buffered at the end, or at a fault, are still to
+/// be written; after a failed write there are none.
 fn answer_lines<S: Source, W: Sink, R: Responder>(
     alloc: Global,
     reader: &mut S,
@@ -59,8 +59,8 @@ fn answer_lines<S: Source, W: Sink, R: Responder>(
 
 /// Answers each line of the reader's bytes, and says how many were answered.
 ///
-/// The answers to the whole lines of one read go out before the next read, in one write where they fit. What was
-/// answered before a fault goes out before the fault is reported; where that write fails, the fault is `Write`.
+/// The answers to the whole lines of one read go out before the next read, in one write if they fit. The answers before
+/// a fault go out before the fault is reported; if that write fails, the fault is `Write`.
 pub fn run_lines<S: Source, W: Sink, R: Responder>(
     alloc: Global,
     reader: &mut S,
@@ -71,7 +71,7 @@ pub fn run_lines<S: Source, W: Sink, R: Responder>(
     requires fresh { W.failed writer.old ≡ false }
     requires first { (R.state responder.old).number ≡ 1 }
     requires none { (R.state responder.old).count ≡ 0 }
-    // What is written is what the lines come to, and nothing else.
+    // The outcome of the lines is written, and nothing else.
     ensures written { (text : List ℕ) × Appends (W.contents writer.old) (W.contents writer.new) text
         × IfSome (S.remaining reader.old)
         (λ input. RunEndsAs (R.state responder.old).rest result input (S.remaining reader.new) text) }

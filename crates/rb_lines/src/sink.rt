@@ -1,4 +1,4 @@
-//! What a script's replies are written to.
+//! The trait of a sink, to which a script's replies are written.
 ghost use Rattle.std.specs.Prelude.{◌≡◌, ◌≤◌, ◌||◌, ℕ, Bool, List, Option, length, IfOk};
 ghost use Rattle.std.specs.Io.KnownBytes.{WriteAppends};
 ghost use Rattle.rb_lines.specs.Writes.{moved_nothing};
@@ -7,9 +7,9 @@ ghost use Rattle.rb_lines.specs.Writes.{moved_nothing};
 #[derive(Clone, Copy, Debug, PartialEq, Eq)]
 pub struct WriteFailed;
 
-/// Where bytes go.
+/// A destination for bytes.
 pub trait Sink {
-    // The bytes that were written, where they are known.
+    // The bytes that were written, if they are known.
     ghost contents: { Self → Option (List ℕ) };
 
     // Whether a write has failed, or has taken nothing.

@@ -1,4 +1,4 @@
-//! What a script is read from.
+//! The trait of a source, from which a script is read.
 ghost use Rattle.std.specs.Prelude.{◌≡◌, ◌+◌, ◌-◌, ◌^◌, ◌≤◌, ◌||◌, ℕ, Bool, List, Option, min, length, is_err, IfOk};
 ghost use Rattle.std.specs.Io.KnownBytes.{ReadConsumes};
 
@@ -6,9 +6,9 @@ ghost use Rattle.std.specs.Io.KnownBytes.{ReadConsumes};
 #[derive(Clone, Copy, Debug, PartialEq, Eq)]
 pub struct ReadFailed;
 
-/// Where bytes come from.
+/// A source of bytes.
 pub trait Source {
-    // The bytes that reads will give from here on, where they are known.
+    // The bytes that reads will give from here on, if they are known.
     ghost remaining: { Self → Option (List ℕ) };
 
     // Whether a read has failed.
@@ -17,7 +17,7 @@ pub trait Source {
     // How often it was read from, up to `u64::MAX`.
     ghost calls: { Self → ℕ };
 
-    /// Reads into the first bytes of the buffer, and says how many: 0 only at the end, or where the buffer is empty.
+    /// Reads into the first bytes of the buffer, and says how many: 0 only at the end, or if the buffer is empty.
     fn read(&mut self, buf: &mut [u8]) -> Result<usize, ReadFailed>
         ensures bound { IfOk result (λ n. n ≤ length buf.new) }
         ensures bytes { ReadConsumes (remaining self.old) (remaining self.new) result buf.new }

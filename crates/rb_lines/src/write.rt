@@ -1,4 +1,5 @@
-//! Writes of a whole text, in as many calls as it takes.
+//! Writes of a whole text, in as many calls as it takes: a sink may take only a prefix at each. A write that takes
+//! nothing counts as failed, since a loop that tried again might have no end.
 ghost use Rattle.std.specs.Prelude.{◌≡◌, ◌<◌, [], true, length, MatchResult, OnErr};
 ghost use Rattle.std.specs.Io.KnownBytes.{Appends};
 ghost use Rattle.rb_lines.specs.Writes.{AppendsFront};

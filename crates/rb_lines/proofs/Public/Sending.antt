@@ -1,4 +1,4 @@
--- What a writer holds after two writes.
+-- The bytes that a writer holds after two writes.
 use Rattle.std.proofs.Common.{◌≡◌, List, ℕ, ◌++◌, take, drop, Option, sym, ap, ◌∙◌, append_assoc, append-nil, []}
 use Rattle.std.proofs.KnownBytes.{Appends-trans}
 use Rattle.std.proofs.lemmas.List.{take-append-drop}
