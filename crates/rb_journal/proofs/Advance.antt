@@ -106,7 +106,8 @@ whole_one p tail e n len (inr last) going = absurd (cc (going, last.2))
 pub start : (p rest : List ℕ) (e : Bool) → Walks (p ++ rest) [] p rest e
 start p rest e = record { got = p; lines = refl; bytes = refl; whole = λ going tail. refl }
 
-pub one_taken : (p : List ℕ) (e : Bool) (n : ℕ) → n ≡ line_len p → n ≤ length p → IsFirst p e n → IsTaken p e (take n p ∷ []) (drop (n + 1) p)
+pub one_taken : (p : List ℕ) (e : Bool) (n : ℕ) → n ≡ line_len p → n ≤ length p → IsFirst p e n
+    → IsTaken p e (take n p ∷ []) (drop (n + 1) p)
 one_taken p e n len fits at_front = record {
   lines = λ rest end. (after_line (p ++ rest) [] p rest e n (start p rest e) len fits at_front end).lines;
   whole = λ going tail. whole_one p tail e n len at_front going;

@@ -1,4 +1,4 @@
--- What is still a batch after a call that may fail.
+-- Bytes that are still a batch after a call that may fail.
 use Rattle.std.proofs.Common.{◌≡◌, ℕ, List, ◌++◌, Result, Ok, Err, OnOk, OnErr, sym, subst}
 use Rattle.rb_journal.specs.Lines.{IsBatch}
 

@@ -1,4 +1,4 @@
--- What a crash leaves in each step of an append and of a repair, for a file's lines.
+-- The files that a crash leaves in each step of an append and of a repair, for a file's lines.
 use Rattle.std.proofs.Common.{◌≡◌, ◌⊎◌, inl, inr, ℕ, ◌+◌, ◌-◌, ◌<◌, ◌≤◌, List, [], ◌∷◌, ◌++◌, length, take, drop, refl, sym, ◌∙◌}
 use Rattle.std.proofs.Common.{ap, arith, append_assoc, length-append, length-drop, take-append-drop}
 use Rattle.std.specs.List.{concat}
@@ -72,7 +72,8 @@ module _ (file : List ℕ) where
   stays_shut at (b ∷ e ∷ bytes) d c le shut torn = range_shut at (length (b ∷ e ∷ bytes)) d c le shut torn
 
   -- the gate is closed, and no more bytes are behind it than the rest of the file is long
-  pub shut_closed : (c : List ℕ) (most : ℕ) → take (length text + 1) c ≡ at_rest lines → length c ≤ length text + 1 + most → HasClosedGate lines most c
+  pub shut_closed : (c : List ℕ) (most : ℕ) → take (length text + 1) c ≡ at_rest lines → length c ≤ length text + 1 + most
+      → HasClosedGate lines most c
   shut_closed c most shut few = (
     drop (length text + 1) c,
     sym (take-append-drop (length text + 1) c) ∙ ap (λ (l : List ℕ). l ++ drop (length text + 1) c) shut,

@@ -1,4 +1,4 @@
--- What is written at the end of a file, and what a cut leaves.
+-- Bytes that are written at the end of a file, and bytes that a cut leaves.
 use Rattle.std.proofs.Common.{◌≡◌, ℕ, zero, suc, ◌+◌, List, [], ◌∷◌, ◌++◌, length, take, drop, ◌∙◌, ap, arith}
 use Rattle.std.proofs.lemmas.List.{append-nil, take_all, drop_all}
 use Rattle.rb_journal.specs.Host.{IsWritten}

@@ -1,4 +1,4 @@
--- What other crates cite.
+-- Lemmas that other crates cite.
 pub mod Lines
 pub mod Moments
 pub mod Seals

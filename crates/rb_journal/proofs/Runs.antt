@@ -1,4 +1,4 @@
--- What a commit of turns may leave, and what a full file means.
+-- The runs that a commit of turns may leave, and the meaning of a full file.
 use Rattle.std.proofs.Common.{◌≡◌, ◌≤◌, ◌+◌, ◌^◌, ◌⊎◌, ℕ, Bool, true, List, [], ◌∷◌, ◌++◌, length, take, Some, inl, inr, refl, sym}
 use Rattle.std.proofs.Common.{ap, ◌∙◌, arith, subst, append_assoc, append-nil, length-append}
 use Rattle.std.specs.List.{concat}
@@ -15,7 +15,7 @@ use Rattle.rb_journal.specs.Turns.{Answers, Turn, lines_added, lines_answered, t
 use Rattle.rb_journal.specs.declared.fault.ServeFault.TheVariants.{Journal}
 use Rattle.rb_journal.proofs.Advance.{to_answer_then}
 
--- where lines were taken, the turns that answer them are first
+-- if lines were taken, the turns that answer them are first
 pub first_of_taken : {S : Type 0} (first : ℕ) (turns : List (Turn S)) (p q : List ℕ) (e : Bool) (taken : List (List ℕ)) (rest : List ℕ)
     → IsTaken p e taken q
     → (e ≡ true → rest ≡ []) → lines_answered turns ≡ to_answer first taken

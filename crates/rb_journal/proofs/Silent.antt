@@ -1,4 +1,4 @@
--- What holds of each file that a crash leaves, during calls that put out nothing.
+-- Claims that hold of each file that a crash leaves, during calls that put out nothing.
 use Rattle.std.proofs.Common.{◌≡◌, ℕ, List, refl, ◌∙◌}
 use Rattle.rb_journal.specs.Host.{Silent, Elapses, LeavesOnly}
 use Rattle.rb_journal.proofs.Public.Moments.{started, goes_on, weaker}

@@ -1,4 +1,4 @@
--- What a log of calls says of a file and an output: each call with its answer, the newest first.
+-- A log of calls, each with its answer, the newest first, and what it says of a file and an output.
 use Rattle.std.specs.Prelude.{◌≡◌, ◌⊎◌, ℕ, suc, ◌+◌, ◌≤◌, Bool, true, false, List, [], ◌∷◌, ◌++◌, length, take, drop}
 use Rattle.std.specs.Prelude.{slice_index, ◌==◌, if◌then◌else◌}
 use Rattle.rb_journal.specs.Host.{Torn, Cut, AddsPrefix}

@@ -1,4 +1,4 @@
--- What the calls of a host do to its file and its output, and what a crash may do between two syncs.
+-- The effects of a host's calls on its file and its output, and those of a crash between two syncs.
 use Rattle.std.specs.Prelude.{◌<◌, ◌≡◌, ◌⊎◌, ℕ, ◌+◌, ◌≤◌, max, true, List, [], ◌∷◌, ◌++◌, length, take, drop, Result, IsErrOf}
 use Rattle.rb_journal.specs.Lines.{is_bare_gate}
 use Rattle.rb_journal.specs.declared.host.HostError.{HostError}
@@ -15,7 +15,7 @@ pub record TornRange (at n : ℕ) (old new : List ℕ) : Type 0 where
   pub no_shorter : length old ≤ length new
   pub no_longer : length new ≤ max (length old) (at + n)
 
--- after a write of one byte that a crash cuts short: nothing, or all of it; or a NUL at the end of the file, where the
+-- after a write of one byte that a crash cuts short: nothing, or all of it; or a NUL at the end of the file, if the
 -- file was made longer and the byte never came
 abbrev pub TornByte : ℕ → ℕ → List ℕ → List ℕ → Type 0
 TornByte at b old new = (new ≡ old) ⊎ IsWritten old at (b ∷ []) new ⊎ ((at ≡ length old) × (new ≡ old ++ 0 ∷ []))

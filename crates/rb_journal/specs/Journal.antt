@@ -13,15 +13,15 @@ pub record IsSettled {H : Type 0} (is_usable : H → Type 0) (content : H → Li
   pub end : journal.end ≡ length (concat (recovered (content journal.host)))
   pub durable : Only (content journal.host) (may_leave journal.host)
 
--- the file has these lines, and this was put out
+-- the file contains these lines, and this was put out
 abbrev pub IsLeftAs : List (List ℕ) → List ℕ → List ℕ → List ℕ → Type 0
 IsLeftAs lines output c d = (recovered c ≡ lines) × (d ≡ output)
 
--- the file has the lines, with all of the batch or none of it, and this was put out
+-- the file contains the lines, with all of the batch or none of it, and this was put out
 abbrev pub IsBeforeOrAfter : List (List ℕ) → List (List ℕ) → List ℕ → List ℕ → List ℕ → Type 0
 IsBeforeOrAfter lines batch output c d = ((recovered c ≡ lines) ⊎ (recovered c ≡ lines ++ batch)) × (d ≡ output)
 
--- nothing is put out that a crash takes back: the file has the lines, and only what was put out before is;
+-- nothing is put out that a crash takes back: the file contains the lines, and only what was put out before is;
 -- or the batch is there too, and a prefix of the reply is put out
 abbrev pub IsDurable : List (List ℕ) → List (List ℕ) → List ℕ → List ℕ → List ℕ → List ℕ → Type 0
 IsDurable lines batch output reply c d =

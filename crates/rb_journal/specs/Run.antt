@@ -1,4 +1,4 @@
--- What a run over a journal may leave at any moment.
+-- The files and the outputs that a run over a journal may leave at any moment.
 use Rattle.std.specs.Prelude.{◌≡◌, ℕ, List, ◌++◌, Option, Some, None, IfSome}
 use Rattle.rb_lines.specs.Lines.{lines_of}
 use Rattle.rb_journal.specs.Host.{AddsPrefix}
@@ -15,7 +15,7 @@ abbrev pub AreFirst : {S : Type 0} → ℕ → List (Turn S) → List ℕ → Ty
 AreFirst first turns input =
     (later : List (ℕ × List ℕ)) × (to_answer first (lines_of input) ≡ lines_answered turns ++ later)
 
--- the file has the lines and all that some turns add, and what is put out are texts of these turns, from the first on
+-- the file contains the lines and all that some turns add, and texts of these turns are put out, from the first on
 pub record IsRunOfTurns {S : Type 0} (answers : Answers S) (first : ℕ) (input : Option (List ℕ)) (start : S)
     (lines : List (List ℕ)) (output c d : List ℕ) : Type 0 where
   pub turns : List (Turn S)
@@ -24,8 +24,8 @@ pub record IsRunOfTurns {S : Type 0} (answers : Answers S) (first : ℕ) (input 
   pub lines_are : recovered c ≡ lines ++ lines_added turns
   pub output_is : AddsPrefix output (texts turns) d
 
--- the same, where all of the text of the first turns was put out, and the others are one batch: of their text some was,
--- from the first byte on
+-- the same; all of the text of the first turns was put out, and the others are one batch: of their text some was, from
+-- the first byte on
 pub record IsRunOfBatches {S : Type 0} (answers : Answers S) (first : ℕ) (input : Option (List ℕ)) (start : S)
     (lines : List (List ℕ)) (output c d : List ℕ) : Type 0 where
   pub done : List (Turn S)

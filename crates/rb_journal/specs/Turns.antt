@@ -1,4 +1,4 @@
--- What is answered over a journal: turns, one after another.
+-- The answers over a journal: turns, one after another.
 use Rattle.std.specs.Prelude.{◌≡◌, ◌≤◌, ◌+◌, ◌-◌, ◌&&◌, ℕ, Bool, not, List, [], ◌∷◌, ◌++◌, length, map, take}
 use Rattle.std.specs.Prelude.{if◌then◌else◌}
 use Rattle.std.specs.List.{concat, flat_map}

@@ -1,5 +1,5 @@
 //! The lines that one read brought share one commit, since that costs two syncs, however many lines there are: they
-//! are answered, committed together, and then their answers are put out. Where they come to more than a batch may, the
+//! are answered, committed together, and then their answers are put out. If they come to more than a batch may, the
 //! next batch goes on with the rest of them, so that no number of lines takes more memory than one batch.
 ghost use Rattle.std.specs.Prelude.{◌≡◌, ◌+◌, ◌^◌, ◌<◌, ◌≤◌, ◌⊎◌, ◌++◌, List, ℕ, [], true, Some, Ok, Err, length};
 ghost use Rattle.std.specs.Prelude.{IfOk, OnOk};
@@ -22,7 +22,7 @@ use crate::work::Work;
 use rb_lines::Buffers;
 
 /// Answers lines that wait whole, one batch of them, commits what they add, and then puts out their text; says what
-/// waits behind them. Where there is no memory for a line, those before it are committed and put out too.
+/// waits behind them. If there is no memory for a line, those before it are committed and put out too.
 pub fn answer_group<R: JournaledResponder, H: Host>(
     responder: &mut R,
     journal: &mut Journal<H>,

@@ -50,14 +50,14 @@ pub trait Host {
     /// The bytes that were cut off the file and are kept beside it, all of them on the disk.
     ghost kept: { Self → List ℕ };
 
-    /// What file a crash at this moment may leave.
+    /// The files that a crash at this moment may leave.
     ghost may_leave: { Self → List ℕ → Type 0 };
 
     /// The moment, as a number that doesn't fall.
     ghost moment: { Self → ℕ };
 
-    /// What file a crash at some moment from that one on might have left, during a call or between two,
-    /// and beside it what was put out by that moment.
+    /// The files that a crash at some moment from that one on might have left, during a call or between two,
+    /// each with what was put out by that moment.
     ghost left_since: { Self → ℕ → List ℕ → List ℕ → Type 0 };
 
     /// How often the file or the output has failed.

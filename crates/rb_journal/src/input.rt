@@ -1,4 +1,4 @@
-//! What lines are read from: a reader that says when it may be read from.
+//! A reader of lines that says when it may be read from.
 ghost use Rattle.std.specs.Prelude.{◌≡◌, ◌<◌, ◌≤◌, ℕ, Bool, List, [], Option, false, true, length, MatchResult, OnOk};
 ghost use Rattle.std.specs.Io.KnownBytes.{IsAtEnd};
 ghost use Rattle.rb_lines.specs.Lines.{line_len};
@@ -10,7 +10,7 @@ use rb_lines::{Buffers, NoLine, Source};
 /// A reader with a condition on when it is read from: on the bytes that are still to be read and on the output by then.
 /// `serve` reads only by its method, and meets each condition that holds while all lines that have come are answered.
 pub trait Input {
-    /// The bytes that reads will give from here on, where they are known.
+    /// The bytes that reads will give from here on, if they are known.
     ghost remaining: { Self → Option (List ℕ) };
 
     /// Whether a read has failed.

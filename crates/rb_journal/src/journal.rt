@@ -21,7 +21,7 @@ const MAX_LEN: usize = 1 << 60;
 #[derive(Drop)]
 pub struct Journal<H: Host> {
     pub host: H,
-    /// Where the lines end, in bytes from the file's start: the place of the gate.
+    /// The end of the lines, in bytes from the file's start: the place of the gate.
     pub end: usize,
 }
 
@@ -255,7 +255,7 @@ pub fn recover<H: Host>(host: &mut H, bytes: &[u8]) -> Result<usize, HostError>
     Ok(end)
 }
 
-// The number of lines in these bytes of a file, and where they end, in bytes from its start.
+// The number of lines in these bytes of a file, and their end, in bytes from its start.
 fn count_lines(bytes: &[u8]) -> (u64, usize)
     ensures count { result.0 ≡ length (recovered bytes.now) }
     ensures few { result.0 ≤ length bytes.now }
@@ -276,7 +276,7 @@ fn count_lines(bytes: &[u8]) -> (u64, usize)
     (count, end)
 }
 
-/// Where the lines end that these bytes of a file have, in bytes from its start.
+/// The end of the lines in these bytes of a file, in bytes from its start.
 pub fn end_of_lines(bytes: &[u8]) -> usize
     ensures length { result ≡ length (concat (recovered bytes.now)) }
     ensures lines { take result bytes.now ≡ concat (recovered bytes.now) }
@@ -309,8 +309,8 @@ fn may_be_behind(rest: &[u8]) -> bool
     }
 }
 
-/// Where a file of these bytes is damaged: the number, from 1, of the line at whose place, or at that of the gate, is a
-/// byte that no crash leaves there. `None` if there is no such byte.
+/// The place of the damage in a file of these bytes: the number, from 1, of the line at whose place, or at that of the
+/// gate, is a byte that no crash leaves there. `None` if there is no such byte.
 pub fn damaged_line(bytes: &[u8]) -> Option<u64>
     ensures { MatchOption result (IsIntact bytes.now)
         (λ n. IsDamaged bytes.now × (n ≡ length (recovered bytes.now) + 1)) }

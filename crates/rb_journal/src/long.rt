@@ -88,7 +88,7 @@ pub fn answer_long_line<R: JournaledResponder, H: Host, I: Input>(
 
     ensures settled { EndsAtRest result → IsSettled H.is_usable H.content H.may_leave journal.new }
     ensures same { EndsAtRest result → R.lines (R.state responder.new) ≡ recovered (H.content journal.new.host) }
-    // What was read is behind what waited, and of both together the first line was answered.
+    // The bytes read are behind those that waited, and of both together the first line was answered.
     ensures answered { OnOk result ((more : List ℕ) × Consumes (I.remaining reader.old) (I.remaining reader.new) more
         × Advances R.answers buffers.new.ended
         (point_of (R.state responder.old) (recovered (H.content journal.old.host)) (H.output journal.old.host) work.old

@@ -1,4 +1,5 @@
-//! A file in memory, and an output into memory.
+//! A file in memory, and an output into memory. A write makes the bytes of the file anew, at the cost of a copy: if
+//! there is no memory for it, they stay those that the log of calls states.
 ghost use Rattle.std.specs.Prelude.{◌≡◌, ◌≤◌, length, IfOk};
 ghost use Rattle.rb_journal.specs.Host.{IsWritten};
 ghost use Rattle.rb_journal.specs.Calls.{content_of, output_of, kept_of, leaves, left_since, faults_of};

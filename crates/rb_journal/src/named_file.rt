@@ -1,4 +1,6 @@
-//! Calls of the system on the file under a journal, beside its reads, writes and syncs.
+//! Calls of the system on the file under a journal, beside its reads, writes and syncs. The bytes that were read are
+//! written again: after a wait for the disk that failed, the system may have what an earlier process wrote in its
+//! memory alone, and count it as written.
 use std::fs::{Metadata, OpenOptions};
 use std::io::{Read, Write};
 use std::os::fd::AsRawFd;
@@ -12,7 +14,7 @@ const INPUT: i32 = 0;
 /// The descriptor of standard error, the greatest of the standard streams.
 const ERRORS: i32 = 2;
 
-/// What was read is written again in pieces of this many bytes.
+/// The bytes that were read are written again in pieces of this many.
 const PIECE: usize = 1 << 20;
 
 /// Whether both are one file.
@@ -126,8 +128,7 @@ pub fn read_locked<R: Files + AllocGlobal>(
     Ok(bytes)
 }
 
-/// Writes what was read from a file again, in its place, and waits until it is on the disk: after a wait that failed,
-/// the system may have what an earlier process wrote in its memory alone, and count it as written.
+/// Writes what was read from a file again, in its place, and waits until it is on the disk.
 pub fn write_again(file: &fs::File, bytes: &[u8]) -> io::Result<()> {
     let mut at = 0;
     while at < bytes.len() {

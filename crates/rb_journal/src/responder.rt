@@ -1,4 +1,4 @@
-//! What answers lines, and keeps its state in a journal.
+//! The trait of a type that answers lines, and keeps its state in a journal.
 ghost use Rattle.std.specs.Prelude.{◌≡◌, ◌≤◌, ℕ, List, [], false, true, length, OnOk, OnErr};
 ghost use Rattle.rb_lines.specs.Lines.{is_blank, is_long};
 ghost use Rattle.rb_lines.specs.declared.limits.TheConstants.{LINE_LIMIT, MOST_BATCHED};
@@ -8,9 +8,9 @@ ghost use Rattle.rb_journal.specs.Turns.{IsTurn};
 use crate::batch::LineBatch;
 use std::alloc::AllocError;
 
-/// What answers lines, one after another. Its state is the run of a journal's lines.
+/// A type that answers lines, one after another. Its state is the run of a journal's lines.
 pub trait JournaledResponder {
-    /// What clauses see of a responder.
+    /// The part of a responder that clauses see.
     ghost State: { Type 0 };
 
     /// The responder's state.

@@ -1,4 +1,5 @@
-//! The lines that wait, answered one after another.
+//! The lines that wait, answered one after another, as one batch. A batch ends once its entries or its texts have more
+//! than `MOST_BATCHED` bytes, so that memory is taken for that much and one answer, however many lines wait.
 ghost use Rattle.std.specs.Prelude.{◌≡◌, ◌+◌, ◌^◌, ◌<◌, ◌≤◌, ◌++◌, List, ℕ, [], Ok, length, IfOk, OnOk, OnErr};
 ghost use Rattle.rb_journal.specs.Lines.{recovered};
 ghost use Rattle.rb_lines.specs.Buffers.{IsWholeLine};
@@ -11,7 +12,7 @@ use crate::work::Work;
 use rb_lines::{Buffers, LINE_LIMIT, MOST_BATCHED, is_blank};
 use std::alloc::AllocError;
 
-/// What is at the front of the bytes that wait.
+/// The front of the bytes that wait.
 #[derive(Clone, Copy)]
 pub enum Waiting {
     /// A line of this number of bytes, with its line feed or at the end of the input.
@@ -22,7 +23,7 @@ pub enum Waiting {
     Nothing,
 }
 
-/// What is at the front.
+/// Says what is at the front.
 fn next_waiting(buffers: &mut Buffers) -> Waiting
     ensures waiting { IsWaiting buffers.old result }
     ensures same { buffers.new ≡ buffers.old }
@@ -54,7 +55,7 @@ fn answer_next<R: JournaledResponder>(
         buffers.old.pending)
         (point_of (R.state responder.new) (R.lines (R.state responder.new)) buffers.new.buffered.items work.new
         buffers.new.pending)) }
-    // What is added is added to the batch.
+    // All lines that are added are in the batch.
     ensures batch { OnOk result ((before : List (List ℕ))
         → R.lines (R.state responder.old) ≡ before ++ recovered work.old.batch.bytes.items
         → R.lines (R.state responder.new) ≡ before ++ recovered work.new.batch.bytes.items) }

@@ -1,4 +1,4 @@
-//! What was answered and not yet committed.
+//! Lines that were answered and not yet committed.
 ghost use Rattle.std.specs.Prelude.{◌≡◌, []};
 
 use crate::batch::LineBatch;

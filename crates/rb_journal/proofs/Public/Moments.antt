@@ -40,8 +40,8 @@ module _ {H : Type 0} (moment : H → ℕ) (left_since : H → ℕ → List ℕ 
   }
 
   -- two claims
-  pub both : (old new : H) (P Q : List ℕ → List ℕ → Type 0) → LeavesOnly moment left_since old new P → LeavesOnly moment left_since old new Q
-      → LeavesOnly moment left_since old new (λ c d. P c d × Q c d)
+  pub both : (old new : H) (P Q : List ℕ → List ℕ → Type 0) → LeavesOnly moment left_since old new P
+      → LeavesOnly moment left_since old new Q → LeavesOnly moment left_since old new (λ c d. P c d × Q c d)
   both old new P Q one other = record {
     later = one.later;
     each = λ c d left. (one.each c d left, other.each c d left);

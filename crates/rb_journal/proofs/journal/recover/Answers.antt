@@ -75,28 +75,38 @@ gate_synced g c =
     synced (gate_written g (goal.at.After-sync-2 g c).After-write_at) c.sync-2.ensures.time c.sync-2.ensures.output c.sync-2.ensures.crash
 
 pub returns-in_err-cut-clause-any_moment : goal.returns-in_err-cut-clause-any_moment
-returns-in_err-cut-clause-any_moment g c = read_as (cut g (goal.at.returns-in_err-cut-clause-any_moment g c).After-cut) (repaired_is c.args.bytes.now)
+returns-in_err-cut-clause-any_moment g c =
+    read_as (cut g (goal.at.returns-in_err-cut-clause-any_moment g c).After-cut) (repaired_is c.args.bytes.now)
 
 pub returns-in_err-cut-clause-repaired : goal.returns-in_err-cut-clause-repaired
 returns-in_err-cut-clause-repaired g c = left_as (cut g (goal.at.returns-in_err-cut-clause-repaired g c).After-cut) (sound c.args.bytes.now)
 
 pub returns-in_err-sync-clause-any_moment : goal.returns-in_err-sync-clause-any_moment
-returns-in_err-sync-clause-any_moment g c = read_as (cut_synced g (goal.at.returns-in_err-sync-clause-any_moment g c).After-sync) (repaired_is c.args.bytes.now)
+returns-in_err-sync-clause-any_moment g c =
+    read_as (cut_synced g (goal.at.returns-in_err-sync-clause-any_moment g c).After-sync) (repaired_is c.args.bytes.now)
 
 pub returns-in_err-sync-clause-repaired : goal.returns-in_err-sync-clause-repaired
-returns-in_err-sync-clause-repaired g c = left_as (cut_synced g (goal.at.returns-in_err-sync-clause-repaired g c).After-sync) (sound c.args.bytes.now)
+returns-in_err-sync-clause-repaired g c =
+    left_as (cut_synced g (goal.at.returns-in_err-sync-clause-repaired g c).After-sync) (sound c.args.bytes.now)
 
 pub returns-in_err-write_at-clause-any_moment : goal.returns-in_err-write_at-clause-any_moment
-returns-in_err-write_at-clause-any_moment g c = read_as (gate_written g (goal.at.returns-in_err-write_at-clause-any_moment g c).After-write_at) (repaired_is c.args.bytes.now)
+returns-in_err-write_at-clause-any_moment g c =
+    read_as (gate_written g (goal.at.returns-in_err-write_at-clause-any_moment g c).After-write_at)
+        (repaired_is c.args.bytes.now)
 
 pub returns-in_err-write_at-clause-repaired : goal.returns-in_err-write_at-clause-repaired
-returns-in_err-write_at-clause-repaired g c = left_as (gate_written g (goal.at.returns-in_err-write_at-clause-repaired g c).After-write_at) (sound c.args.bytes.now)
+returns-in_err-write_at-clause-repaired g c =
+    left_as (gate_written g (goal.at.returns-in_err-write_at-clause-repaired g c).After-write_at)
+        (sound c.args.bytes.now)
 
 pub returns-in_err-sync-2-clause-any_moment : goal.returns-in_err-sync-2-clause-any_moment
-returns-in_err-sync-2-clause-any_moment g c = read_as (gate_synced g (goal.at.returns-in_err-sync-2-clause-any_moment g c).After-sync-2) (repaired_is c.args.bytes.now)
+returns-in_err-sync-2-clause-any_moment g c =
+    read_as (gate_synced g (goal.at.returns-in_err-sync-2-clause-any_moment g c).After-sync-2)
+        (repaired_is c.args.bytes.now)
 
 pub returns-in_err-sync-2-clause-repaired : goal.returns-in_err-sync-2-clause-repaired
-returns-in_err-sync-2-clause-repaired g c = left_as (gate_synced g (goal.at.returns-in_err-sync-2-clause-repaired g c).After-sync-2) (sound c.args.bytes.now)
+returns-in_err-sync-2-clause-repaired g c =
+    left_as (gate_synced g (goal.at.returns-in_err-sync-2-clause-repaired g c).After-sync-2) (sound c.args.bytes.now)
 
 pub returns-clause-any_moment : goal.returns-clause-any_moment
 returns-clause-any_moment g c = read_as (gate_synced g (goal.at.returns-clause-any_moment g c).After-sync-2) (repaired_is c.args.bytes.now)

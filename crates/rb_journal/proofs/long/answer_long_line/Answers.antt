@@ -126,7 +126,8 @@ moments g c =
     (λ ts are. served_before c.args.work.now.number ts c.args.buffers.now.pending dropped.more
     (g.I.Input.remaining c.args.reader.now) has dropped.read are)
     (durable_is_run g.R.JournaledResponder.answers c.drop_line.new.buffers.ended (before g c []) (after g c []) (rest_of has) [] _
-    c.deref.result.now f d (s, alone s.turns (omega (arith, s.count_is))) (λ ended. no_rest has (c.in_ok-drop_line.ensures.end ended)) (sym (append-nil lines))
+    c.deref.result.now f d (s, alone s.turns (omega (arith, s.count_is)))
+    (λ ended. no_rest has (c.in_ok-drop_line.ensures.end ended)) (sym (append-nil lines))
     refl (sym c.deref.ensures.value) kept))
 
 pub returns-in_err-commit_and_put_out-clause-any_moment : goal.returns-in_err-commit_and_put_out-clause-any_moment

@@ -1,4 +1,4 @@
--- What is written again is within the bytes.
+-- The place of the next piece is within the bytes.
 use Rattle.std.proofs.Common.{◌-◌, ◌≤◌, length}
 use Rattle.rb_journal.proofs.named_file.write_again.Given as goal
 

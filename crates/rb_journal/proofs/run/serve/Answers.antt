@@ -92,7 +92,8 @@ here g c =
     group_follows c.batches.invariant.follows c.batches.invariant.end c.in_ok-answer_group.ensures.answered c.answer_group.ensures.ended
 
 -- the input has ended only if all of it was read
-ended_here : (g : Over) (c : After-answer_group g) → c.answer_group.new.buffers.ended ≡ true → IsAtEnd (g.I.Input.remaining c.batches.reader)
+ended_here : (g : Over) (c : After-answer_group g) → c.answer_group.new.buffers.ended ≡ true
+    → IsAtEnd (g.I.Input.remaining c.batches.reader)
 ended_here g c ended = c.batches.invariant.end (sym c.answer_group.ensures.ended ∙ ended)
 
 pub returns-in_err-answer_group-clause-any_moment : goal.returns-in_err-answer_group-clause-any_moment

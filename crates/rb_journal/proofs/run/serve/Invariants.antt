@@ -34,7 +34,8 @@ invariant-batches g l =
           (point_of (g.R.JournaledResponder.state l.responder) (recovered (host.content l.journal.host))
           (host.output l.journal.host) l.work l.buffers.pending)
           (g.I.Input.remaining l.reader) l.buffers.ended;
-      any_moment : LeavesOnly host.moment host.left_since l.fn.journal.host l.journal.host (IsRunOfBatches answers l.fn.number input begin lines output);
+      any_moment : LeavesOnly host.moment host.left_since l.fn.journal.host l.journal.host
+          (IsRunOfBatches answers l.fn.number input begin lines output);
       intact : LeavesOnly host.moment host.left_since l.fn.journal.host l.journal.host (λ f d. IsIntact f);
     }
 

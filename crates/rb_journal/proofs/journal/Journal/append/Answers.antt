@@ -1,4 +1,5 @@
-use Rattle.std.proofs.Common.{◌≡◌, ◌⊎◌, inl, ℕ, ◌+◌, ◌-◌, ◌≤◌, List, [], ◌∷◌, ◌++◌, length, get_or, take, drop, sym, ◌∙◌, ap, subst, arith, append-nil}
+use Rattle.std.proofs.Common.{◌≡◌, ◌⊎◌, inl, ℕ, ◌+◌, ◌-◌, ◌≤◌, List, [], ◌∷◌, ◌++◌, length, get_or, take, drop, sym, ◌∙◌}
+use Rattle.std.proofs.Common.{ap, subst, arith, append-nil}
 use Rattle.std.specs.List.{concat}
 use Rattle.std.proofs.lemmas.List.{take_rest}
 use Rattle.rb_journal.specs.Host.{IsWritten, Torn, Only}
@@ -154,7 +155,8 @@ returns-then-self-ge-MAX_LEN-clause-appended g c =
     let file = host.content was in
     let batch = c.args.batch.now in
     started host.moment host.left_since was (λ f d. IsAppended (recovered file) batch f × IsIntact f)
-    (λ f d left. at_rest_appended file batch f (c.requires.settled.durable f (g.met.H.Host.only_now was f d left).0 ∙ c.requires.settled.file))
+    (λ f d left. at_rest_appended file batch f
+        (c.requires.settled.durable f (g.met.H.Host.only_now was f d left).0 ∙ c.requires.settled.file))
 
 pub returns-in_err-stage-clause-any_moment : goal.returns-in_err-stage-clause-any_moment
 returns-in_err-stage-clause-any_moment g c =
