@@ -1,4 +1,4 @@
--- What a failed call leaves.
+-- Claims about a failed call.
 use Rattle.std.proofs.Common.{Result, Ok, Err, OnErr}
 
 -- what holds anyway holds on an error

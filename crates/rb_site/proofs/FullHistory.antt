@@ -1,6 +1,6 @@
 -- Answers at a full history.
-use Rattle.std.proofs.Common.{◌≡◌, ◌∙◌, ℕ, ◌≤◌, Bool, true, false, cond, not, ◌⊎◌, inl, inr, List, length, take, refl, ap, sym, Option, Some, None}
-use Rattle.std.proofs.Common.{Result, Ok, Err, OnOk}
+use Rattle.std.proofs.Common.{◌≡◌, ◌∙◌, ℕ, ◌≤◌, Bool, true, false, cond, not, ◌⊎◌, inl, inr, List, length, take, refl, ap, sym}
+use Rattle.std.proofs.Common.{Option, Some, None, Result, Ok, Err, OnOk}
 use Rattle.std.specs.Prelude.{option_map, nat_lt, ◌==◌}
 use Rattle.rb_money.specs.Amounts.{cents}
 use Rattle.rb_money.specs.Refusals.{unless}
@@ -208,8 +208,8 @@ apply_waits s t x v given found waits is =
     replied s t (Apply x) (Refuses NotReady) given (named_comes s t x (Some v) found
     ∙ ap (λ b. cond (not b) (Refuses NotReady) (outcome_of_check v (refusal_of_sound s t.ops v))) waits) is
 
--- what is held and has its past is answered by the ledger's check: only as not ready it stays, and all else would change
--- the site
+-- what is held and has its past is answered by the ledger's check: only as not ready it stays, and all else would
+-- change the site
 pub apply_checked : (s : Settings) (t : ModelSite) (x : OpName) (v : Shadow) (o : Option Refusal) (given : Reply) →
     find_in t.held x ≡ Some v → is_eligible t.ops v ≡ true → IsSound s v → refusal_of s t.ops v ≡ o
     → given ≡ reply_of s t.ops (unless_full true (outcome_of_check v o)) → given ≡ reply_at_full s t (Apply x)
@@ -265,7 +265,8 @@ pub as_of_unchanging : (s : Settings) (t : ModelSite) (a : Place) (n : ℕ) → 
 unfolding outcome_of
 as_of_unchanging s t a n = by (is_account s a) (nat_lt (length t.ops) n) (cents (bal s (take n t.ops) a))
   where
-    by : (b c : Bool) (k : ℕ) → changes (cond (not b) (Refuses UnknownAccount) (cond c (Refuses PositionBeyond) (Answers (BalanceIs k)))) ≡ false
+    by : (b c : Bool) (k : ℕ)
+        → changes (cond (not b) (Refuses UnknownAccount) (cond c (Refuses PositionBeyond) (Answers (BalanceIs k)))) ≡ false
     by false c k = refl
     by true true k = refl
     by true false k = refl
@@ -291,6 +292,7 @@ follows_full keeps old now before after d e a same none follows =
 -- the same of what may run out of memory
 pub follows_full_ok : {A E : Type 0} (keeps : Bool) (old now : SiteState) (before after : List Message) (e : Event) (a : NotedReply)
     (r : Result A E) → changes (outcome_of old.settings old.site e) ≡ false →
-    OnOk r (Follows keeps old now before after (outcome_of old.settings old.site e) a) → OnOk r (a.reply ≡ reply_at_full old.settings old.site e)
+    OnOk r (Follows keeps old now before after (outcome_of old.settings old.site e) a)
+    → OnOk r (a.reply ≡ reply_at_full old.settings old.site e)
 follows_full_ok keeps old now before after e a (Ok x) none follows = follows_full keeps old now before after e e a refl none follows
 follows_full_ok keeps old now before after e a (Err x) none follows = tt

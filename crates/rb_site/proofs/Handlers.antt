@@ -1,4 +1,4 @@
--- What each handler of a site does is what the event comes to.
+-- Each handler of a site does what the event comes to.
 use Rattle.std.proofs.Common.{◌≡◌, ℕ, ◌≤◌, Bool, true, false, cond, not, ◌&&◌, ◌⊎◌, inl, inr, List, [], ◌∷◌, ◌++◌, length, refl, ap, sym}
 use Rattle.std.proofs.Common.{subst, ◌∙◌, arith, Option, Some, None, append-nil, Result, Ok, Err, OnOk, take}
 use Rattle.std.specs.Prelude.{nat_le, nat_lt, option_map, ◌==◌}
@@ -88,7 +88,7 @@ pub follows_with : (keeps : Bool) (old now : SiteState) (before after : List Mes
 follows_with keeps old now before after o a b e h = let P : NotedReply → Type 0 = λ x. Follows keeps old now before after o x in
     subst P (sym e) h
 
--- what a handler answers to an event is answered to an equal one, for any history, where nothing is noted
+-- what a handler answers to an event is answered to an equal one, for any history, if nothing is noted
 pub handled : {A E : Type 0} (keeps : Bool) (old now : SiteState) (before after : List Message) (d e : Event) (r : Result A E)
     (reply : Reply) (noted : Option Reply) → d ≡ e → noted ≡ None →
     OnOk r (Follows true old now before after (outcome_of old.settings old.site e) (plain reply))
@@ -162,7 +162,7 @@ pub submit_comes : (s : Settings) (t : ModelSite) (r : Request) (q : Result Shad
 unfolding outcome_of
 submit_comes s t r q made = ap (λ o. and_then Refuses o Makes) made
 
--- what was made is made in the state, where it has the same settings, site and list
+-- what was made is made in the state, if it has the same settings, site and list
 pub made_here : (z : SiteState) (now : Settings) (here : ℕ) (them : List Shadow) (r : Request) (q : Result Shadow Refusal)
     → now ≡ z.settings → here ≡ z.site.me → them ≡ z.site.ops → q ≡ made_of now here them z.site.token r
     → made_of z.settings z.site.me z.site.ops z.site.token r ≡ q
@@ -258,7 +258,7 @@ comes_to_check s t x v o found eligible sound refusal =
     ∙ ap (λ b. cond (not b) (Refuses NotReady) (outcome_of_check v (refusal_of_sound s t.ops v))) eligible
     ∙ ap (outcome_of_check v) (sym (refusal-sound s t.ops v sound) ∙ refusal)
 
--- a sound held shadow whose past is applied, where the ledger's check lets it: it is applied, and held no more
+-- a sound held shadow whose past is applied, if the ledger's check lets it: it is applied, and held no more
 pub applies : (s : Settings) (me : ℕ) (ops held more less : List Shadow) (token : Token) (x : OpName) (v : Shadow) (a : NotedReply) →
     find_in held x ≡ Some v → is_eligible ops v ≡ true → IsSound s v → refusal_of s ops v ≡ None
     → more ≡ ops ++ v ∷ [] → less ≡ without v.name held → Says true a (Applied v.name)
@@ -430,7 +430,7 @@ known_comes s t v u b found test =
     ap (λ o. unless_known v o (cond (is_too_many s t v) (Refuses InboxFull) (Holds v))) found
     ∙ ap (λ c. cond c (Answers (Already v.name)) (Refuses Conflict)) test
 
--- a shadow that isn't applied, where the inbox welcomes it at the clock of a valid list, comes to be held
+-- a shadow that isn't applied, if the inbox welcomes it at the clock of a valid list, comes to be held
 pub welcome_comes : (s : Settings) (t : ModelSite) (inbox : Holding) (c : Deps) (v : Shadow) → s.sites ≤ MOST_SITES → IsValid s t.ops →
     c ≡ clock_of t.ops → inbox.limit ≡ s.limits.inbox → inbox.held ≡ t.held → IsWelcome inbox c v → outcome_of_new s t v ≡ Holds v
 welcome_comes s t inbox c v few valid same limit held welcome =

@@ -1,6 +1,6 @@
 -- A change of a site, seen by the reply and the number of those held.
-use Rattle.std.proofs.Common.{◌≡◌, ℕ, ◌<◌, ◌≤◌, not, ◌&&◌, ◌==◌, nat_le, nat_lt, Bool, true, false, cond, List, [], ◌∷◌, length, refl, ap, sym}
-use Rattle.std.proofs.Common.{◌∙◌, arith, subst, Option, Some, None, Result, Ok, Err, take}
+use Rattle.std.proofs.Common.{◌≡◌, ℕ, ◌<◌, ◌≤◌, not, ◌&&◌, ◌==◌, nat_le, nat_lt, Bool, true, false, cond, List, [], ◌∷◌, length}
+use Rattle.std.proofs.Common.{refl, ap, sym, ◌∙◌, arith, subst, Option, Some, None, Result, Ok, Err, take}
 use Rattle.std.proofs.lemmas.Bool.Decides.{nat_tests}
 use Rattle.rb_money.specs.Amounts.{cents}
 use Rattle.rb_money.specs.Refusals.{and_then, unless}
@@ -41,7 +41,7 @@ without_less x (u ∷ us) = by (not (same_name u.name x)) (without_less x us)
     by true h = omega arith
     by false h = omega arith
 
--- and fewer, where one of the name is held
+-- and fewer, if one of the name is held
 without_fewer : (x : OpName) (us : List Shadow) (v : Shadow) → find_in us x ≡ Some v → length (without x us) < length us
 without_fewer x [] v h = cc
 without_fewer x (u ∷ us) v h = by (same_name u.name x) h (without_less x us) (without_fewer x us v)
@@ -109,7 +109,8 @@ shown_outcome s t (Receive (ShadowMessage v)) =
     shown_first s t BadMessage (fault_of s v) _ (shown_known s t v (find_in t.ops v.name) _
     (shown_if s t (v.home == t.me) Conflict _ (shown_known s t v (find_in t.held v.name) _
     (shown_if s t (nat_le s.limits.inbox (length t.held) && not (is_eligible t.ops v)) InboxFull (Holds v) refl))))
-shown_outcome s t (Receive (TokenOnItsWay m)) = shown_first s t (λ why. why) (refusal_of_token s.limits t.me m) _ (by (nat_le m.epoch t.token.epoch))
+shown_outcome s t (Receive (TokenOnItsWay m)) =
+    shown_first s t (λ why. why) (refusal_of_token s.limits t.me m) _ (by (nat_le m.epoch t.token.epoch))
   where
     by : (b : Bool) → IsShown s t (cond b (Answers (Stale m.epoch)) (Takes m))
     by true = refl
@@ -129,7 +130,8 @@ shown_outcome s t (AsOf a n) = shown_if s t (not (is_account s a)) UnknownAccoun
 shown_outcome s t (AskStatement a) = shown_if s t (not (is_account s a)) UnknownAccount (Shows a) refl
 
 -- what follows an event's outcome shows whether it changes the site
-pub shown_by : (keeps : Bool) (old now : SiteState) (before after : List Message) (e : Event) (a : NotedReply) (later held : ℕ) (is : Bool) →
+pub shown_by : (keeps : Bool) (old now : SiteState) (before after : List Message) (e : Event) (a : NotedReply)
+    (later held : ℕ) (is : Bool) →
     Follows keeps old now before after (outcome_of old.settings old.site e) a → later ≡ length now.site.held →
     held ≡ length old.site.held → is ≡ shows_change (nat_lt later held) a.reply → is ≡ changes (outcome_of old.settings old.site e)
 shown_by keeps old now before after e a later held is follows then first seen =

@@ -117,7 +117,7 @@ pub seen_same : {E : Type 0} (f : E → Entry) (old new : List E) (now : SiteSta
     → seen_as now.settings now.site.me (map f old) ≡ x → seen_as now.settings now.site.me (map f new) ≡ x
 seen_same f old new now x same is = ap (λ xs. seen_as now.settings now.site.me (map f xs)) same ∙ is
 
--- what is noted of the answer's reply, where it says another that is equal
+-- what is noted of the answer's reply, if it says another that is equal
 pub noted_as : (keeps now : Bool) (a : NotedReply) (reply : Reply) → Says keeps a reply → keeps ≡ now → IsNoted now a.reply a.noted
 noted_as keeps now a reply says same =
     subst (λ k. IsNoted k a.reply a.noted) same (subst (λ r. IsNoted keeps r a.noted) (sym says.0) says.1)

@@ -64,7 +64,7 @@ abbrev pub IsBlocked : Settings → List (List Entry) → List Entry → Type 0
 IsBlocked s fronts [] = Unit {0}
 IsBlocked s fronts (x ∷ rest) = (m : Message) × (x.event ≡ Receive m) × IsUnsent s fronts m
 
--- a site's history goes on after its prefix, where it is blocked
+-- a site's history goes on after its prefix, and is blocked there
 pub record IsCut (s : Settings) (fronts : List (List Entry)) (i : ℕ) (h : List Entry) : Type 0 where
   pub front : List Entry
   pub there : slice_get fronts i ≡ Some front

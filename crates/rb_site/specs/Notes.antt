@@ -9,7 +9,7 @@ is_plain (Names xs) = false
 is_plain (Statement a) = false
 is_plain _ = true
 
--- what is noted of a reply is that reply; or nothing, where it holds no memory or the history keeps no replies
+-- what is noted of a reply is that reply; or nothing, if it holds no memory or the history keeps no replies
 abbrev pub IsNoted : Bool → Reply → Option Reply → Type 0
 IsNoted keeps reply (Some noted) = noted ≡ reply
 IsNoted keeps reply None = (not (is_plain reply) && keeps) ≡ false

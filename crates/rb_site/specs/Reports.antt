@@ -1,4 +1,4 @@
--- What a site reports as it is closed.
+-- The report of a site as it is closed.
 use Rattle.std.specs.Prelude.{◌≡◌, ℕ, ◌≤◌, Bool, true, false, List, [], ◌∷◌, length, map}
 use Rattle.std.specs.List.{range_with_len}
 use Rattle.rb_money.specs.Amounts.{cents}

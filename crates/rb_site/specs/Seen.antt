@@ -25,7 +25,7 @@ entry e reply = record { event = e; reply = reply }
 abbrev pub state_of : SeenSite → ModelSite
 state_of x = after_events x.settings (first_site x.me) (events_of x.entries)
 
--- the site with one event more, where its history isn't full
+-- the site with one event more, for a history that isn't full
 abbrev pub stepped : SeenSite → Event → SeenSite
 stepped x e = record x { entries = x.entries ++ entry e (reply_to x.settings (state_of x) e) ∷ [] }
 
@@ -40,7 +40,7 @@ pub record IsReplayed (x : SeenSite) : Type 0 where
   pub replays : Replays x.settings (first_site x.me) x.entries
   pub room : length x.entries ≤ x.settings.limits.history
 
--- the site with one event more, or as it is where its history is full
+-- the site with one event more, or as it is if its history is full
 abbrev pub next_site : SeenSite → Event → SeenSite
 next_site x e = if is_full x.settings (state_of x) then x else stepped x e
 

@@ -13,8 +13,8 @@ use Rattle.rb_site.specs.States.{without_history}
 abbrev pub changes_site : Settings → ModelSite → Event → Bool
 changes_site s t e = changes (outcome_of s t e)
 
--- the reply to an event, where what changes nothing isn't recorded: only what changes the site is refused if the
--- history is full
+-- the reply to an event at a site that doesn't record what changes nothing: only what changes the site is refused if
+-- the history is full
 abbrev pub reply_if_changes : Settings → ModelSite → Event → Reply
 reply_if_changes s t e = reply_of s t.ops (unless_full (is_full s t) (outcome_of s t e))
 

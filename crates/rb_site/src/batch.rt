@@ -1,4 +1,6 @@
-//! The requests of a batch, made on a ledger.
+//! The requests of a batch, made on a ledger. They are tried in a scratch that can take them all back, each after those
+//! before it: a batch is made whole or not at all. Memory for the answer and for the messages is taken once all were
+//! tried and before they are committed, so that out of memory leaves the site as it was.
 ghost use Rattle.std.specs.Prelude.{◌≡◌, ◌≤◌, ◌<◌, ◌++◌, [], ◌⊎◌, List, length, map, Ok, Err, IfOk, IfErr, OnOk, ◌+◌};
 ghost use Rattle.std.specs.Prelude.{vec_len, vec_capacity};
 ghost use Rattle.rb_ledger.specs.Records.{logged};
@@ -34,7 +36,7 @@ fn why_stopped(index: u8, fault: RunFault) -> Refusal
     }
 }
 
-/// Runs the requests in order. Where one is at fault, what those before it made is in the scratch.
+/// Runs the requests in order. If one is at fault, what those before it made is in the scratch.
 fn run_all(scratch: &mut Scratch, requests: &[Request]) -> Result<(), Refusal>
     requires here { scratch.old.token.me < scratch.old.ledger.now.settings.sites }
     requires none { IsTried scratch.old.ledger.now.entries [] scratch.old.ledger.now scratch.old.undos.parts }
@@ -61,8 +63,8 @@ fn run_all(scratch: &mut Scratch, requests: &[Request]) -> Result<(), Refusal>
 }
 
 /// Makes the requests at the site of the token's view, each after those before it: all of them or none.
-/// The answer names the operations, where the reply before has names in their memory, their messages are put at the end
-/// of what was sent, and their records at the log's end.
+/// The answer names the operations, in the memory of the names of the reply before if it has any. Their messages are
+/// put at the end of what was sent, and their records at the log's end.
 ///
 /// Refuses, and changes nothing but that reply: with `BatchRefused` by the first request at fault, or with
 /// `OutOfMemory`.

@@ -1,4 +1,5 @@
-//! Memory for the answer to a batch.
+//! Memory for the answer to a batch. It is taken before the batch is committed, and to fill it can't fail: so a batch
+//! that was made is answered and sent.
 ghost use Rattle.std.specs.Prelude.{◌≡◌, ◌+◌, ◌≤◌, ◌++◌, [], IfOk, length, map, vec_len, vec_capacity};
 ghost use Rattle.rb_scratch.specs.Batches.{names_of_all};
 ghost use Rattle.rb_site.specs.Capacities.{IsCapacityFor};
@@ -36,7 +37,7 @@ impl Model for BatchCapacity {
 }
 
 impl BatchCapacity {
-    /// Memory for up to `most` operations, and for as many messages after those sent. Where the reply before has names,
+    /// Memory for up to `most` operations, and for as many messages after those sent. If the reply before has names,
     /// theirs is used. `Err` means out of memory.
     pub fn open(
         alloc: Global,

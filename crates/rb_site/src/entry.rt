@@ -7,9 +7,9 @@ use std::alloc::{AllocError, Global};
 /// An event with its reply.
 #[derive(Debug, Drop)]
 pub struct Entry {
-    /// What happened.
+    /// The event.
     pub event: Event,
-    /// What the site answered.
+    /// The site's answer to it.
     pub reply: Reply,
 }
 

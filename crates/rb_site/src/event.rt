@@ -9,7 +9,7 @@ use rb_scratch::Request;
 use rb_shadow::OpName;
 use std::alloc::{AllocError, Global};
 
-/// What happens at a site.
+/// An event at a site.
 #[derive(Debug, Drop)]
 pub enum Event {
     /// A teller asks for one operation.

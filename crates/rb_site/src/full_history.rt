@@ -16,8 +16,8 @@ use rb_token::{Accepted, TokenMessage};
 use std::alloc::AllocError;
 
 impl State {
-    /// One event, where the history is full: what would change the state is refused by `HistoryFull`, and all else is
-    /// answered. The state stays. `Err` means out of memory.
+    /// One event at a full history: what would change the state is refused by `HistoryFull`, and all else is answered.
+    /// The state stays. `Err` means out of memory.
     #[inline(never)]
     pub fn answer_full(&mut self, event: &Event, reply: &mut Reply) -> Result<(), AllocError>
         ensures same { self.new ≡ self.old }

@@ -1,4 +1,5 @@
-//! What a site's history keeps of its entries.
+//! The part of its entries that a site's history keeps. It is a type parameter, so that a script keeps no histories
+//! and no events, by the same code.
 ghost use Rattle.std.specs.Prelude.{◌≡◌, Bool, true, false, [], map, IfOk};
 ghost use Rattle.rb_site.specs.Notes.{IsNoted};
 ghost use Rattle.rb_site.specs.declared.entry.Entry.{Entry as TheEntry};
@@ -8,9 +9,9 @@ use crate::{Entry, Event, Reply};
 use std::alloc::{AllocError, Global};
 use std::snapshot::Snapshot;
 
-/// What is kept of an entry: all of it, or nothing that takes memory.
+/// The part of an entry that is kept: all of it, or nothing that takes memory.
 pub trait KeepsEntry: Drop {
-    /// What is kept of an event, before there is a reply.
+    /// The part of an event that is kept, before there is a reply.
     type Kept: Drop;
 
     // The event that was kept.
@@ -28,13 +29,13 @@ pub trait KeepsEntry: Drop {
     fn keep(alloc: Global, event: &Event) -> Result<Self::Kept, AllocError>
         ensures { IfOk result (λ k. kept k ≡ event.now) };
 
-    /// The entry of a kept event and its reply. `noted` is the copy of the reply, where one was made.
+    /// The entry of a kept event and its reply. `noted` is the copy of the reply, if one was made.
     fn note(event: Self::Kept, reply: &Reply, noted: Option<Reply>) -> Self
         requires { IsNoted KEEPS reply.now noted }
         ensures { entry result ≡ record { event = kept event; reply = reply.now } };
 
-    /// The history that is reported: the entries in order where they are kept, and none where they aren't. This takes
-    /// no memory.
+    /// The history that is reported: the entries in order if they are kept, and none if they aren't. This takes no
+    /// memory.
     fn reported(alloc: Global, history: Vec<Self>) -> Vec<Entry>
         ensures kept { KEEPS ≡ true → result.items ≡ map entry history.items }
         ensures unkept { KEEPS ≡ false → result.items ≡ [] };

@@ -5,7 +5,7 @@ use crate::same::{same_in, same_token};
 use rb_shadow::Shadow;
 use rb_token::TokenMessage;
 
-/// What sites send one another.
+/// A message that one site sends to another.
 #[derive(Clone, Copy, Debug, PartialEq, Eq)]
 pub enum Message {
     /// An operation.

@@ -1,11 +1,11 @@
-//! What a site answers to one event.
+//! The answer of a site to one event.
 ghost use Rattle.std.specs.Prelude.{◌≡◌, true, None};
 ghost use Rattle.rb_site.specs.Notes.{is_plain};
 ghost use Rattle.rb_site.specs.States.{Says, noting, plain};
 
 use crate::Reply;
 
-/// A reply, and the same once more where it holds memory and the history keeps replies.
+/// A reply, and the same once more if it holds memory and the history keeps replies.
 #[derive(Drop)]
 pub struct NotedReply {
     pub reply: Reply,

@@ -1,4 +1,5 @@
-//! A site's ledger with the record to undo each operation.
+//! A site's ledger with the record to undo each operation. Memory for the record is taken before the operation is
+//! applied, so that each operation has its record, and out of memory leaves both lists as before.
 ghost use Rattle.std.specs.Prelude.{◌≡◌, ◌<◌, ◌≤◌, ◌++◌, ◌∷◌, ◌⊎◌, [], List, length, map, Some, None, Ok, Err, IfOk};
 ghost use Rattle.std.specs.Prelude.{IfErr, OnOk, OnErr};
 ghost use Rattle.rb_ledger.specs.Checks.{refusal_of};
@@ -80,7 +81,7 @@ impl RecordedLedger {
             ⊎ ((why ≡ Refusal.OutOfMemory) × (refusal_of self.old.settings self.old.ops shadow.now ≡ None)))) }
     {
         if self.log.reserve(1).is_err() {
-            // Out of memory is the refusal where nothing else refuses the shadow.
+            // Out of memory is the refusal if nothing else refuses the shadow.
             self.ledger.check(shadow)?;
             return Err(Refusal::OutOfMemory);
         }
@@ -108,14 +109,14 @@ impl RecordedLedger {
                 self.log.push_reserved(undo);
                 Ok(())
             }
-            // What may follow the operations is refused for want of memory alone.
+            // A shadow that may follow the operations is refused for want of memory alone.
             Err(_) => Err(AllocError),
         }
     }
 
     /// Makes the requests of a batch at the site of the token's view, each after those before it: all of
-    /// them or none. The answer names the operations, where the reply before has names in their memory, and their
-    /// messages are put at the end of what was sent.
+    /// them or none. The answer names the operations, in the memory of the names of the reply before if it has any, and
+    /// their messages are put at the end of what was sent.
     ///
     /// Refuses, and changes nothing but that reply: with `BatchRefused` by the first request at fault, or with
     /// `OutOfMemory`.

@@ -9,7 +9,7 @@ use rb_shadow::{Label, OpName};
 use rb_statements::Statement;
 use std::alloc::{AllocError, Global};
 
-/// What the site answers.
+/// An answer of the site.
 #[derive(Debug, Drop)]
 pub enum Reply {
     /// A request's operation was made, of this kind.

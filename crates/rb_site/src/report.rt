@@ -1,4 +1,4 @@
-//! What a site reports as it is closed.
+//! The report of a site as it is closed.
 
 use crate::History;
 use rb_ledger::OperationList;
@@ -18,7 +18,7 @@ pub struct SiteReport {
     pub counts: Vec<u32>,
     /// How many of each site's blue operations, by the site's number, and how many red ones were applied.
     pub clock: Clock,
-    /// What the site knew of the token.
+    /// The site's knowledge of the token.
     pub token: TokenState,
     /// How many shadows were held and not applied.
     pub waiting: u32,

@@ -1,4 +1,5 @@
-//! Memory for the lists of a report.
+//! Memory for the lists of a report. It is taken while the site goes on, before each event, so that closing a site
+//! takes none and can't fail.
 ghost use Rattle.std.specs.Prelude.{◌≡◌, ◌≤◌, [], true, false, IfOk, OnOk, length, vec_capacity};
 ghost use Rattle.rb_site.specs.Reports.{balances_of, counts_of};
 
@@ -7,8 +8,7 @@ use rb_money::Place;
 use std::alloc::{AllocError, Global};
 use std::marker::Model;
 
-/// Memory for the balances and the counts of a report, so that closing a site takes none. Clients see
-/// for how many accounts and operations it is enough.
+/// Memory for the balances and the counts of a report. Clients see for how many accounts and operations it is enough.
 #[derive(Drop)]
 pub struct ReportLists {
     balances: Vec<u64>,
@@ -27,8 +27,8 @@ impl Model for ReportLists {
 }
 
 impl ReportLists {
-    /// Memory for this number of accounts, and for no operation yet, where the report has these lists. `Err` means out
-    /// of memory.
+    /// Memory for this number of accounts, and for no operation yet, if the report has these lists. `Err` means out of
+    /// memory.
     pub fn open(alloc: Global, reports: bool, accounts: usize) -> Result<ReportLists, AllocError>
         ensures { reports ≡ true → IfOk result (λ room. accounts ≤ room.accounts) }
     {
@@ -42,7 +42,7 @@ impl ReportLists {
         })
     }
 
-    /// Takes memory for this number of operations in all, where the report has these lists. `Err` means out of memory.
+    /// Takes memory for this number of operations in all, if the report has these lists. `Err` means out of memory.
     #[inline(always)]
     pub fn grow(&mut self, reports: bool, entries: usize) -> Result<(), AllocError>
         ensures ok { reports ≡ true → OnOk result (entries ≤ self.new.entries) }
@@ -55,7 +55,7 @@ impl ReportLists {
         self.counts.reserve(entries)
     }
 
-    /// The balances, in cents, and the counts of a ledger, for which there is memory; both lists are empty where they
+    /// The balances, in cents, and the counts of a ledger, for which there is memory; both lists are empty if they
     /// aren't reported.
     pub fn filled(self, reports: bool, ledger: &Ledger) -> (Vec<u64>, Vec<u32>)
         requires accounts { reports ≡ true → length ledger.now.settings.starts ≤ self.accounts }

@@ -1,7 +1,7 @@
 //! The state of a site between two events.
 //!
-//! What needs large locals and comes seldom is a function of its own that isn't inlined: a function clears the locals
-//! of all its arms before the first.
+//! An arm that needs large locals and comes seldom is a function of its own that isn't inlined: a function clears the
+//! locals of all its arms before the first.
 //!
 //! A request's operation is taken out of what `generate` answers. Read where it is, a deposit takes some 20
 //! instructions more, as the answer stays in memory.
@@ -29,7 +29,7 @@ use rb_vclock::Clock;
 use std::alloc::{AllocError, Global};
 use std::marker::Model;
 
-/// What a site applied, what it holds, and what it knows of the token.
+/// The operations that a site applied, those that it holds, and its knowledge of the token.
 pub struct State {
     pub(crate) alloc: Global,
     pub(crate) recorded: RecordedLedger,
@@ -81,7 +81,7 @@ impl State {
         self.token.view().me
     }
 
-    /// What the site applied.
+    /// The operations that the site applied.
     pub fn ledger(&self) -> &Ledger
         ensures settings { result.now.settings ≡ self.now.settings }
         ensures entries { result.now.entries ≡ self.now.site.ops }
@@ -96,7 +96,7 @@ impl State {
         self.recorded.log()
     }
 
-    /// What the site holds.
+    /// The operations that the site holds.
     pub fn inbox(&self) -> &Inbox
         ensures held { result.now.held ≡ self.now.site.held }
         ensures limit { result.now.limit ≡ self.now.settings.limits.inbox }
@@ -104,7 +104,7 @@ impl State {
         &self.inbox
     }
 
-    /// What the site knows of the token.
+    /// The site's knowledge of the token.
     pub fn token(&self) -> &TokenState
         ensures me { result.now.me ≡ self.now.site.me }
         ensures sites { result.now.sites ≡ self.now.settings.sites }

@@ -6,7 +6,7 @@ use crate::Event;
 use crate::same::same_in;
 use std::alloc::{AllocError, Global};
 
-/// What happens in a world: an event at a site, or the delivery of a message to a site.
+/// An event of a world: an event at a site, or the delivery of a message to a site.
 #[derive(Debug, Drop)]
 pub enum WorldEvent {
     /// The event at the site of this number, from 0.

@@ -1,4 +1,4 @@
--- What an event makes of a site.
+-- Outcomes of events: they don't depend on the history, and send few messages.
 use Rattle.std.proofs.Common.{◌≡◌, not, ◌&&◌, ◌==◌, nat_le, nat_lt, ◌<◌, ◌≤◌, Bool, true, false, cond, List, [], length, lit≤, take, refl}
 use Rattle.std.proofs.Common.{ap, sym, subst, ◌∙◌, arith, Option, Some, None, Result, Ok, Err}
 use Rattle.std.proofs.lemmas.Bool.Decides.{nat_tests}
@@ -56,7 +56,7 @@ changed-with_history t h (Passes m) = refl
 
 -- ---- a step
 
--- the history isn't full exactly where the model site's isn't
+-- the history isn't full exactly if the model site's isn't
 pub is_full-state : (x : SeenSite) → IsReplayed x → nat_le x.settings.limits.history (length x.entries) ≡ is_full x.settings (state_of x)
 is_full-state x kept = ap (nat_le x.settings.limits.history) (sym (ap length (Seen.history-state x kept)
     ∙ length-map x.entries (λ (y : Entry). y.event)))

@@ -1,4 +1,4 @@
--- What a recorded event is, and where a site goes on.
+-- Recorded events, and sites that have gone on.
 use Rattle.std.proofs.Common.{◌≡◌, ℕ, zero, suc, Bool, true, false, cond, not, ◌&&◌, List, [], ◌∷◌, ◌++◌, refl, ap, sym, ◌∙◌, inl, inr}
 use Rattle.std.proofs.Common.{Option, Some, None, append_assoc}
 use Rattle.std.specs.Prelude.{option_map, slice_get, slice_set, is_some}

@@ -37,7 +37,7 @@ same_me t (Applies v) = refl
 same_me t (Takes m) = refl
 same_me t (Passes m) = refl
 
--- the site after an event, where its history wasn't full
+-- the site after an event, if its history wasn't full
 abbrev pub noted : Settings → ModelSite → Event → ModelSite
 noted s t e = record (changed t (outcome_of s t e)) { history = t.history ++ e ∷ [] }
 

@@ -48,7 +48,7 @@ sent_nothing (Passes m) h = cc
 
 -- ---- one event
 
--- an event that changes nothing sends nothing, also where the history is full
+-- an event that changes nothing sends nothing, even if the history is full
 pub sent_at_nothing : (s : Settings) (t : ModelSite) (e : Event) → changes_site s t e ≡ false → sent_at s t e ≡ []
 sent_at_nothing s t e h = by (is_full s t)
   where

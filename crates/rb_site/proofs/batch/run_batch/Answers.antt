@@ -1,4 +1,4 @@
--- What was tried is named in the answer and sent, and its records are at the log's end.
+-- The operations that were tried are named in the answer and sent, and their records are at the log's end.
 use Rattle.std.proofs.Common.{◌≡◌, ◌∙◌, ap, arith, length}
 use Rattle.rb_site.specs.Capacities.{BatchCapacityFor}
 use Rattle.rb_site.proofs.Batches.{as_many}

@@ -14,7 +14,8 @@ returns-then-is_full-clause-ok g c =
       ap (λ (z : SiteState). seen_as z.settings z.site.me (map g.E.KeepsEntry.entry c.self.inside.history.items)) c.answer_full.ensures.same
           ∙ c.self.view_is ∙ sym (next_full c.args.self.now c.args.event.now full),
       c.in_ok-answer_full.ensures.reply
-          ∙ replies_full (seen_as c.self.inside.state.settings c.self.inside.state.site.me (map g.E.KeepsEntry.entry c.self.inside.history.items))
+          ∙ replies_full (seen_as c.self.inside.state.settings c.self.inside.state.site.me
+          (map g.E.KeepsEntry.entry c.self.inside.history.items))
           c.self.inside.state c.args.event.now c.self.invariant.0
           (ap (λ (x : SeenSite). is_full x.settings (state_of x)) c.self.view_is ∙ full)
           ∙ ap (λ (x : SeenSite). reply_if_changes x.settings (state_of x) c.args.event.now) c.self.view_is,

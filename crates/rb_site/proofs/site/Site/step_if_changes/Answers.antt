@@ -16,8 +16,8 @@ use Rattle.rb_site.proofs.Public.Outcomes.{sends_few}
 use Rattle.rb_site.specs.Unchanging.{changes_site}
 
 the_step : (g : Over) (c : goal.After-push_reserved g) → IsStep (seen_as c.self.inside.state.settings c.self.inside.state.site.me
-    (map g.E.KeepsEntry.entry c.self.inside.history.items)) c.act_seeing.new.self c.args.sent.now.items c.act_seeing.new.sent.items c.args.event.now
-    (noting c.act_seeing.new.reply c.act_seeing.new.noted)
+    (map g.E.KeepsEntry.entry c.self.inside.history.items)) c.act_seeing.new.self c.args.sent.now.items c.act_seeing.new.sent.items
+    c.args.event.now (noting c.act_seeing.new.reply c.act_seeing.new.noted)
 the_step g c =
     is_step c.KEEPS-2.result _ c.self.inside.state c.act_seeing.new.self c.args.sent.now.items c.act_seeing.new.sent.items
     c.args.event.now
@@ -31,7 +31,8 @@ the_pushed : (g : Over) (c : goal.After-push_reserved g) → seen_as c.act_seein
     c.args.event.now
     c.act_seeing.new.reply
 the_pushed g c =
-    seen_now _ c.act_seeing.new.self c.args.sent.now.items c.act_seeing.new.sent.items c.args.event.now (noting c.act_seeing.new.reply c.act_seeing.new.noted)
+    seen_now _ c.act_seeing.new.self c.args.sent.now.items c.act_seeing.new.sent.items c.args.event.now
+    (noting c.act_seeing.new.reply c.act_seeing.new.noted)
     (map g.E.KeepsEntry.entry c.push_reserved.new.self.items) (the_step g c)
     (me_kept c.KEEPS-2.result c.self.inside.state c.act_seeing.new.self c.args.sent.now.items c.act_seeing.new.sent.items _
     (noting c.act_seeing.new.reply c.act_seeing.new.noted)
@@ -45,8 +46,8 @@ the_pushed g c =
 pub invariant_of-self-2 : goal.invariant_of-self-2
 invariant_of-self-2 g c = (
   let P : SeenSite → Type 0 = λ x. IsStanding x c.act_seeing.new.self in subst P (sym (the_pushed g c)) (the_step g c).standing,
-  λ kept. still_enough c.grow.new.self c.KEEPS-2.result c.self.inside.state c.act_seeing.new.self c.args.sent.now.items c.act_seeing.new.sent.items
-      (outcome_of c.self.inside.state.settings c.self.inside.state.site c.args.event.now)
+  λ kept. still_enough c.grow.new.self c.KEEPS-2.result c.self.inside.state c.act_seeing.new.self c.args.sent.now.items
+      c.act_seeing.new.sent.items (outcome_of c.self.inside.state.settings c.self.inside.state.site c.args.event.now)
       (noting c.act_seeing.new.reply c.act_seeing.new.noted) c.in_ok-changed.ensures.ok
       (sends_few c.self.inside.state.settings c.self.inside.state.site c.args.event.now)
       (subst (λ n. length c.self.inside.state.settings.starts ≤ n) (sym c.grow.ensures.accounts) (c.self.invariant.1 kept).accounts)
@@ -89,7 +90,8 @@ invariant_of-self-then-not-changed g c =
     )
 
 pub returns-then-not-changed-clause-recorded : goal.returns-then-not-changed-clause-recorded
-returns-then-not-changed-clause-recorded g c = sym (changes_seen _ c.args.self.now c.self.inside.state c.args.event.now _ _ c.self.view_is c.self.invariant.0
+returns-then-not-changed-clause-recorded g c =
+    sym (changes_seen _ c.args.self.now c.self.inside.state c.args.event.now _ _ c.self.view_is c.self.invariant.0
     c.in_ok-changed.ensures.changed c.if-not-changed.true)
 
 pub returns-then-not-changed-clause-ok : goal.returns-then-not-changed-clause-ok

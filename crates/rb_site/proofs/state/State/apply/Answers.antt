@@ -24,14 +24,15 @@ returns-in-Ok-clause-ok c =
     let P : SiteState → Type 0 = λ z. AnswersAlone z now (outcome_of z.settings z.site (Apply c.args.name.now))
     (plain c.give-in-Ok.new.place) in
     subst P c.self.view_is
-    (let old : SiteState = state_as c.self.inside.recorded.settings c.self.inside.token.me c.self.inside.recorded.ops c.self.inside.inbox.held
-    c.self.inside.token.token in
+    (let old : SiteState = state_as c.self.inside.recorded.settings c.self.inside.token.me c.self.inside.recorded.ops
+    c.self.inside.inbox.held c.self.inside.token.token in
     let Q : Settings → Type 0 = λ s. AnswersAlone old (state_as s c.self.inside.token.me c.apply.new.self.ops c.remove_at.new.self.held
     c.self.inside.token.token) (outcome_of old.settings old.site (Apply c.args.name.now)) (plain c.give-in-Ok.new.place) in
     subst Q (sym (ap (λ (b : SeenLedger). b.settings) c.in-Ok.ensures.applied))
     (applies c.self.inside.recorded.settings c.self.inside.token.me c.self.inside.recorded.ops c.self.inside.inbox.held c.apply.new.self.ops
     c.remove_at.new.self.held c.self.inside.token.token c.args.name.now c.in-Some.held.now (plain c.give-in-Ok.new.place)
-    (sym c.find-index.ensures.held ∙ ap option_copied c.in-Some.is) (ap (λ us. is_eligible us c.in-Some.held.now) (sym c.ledger.ensures.entries) ∙ sym c.is_eligible.ensures
+    (sym c.find-index.ensures.held ∙ ap option_copied c.in-Some.is)
+    (ap (λ us. is_eligible us c.in-Some.held.now) (sym c.ledger.ensures.entries) ∙ sym c.is_eligible.ensures
     ∙ c.if-not-is_eligible.false)
     (held_sound c.self.inside.recorded.settings c.self.inside.inbox.held c.args.name.now c.in-Some.held.now c.self.invariant.sound
     (sym c.find-index.ensures.held ∙ ap option_copied c.in-Some.is))
@@ -50,14 +51,15 @@ returns-in-NotReady-clause-ok c =
     let P : SiteState → Type 0 = λ z. AnswersAlone z now (outcome_of z.settings z.site (Apply c.args.name.now))
     (plain c.give-in-NotReady.new.place) in
     subst P c.self.view_is
-    (let old : SiteState = state_as c.self.inside.recorded.settings c.self.inside.token.me c.self.inside.recorded.ops c.self.inside.inbox.held
-    c.self.inside.token.token in
+    (let old : SiteState = state_as c.self.inside.recorded.settings c.self.inside.token.me c.self.inside.recorded.ops
+    c.self.inside.inbox.held c.self.inside.token.token in
     let Q : SeenLedger → Type 0 = λ b. AnswersAlone old (state_as b.settings c.self.inside.token.me b.ops c.self.inside.inbox.held
     c.self.inside.token.token) (outcome_of old.settings old.site (Apply c.args.name.now)) (plain c.give-in-NotReady.new.place) in
     subst Q (sym c.in-Err.ensures.refused.0)
     (waits c.self.inside.recorded.settings c.self.inside.token.me c.self.inside.recorded.ops c.self.inside.inbox.held
     c.self.inside.token.token c.args.name.now c.in-Some.held.now (plain c.give-in-NotReady.new.place)
-    (sym c.find-index.ensures.held ∙ ap option_copied c.in-Some.is) (ap (λ us. is_eligible us c.in-Some.held.now) (sym c.ledger.ensures.entries) ∙ sym c.is_eligible.ensures
+    (sym c.find-index.ensures.held ∙ ap option_copied c.in-Some.is)
+    (ap (λ us. is_eligible us c.in-Some.held.now) (sym c.ledger.ensures.entries) ∙ sym c.is_eligible.ensures
     ∙ c.if-not-is_eligible.false)
     (held_sound c.self.inside.recorded.settings c.self.inside.inbox.held c.args.name.now c.in-Some.held.now c.self.invariant.sound
     (sym c.find-index.ensures.held ∙ ap option_copied c.in-Some.is))
@@ -71,8 +73,8 @@ returns-in_default-why-clause-ok c =
     let P : SiteState → Type 0 = λ z. AnswersAlone z now (outcome_of z.settings z.site (Apply c.args.name.now))
     (plain c.give-in_default-why.new.place) in
     subst P c.self.view_is
-    (let old : SiteState = state_as c.self.inside.recorded.settings c.self.inside.token.me c.self.inside.recorded.ops c.self.inside.inbox.held
-    c.self.inside.token.token in
+    (let old : SiteState = state_as c.self.inside.recorded.settings c.self.inside.token.me c.self.inside.recorded.ops
+    c.self.inside.inbox.held c.self.inside.token.token in
     let Q : SeenLedger → Type 0 = λ b. AnswersAlone old (state_as b.settings c.self.inside.token.me b.ops
     c.remove_at-in_default-why.new.self.held c.self.inside.token.token) (outcome_of old.settings old.site (Apply c.args.name.now))
     (plain c.give-in_default-why.new.place) in
@@ -80,7 +82,8 @@ returns-in_default-why-clause-ok c =
     (drops c.self.inside.recorded.settings c.self.inside.token.me c.self.inside.recorded.ops c.self.inside.inbox.held
     c.remove_at-in_default-why.new.self.held c.self.inside.token.token c.args.name.now c.in-Some.held.now c.in-Err.why
     (plain c.give-in_default-why.new.place)
-    (sym c.find-index.ensures.held ∙ ap option_copied c.in-Some.is) (ap (λ us. is_eligible us c.in-Some.held.now) (sym c.ledger.ensures.entries) ∙ sym c.is_eligible.ensures
+    (sym c.find-index.ensures.held ∙ ap option_copied c.in-Some.is)
+    (ap (λ us. is_eligible us c.in-Some.held.now) (sym c.ledger.ensures.entries) ∙ sym c.is_eligible.ensures
     ∙ c.if-not-is_eligible.false)
     (held_sound c.self.inside.recorded.settings c.self.inside.inbox.held c.args.name.now c.in-Some.held.now c.self.invariant.sound
     (sym c.find-index.ensures.held ∙ ap option_copied c.in-Some.is))

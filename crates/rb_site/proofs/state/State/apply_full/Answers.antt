@@ -81,4 +81,5 @@ returns-in_default-why c =
     (ap (λ s. refusal_of s c.self.inside.recorded.ops c.in-Some.held.now) (sym c.ledger-ledger.ensures.settings)
     ∙ ap (λ us. refusal_of c.ledger-ledger.result.now.settings us c.in-Some.held.now) (sym c.ledger-ledger.ensures.entries)
     ∙ c.in-Err.ensures.first)
-    (c.give-in_default-why.ensures.0 ∙ full_dropped old.settings old.site.ops c.in-Some.held.now c.in-Err.why c.in_default-why.not-NotReady))
+    (c.give-in_default-why.ensures.0
+    ∙ full_dropped old.settings old.site.ops c.in-Some.held.now c.in-Err.why c.in_default-why.not-NotReady))

@@ -38,8 +38,8 @@ returns-in-Ok-clause-ok c =
     (outcome_of z.settings z.site (Batch c.args.requests.now)) c.in-Ok.made in
     follows_with c.args.keeps c.args.self.now _ c.args.sent.now.items c.batch-made.new.sent.items _ _ c.in-Ok.made c.put.ensures
     (subst P c.self.view_is
-    (let old : SiteState = state_as c.self.inside.recorded.settings c.self.inside.token.me c.self.inside.recorded.ops c.self.inside.inbox.held
-    c.self.inside.token.token in
+    (let old : SiteState = state_as c.self.inside.recorded.settings c.self.inside.token.me c.self.inside.recorded.ops
+    c.self.inside.inbox.held c.self.inside.token.token in
     let Q : SeenLedger → Type 0 = λ b. Follows c.args.keeps old (state_as b.settings c.self.inside.token.me b.ops c.self.inside.inbox.held
     c.self.inside.token.token) c.args.sent.now.items c.batch-made.new.sent.items
     (outcome_of old.settings old.site (Batch c.args.requests.now)) c.in-Ok.made in

@@ -42,13 +42,13 @@ returns-in-Ok-Held-clause-ok c =
 
 pub returns-in-Ok-Already-clause-ok : goal.returns-in-Ok-Already-clause-ok
 returns-in-Ok-Already-clause-ok c =
-    let now : SiteState = state_as c.self.inside.recorded.settings c.self.inside.token.me c.self.inside.recorded.ops c.put_copy.new.self.held
-    c.self.inside.token.token in
+    let now : SiteState = state_as c.self.inside.recorded.settings c.self.inside.token.me c.self.inside.recorded.ops
+    c.put_copy.new.self.held c.self.inside.token.token in
     let P : SiteState → Type 0 = λ z. AnswersAlone z now (outcome_of_new z.settings z.site c.args.shadow.now)
     (plain c.give-in-Ok-Already.new.place) in
     subst P c.self.view_is
-    (let old : SiteState = state_as c.self.inside.recorded.settings c.self.inside.token.me c.self.inside.recorded.ops c.self.inside.inbox.held
-    c.self.inside.token.token in
+    (let old : SiteState = state_as c.self.inside.recorded.settings c.self.inside.token.me c.self.inside.recorded.ops
+    c.self.inside.inbox.held c.self.inside.token.token in
     let Q : Holding → Type 0 = λ b. AnswersAlone old (state_as c.self.inside.recorded.settings c.self.inside.token.me
     c.self.inside.recorded.ops b.held c.self.inside.token.token) (outcome_of_new old.settings old.site c.args.shadow.now)
     (plain c.give-in-Ok-Already.new.place) in
@@ -65,8 +65,8 @@ returns-clause-ok c =
     subst (IsValid c.self.inside.recorded.settings) c.ledger-ledger.ensures.entries
     (subst (λ s. IsValid s c.ledger-ledger.result.now.entries) c.ledger-ledger.ensures.settings c.config.ensures.valid) in
     let counted = c.clock.ensures ∙ ap clock_of c.ledger-ledger.ensures.entries in
-    let now : SiteState = state_as c.self.inside.recorded.settings c.self.inside.token.me c.self.inside.recorded.ops c.put_copy.new.self.held
-    c.self.inside.token.token in
+    let now : SiteState = state_as c.self.inside.recorded.settings c.self.inside.token.me c.self.inside.recorded.ops
+    c.put_copy.new.self.held c.self.inside.token.token in
     let P : SiteState → Type 0 = λ z. AnswersAlone z now (outcome_of_new z.settings z.site c.args.shadow.now) (plain c.give-2.new.place) in
     subst P c.self.view_is
     (refused_put c.self.inside.recorded.settings c.self.inside.token.me c.self.inside.recorded.ops c.self.inside.inbox c.put_copy.new.self

@@ -46,6 +46,6 @@ returns-in-Err c =
     c.self.inside.inbox.held c.self.inside.token.token in
     let P : SiteState → Type 0 = λ z. c.give-in-Err.new.place ≡ reply_new z.settings z.site c.args.shadow.now in
     subst P c.self.view_is
-    (new_refused old.settings old.site c.self.inside.inbox c.clock.result.now c.args.shadow.now c.in-Err.why c.give-in-Err.new.place few valid
-    counted c.self.invariant.limit refl c.in-Err.ensures.refusals (λ e. c.check.ensures.conflict (c.in-Err.is ∙ ap Err e))
+    (new_refused old.settings old.site c.self.inside.inbox c.clock.result.now c.args.shadow.now c.in-Err.why c.give-in-Err.new.place
+    few valid counted c.self.invariant.limit refl c.in-Err.ensures.refusals (λ e. c.check.ensures.conflict (c.in-Err.is ∙ ap Err e))
     (λ e. c.check.ensures.full (c.in-Err.is ∙ ap Err e)) c.give-in-Err.ensures.0)

@@ -19,8 +19,8 @@ returns-clause-ok c =
     c.self.inside.inbox.held c.pass.new.self.token) c.args.sent.now.items c.push_reserved.new.self.items
     (outcome_of z.settings z.site (Pass c.args.to)) (plain c.give-2.new.place) in
     subst P c.self.view_is
-    (let old : SiteState = state_as c.self.inside.recorded.settings c.self.inside.token.me c.self.inside.recorded.ops c.self.inside.inbox.held
-    c.self.inside.token.token in
+    (let old : SiteState = state_as c.self.inside.recorded.settings c.self.inside.token.me c.self.inside.recorded.ops
+    c.self.inside.inbox.held c.self.inside.token.token in
     let Q : SeenToken → Type 0 = λ seen. Follows true old (state_as c.self.inside.recorded.settings seen.me c.self.inside.recorded.ops
     c.self.inside.inbox.held seen.token) c.args.sent.now.items c.push_reserved.new.self.items
     (outcome_of old.settings old.site (Pass c.args.to)) (plain c.give-2.new.place) in

@@ -13,7 +13,8 @@ pub returns-in-Err-clause-ok : goal.returns-in-Err-clause-ok
 returns-in-Err-clause-ok c =
     let (why, is, fault) = c.in-Err.ensures.faulty in
     refuses_unsound c.args.self.now c.args.shadow.now why (plain c.give.new.place)
-    (ap (λ s. fault_of s c.args.shadow.now) (sym (c.config.ensures.same ∙ c.ledger-ledger.ensures.settings ∙ ap (λ (z : SiteState). z.settings) c.self.view_is)) ∙ fault)
+    (ap (λ s. fault_of s c.args.shadow.now)
+    (sym (c.config.ensures.same ∙ c.ledger-ledger.ensures.settings ∙ ap (λ (z : SiteState). z.settings) c.self.view_is)) ∙ fault)
     (subst (λ w. Says true (plain c.give.new.place) (Refused w)) is c.give.ensures)
 
 pub knows-requires : goal.knows-requires
@@ -22,17 +23,20 @@ knows-requires c = ap (λ s. fault_of s c.args.shadow.now) (sym c.config.ensures
 pub returns-in-Some-clause-ok : goal.returns-in-Some-clause-ok
 returns-in-Some-clause-ok c =
     knows_whether c.args.self.now c.args.shadow.now c.in-Some.same (plain c.again.new.reply)
-    (ap (λ s. fault_of s c.args.shadow.now) (sym (c.config.ensures.same ∙ c.ledger-ledger.ensures.settings ∙ ap (λ (z : SiteState). z.settings) c.self.view_is))
+    (ap (λ s. fault_of s c.args.shadow.now)
+    (sym (c.config.ensures.same ∙ c.ledger-ledger.ensures.settings ∙ ap (λ (z : SiteState). z.settings) c.self.view_is))
     ∙ c.in_default.ensures.sound)
     (c.in-Some.ensures
-    ∙ ap (λ us. option_map (λ (u : Shadow). same_shadow u c.args.shadow.now) (find_in us c.args.shadow.now.name)) c.ledger-ledger.ensures.entries
+    ∙ ap (λ us. option_map (λ (u : Shadow). same_shadow u c.args.shadow.now) (find_in us c.args.shadow.now.name))
+    c.ledger-ledger.ensures.entries
     ∙ ap (λ (z : SiteState). option_map (λ (u : Shadow). same_shadow u c.args.shadow.now)
     (find_in z.site.ops c.args.shadow.now.name)) c.self.view_is)
     c.again.ensures
 
 pub receive_new-requires-clause-sound : goal.receive_new-requires-clause-sound
 receive_new-requires-clause-sound c =
-    ap (λ s. fault_of s c.args.shadow.now) (sym (c.config.ensures.same ∙ c.ledger-ledger.ensures.settings ∙ ap (λ (z : SiteState). z.settings) c.self.view_is))
+    ap (λ s. fault_of s c.args.shadow.now)
+    (sym (c.config.ensures.same ∙ c.ledger-ledger.ensures.settings ∙ ap (λ (z : SiteState). z.settings) c.self.view_is))
     ∙ c.in_default.ensures.sound
 
 pub receive_new-requires-clause-new : goal.receive_new-requires-clause-new

@@ -22,8 +22,8 @@ generate-requires c = me_within c.self.inside.token.me c.view.result.me c.self.i
 
 pub returns-in-Err-clause-ok : goal.returns-in-Err-clause-ok
 returns-in-Err-clause-ok c =
-    let old : SiteState = state_as c.self.inside.recorded.settings c.self.inside.token.me c.self.inside.recorded.ops c.self.inside.inbox.held
-    c.self.inside.token.token in
+    let old : SiteState = state_as c.self.inside.recorded.settings c.self.inside.token.me c.self.inside.recorded.ops
+    c.self.inside.inbox.held c.self.inside.token.token in
     let P : SiteState → Type 0 = λ z. made_of z.settings z.site.me z.site.ops z.site.token c.args.request.now ≡ Err c.in-Err.why in
     refuses_request c.args.self.now c.args.request.now c.in-Err.why c.args.sent.now.items (plain c.give.new.place)
     (subst P c.self.view_is (made_here old c.ledger.result.now.settings c.view.result.me c.ledger.result.now.entries c.args.request.now
@@ -63,8 +63,8 @@ returns-clause-ok c =
     (state_as c.apply_made.new.self.settings c.self.inside.token.me c.apply_made.new.self.ops
     c.self.inside.inbox.held c.self.inside.token.token) c.args.sent.now.items c.push_reserved.new.self.items
     (outcome_of z.settings z.site (Submit c.args.request.now)) (plain c.give-2.new.place) in
-    let old : SiteState = state_as c.self.inside.recorded.settings c.self.inside.token.me c.self.inside.recorded.ops c.self.inside.inbox.held
-    c.self.inside.token.token in
+    let old : SiteState = state_as c.self.inside.recorded.settings c.self.inside.token.me c.self.inside.recorded.ops
+    c.self.inside.inbox.held c.self.inside.token.token in
     let Q : SeenLedger → Type 0 = λ b. Follows true old (state_as b.settings c.self.inside.token.me b.ops c.self.inside.inbox.held
     c.self.inside.token.token) c.args.sent.now.items c.push_reserved.new.self.items
     (outcome_of old.settings old.site (Submit c.args.request.now)) (plain c.give-2.new.place) in
