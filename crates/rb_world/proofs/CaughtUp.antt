@@ -48,11 +48,11 @@ changed_grows t (Applies v) x h = names-left t.ops (v ∷ []) x h
 changed_grows t (Takes m) x h = h
 changed_grows t (Passes m) x h = h
 
--- the site after an event, where its history wasn't full
+-- the site after an event, if its history wasn't full
 pub after_roomy : (s : Settings) (t : ModelSite) (e : Event) → is_full s t ≡ false → after_event s t e ≡ Runs.noted s t e
 after_roomy s t e h = ap (λ b. cond b t (Runs.noted s t e)) h
 
--- where a site's history wasn't full, it has one entry more after an event
+-- if a site's history wasn't full, it has one entry more after an event
 pub history_after : (s : Settings) (t : ModelSite) (e : Event) → is_full s t ≡ false →
     length (after_event s t e).history ≡ length t.history + 1
 history_after s t e h =

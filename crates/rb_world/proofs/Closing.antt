@@ -57,7 +57,8 @@ closing-next keeps s all before left rs x r popped far is =
     }
 
 -- there are as many reports as sites
-pub as_many : (keeps : Bool) (s : Settings) (ts : List ModelSite) (rs : List SiteReport) → AreReportsOf keeps s ts rs → length rs ≡ length ts
+pub as_many : (keeps : Bool) (s : Settings) (ts : List ModelSite) (rs : List SiteReport) → AreReportsOf keeps s ts rs
+    → length rs ≡ length ts
 as_many true s [] [] h = refl
 as_many true s [] (r ∷ rs) h = absurd h
 as_many true s (t ∷ ts) [] h = absurd h
@@ -67,7 +68,7 @@ as_many false s [] (r ∷ rs) h = absurd h
 as_many false s (t ∷ ts) [] h = absurd h
 as_many false s (t ∷ ts) (r ∷ rs) h = ap suc (as_many false s ts rs h.1)
 
--- where no site is left, the reports, the last one first, are those of all sites in their order
+-- if no site is left, the reports, the last one first, are those of all sites in their order
 pub closing-whole : (keeps : Bool) (s : Settings) (all : List ModelSite) (rs : List SiteReport) (left : List SeenSite) → length left ≡ 0
     → IsClosing keeps s all rs left → AreReportsOf keeps s all (reverse rs)
 closing-whole keeps s all rs (x ∷ left) none far = absurd (omega arith)

@@ -1,4 +1,4 @@
--- What holds of the world after every run.
+-- Claims that hold of the world after every run.
 use Rattle.std.proofs.Common.{◌≡◌, ◌≢◌, ℕ, ◌+◌, ◌<◌, ◌≤◌, Bool, true, false, cond, not, List, [], ◌∷◌, ◌++◌, refl, ap, sym, ◌∙◌, arith, ◌⊎◌}
 use Rattle.std.proofs.Common.{inl, inr, subst, Some}
 use Rattle.std.specs.Prelude.{slice_get, max, ◌==◌}

@@ -22,7 +22,7 @@ pub record IsOrderedSet (s : Settings) (all : List Shadow) : Type 0 where
 -- ---- one more operation is made, after just those of the list
 
 -- an operation with a new name, valid behind a part of those made: the part is just its past, and has all that were
--- made at its home and, where it is red, every red one
+-- made at its home and, if it is red, every red one
 pub record IsNew (s : Settings) (all us : List Shadow) (v : Shadow) : Type 0 where
   pub part : IsPart us all
   pub valid : IsValid s (us ++ v ∷ [])
@@ -39,7 +39,7 @@ part-more us v u h = Members.Among-left us (v ∷ []) u h
 pub last_cases : (us : List Shadow) (v u : Shadow) → Among u (us ++ v ∷ []) → Among u us ⊎ (u ≡ v)
 last_cases us v u h = elim (Members.Among-cases us (v ∷ []) u h) [ inl k ↦ inl k | inr k ↦ elim k [ inl e ↦ inr e | inr e ↦ elim e [ ] ] ]
 
--- a list that has one more where the set has it is a part of the set
+-- a list that has one more is a part of the set if the set has it
 pub part-last : (all us : List Shadow) (v : Shadow) → IsPart us all → Among v all → IsPart (us ++ v ∷ []) all
 part-last all us v part there u h = elim (last_cases us v u h) [ inl k ↦ part u k | inr e ↦ subst (λ w. Among w all) (sym e) there ]
 

@@ -39,7 +39,7 @@ and_true : (b : Bool) → (not b && true) ≡ not b
 and_true true = refl
 and_true false = refl
 
--- where an event arrives at a site that is there, the world's step is that of the site
+-- if an event arrives at a site that is there, the world's step is that of the site
 pub arrives : (s : Settings) (w : World) (ev : WorldEvent) (e : Event) (t : ModelSite) → arrival w.messages ev ≡ Some e →
     slice_get w.sites (site_of ev) ≡ Some t → Arrives s w ev e t
 arrives s w (At i d) e t arrived at = record {
@@ -179,7 +179,7 @@ AreOf s xs = All (λ (y : SeenSite). y.settings ≡ s) xs
 pub one_of : (s : Settings) (x : SeenSite) → x.settings ≡ s → AreOf s (x ∷ [])
 one_of s x h = All-cons (λ (y : SeenSite). y.settings ≡ s) x [] h (All-nil _)
 
--- where a site of the configuration takes one event more and is set among such sites, all have the configuration
+-- if a site of the configuration takes one event more and is set among such sites, all have the configuration
 pub settings_kept : (s : Settings) (xs : List SeenSite) (i : ℕ) (x : SeenSite) (e : Event) → x.settings ≡ s → AreOf s xs →
     AreOf s (slice_set xs i (next_site x e))
 settings_kept s xs i x e here all = All-set (λ (y : SeenSite). y.settings ≡ s) xs i (next_site x e) (Seen.settings-next x e ∙ here) all
@@ -206,7 +206,7 @@ got xs i None looked = sym (slice_get-map state_of xs i ∙ ap (option_map state
 got xs i (Some b) looked =
     sym (slice_get-map state_of xs i ∙ ap (option_map state_of) (slice_get_read xs (length xs) i b.now refl looked.3.0 looked.1))
 
--- where every site has the configuration, what `get` gives of them has it
+-- if every site has the configuration, what `get` gives of them has it
 pub got_settings : (s t : Settings) (xs : List SeenSite) (i : ℕ) (r : Option (Bor SeenSite)) → IsGetResult xs i i r → AreOf s xs → s ≡ t
     → IfSome r (λ (b : Bor SeenSite). b.now.settings ≡ t)
 got_settings s t xs i None looked all same = tt
@@ -214,7 +214,7 @@ got_settings s t xs i (Some b) looked all same = ap (λ (x : SeenSite). x.settin
 
 -- ---- memory for a list
 
--- where memory for many was taken behind an empty list, it has capacity for them
+-- if memory for many was taken behind an empty list, it has capacity for them
 pub reserved : {A : Type 0} (r : Result A AllocError) (len more many room : ℕ) → is_err r ≡ false → OnOk r (len + more ≤ room)
     → len ≡ 0 → more ≡ many → many ≤ room
 reserved (Ok a) len more many room e h none same = omega arith

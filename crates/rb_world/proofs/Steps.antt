@@ -1,4 +1,4 @@
--- What an event of the world comes to, case by case.
+-- The outcomes of an event of the world, case by case.
 use Rattle.std.proofs.Common.{◌≡◌, ◌≢◌, ℕ, ◌+◌, ◌<◌, ◌≤◌, Bool, true, false, cond, not, ◌&&◌, ◌||◌, List, [], ◌∷◌, ◌++◌, length, refl, ap}
 use Rattle.std.proofs.Common.{sym, ◌∙◌, ◌⊎◌, inl, inr, subst, Option, Some, None, Result, Ok, Err, append_assoc}
 use Rattle.std.specs.Prelude.{option_map, slice_get, slice_set, map, nat_lt, nat_le, ◌==◌, max, take}
@@ -69,8 +69,8 @@ sent_among m (n ∷ ms) (inr h) = sent_one_more ms n m (sent_among m ms h)
 pub sent_message : (ms : List Message) (k : ℕ) (m : Message) → message_at ms k ≡ Some m → IsSent ms m
 sent_message ms k m h = sent_among m ms (placed ms k m h)
 
--- what is known of an operation that a site comes to hold: it was sent, it is another site's, and its name is neither
--- applied nor held there
+-- what is known of an operation that a site comes to hold: it was sent, it is another site's, and its name is
+-- neither applied nor held there
 pub record MayHold (ms : List Message) (t : ModelSite) (v : Shadow) : Type 0 where
   pub sent : Among v (shadows_in ms)
   pub fresh : names t.ops v.name ≡ false

@@ -1,4 +1,4 @@
--- Where the red token is, and the red operations that its holder knows of.
+-- The place of the red token, and the red operations that its holder knows of.
 use Rattle.std.proofs.Common.{◌≡◌, ◌≢◌, ℕ, zero, suc, ◌+◌, ◌<◌, ◌≤◌, Bool, true, false, cond, List, [], ◌∷◌, ◌++◌, refl, ap, sym, ◌∙◌}
 use Rattle.std.proofs.Common.{arith, ◌⊎◌, inl, inr, subst, Some}
 use Rattle.std.specs.Prelude.{slice_get, map, ◌==◌, max}
@@ -69,7 +69,7 @@ tokens_right (n ∷ ms) ns m h = inr (tokens_right ms ns m h)
 
 -- ---- where the token is
 
--- the number in a red operation's name, or 0 where the operation is blue
+-- the number in a red operation's name, or 0 if the operation is blue
 abbrev pub red_number : OpName → ℕ
 red_number (Blue i n) = 0
 red_number (Red n) = n
@@ -369,7 +369,7 @@ first_place s some = record {
 
 -- ---- the law
 
--- where the token is in one place, at most one site has it
+-- if the token is in one place, at most one site has it
 pub one_holder : (s : Settings) (w : World) → IsInOnePlace w → OneToken s w
 one_holder s w p i t at held j u at' held' = by p.place
   where

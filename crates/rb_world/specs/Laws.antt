@@ -160,7 +160,7 @@ pub record SeenWorld : Type 0 where
 abbrev pub opened : Settings → SeenWorld
 opened s = record { settings = s; world = first_world s; events = [] }
 
--- the world after one event. It lists the event where a site recorded it
+-- the world after one event. It lists the event if a site recorded it
 abbrev pub next_world : SeenWorld → WorldEvent → SeenWorld
 next_world w e =
     record {

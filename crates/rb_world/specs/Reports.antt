@@ -1,4 +1,4 @@
--- What the sites of a world report as it is closed.
+-- The reports of the sites of a world as it is closed.
 use Rattle.std.specs.Prelude.{Bool, true, false, List, [], ◌∷◌}
 use Rattle.rb_money.specs.Settings.{Settings}
 use Rattle.rb_site.specs.declared.report.SiteReport.{SiteReport}

@@ -1,4 +1,5 @@
-//! What a world keeps of the events that its sites recorded.
+//! The part that a world keeps of the events that its sites recorded. It is a type parameter, so that a script keeps no
+//! events, by the same code.
 ghost use Rattle.std.specs.Prelude.{◌≡◌, IfOk};
 ghost use Rattle.rb_site.specs.declared.world_event.WorldEvent.{WorldEvent as TheEvent};
 
@@ -6,7 +7,7 @@ use rb_site::WorldEvent;
 use std::alloc::{AllocError, Global};
 use std::snapshot::Snapshot;
 
-/// What is kept of an event: the event, or nothing that takes memory.
+/// The part of an event that is kept: the event, or nothing that takes memory.
 pub trait KeepsEvent: Drop {
     // The event that was noted.
     ghost noted: { Self → TheEvent };

@@ -117,7 +117,7 @@ impl<E: KeepsEntry, R: KeepsEvent> World<E, R> {
         })
     }
 
-    /// One event, and its reply. The event is listed where a site recorded it. `Err` means out of memory, and comes
+    /// One event, and its reply. The event is listed if a site recorded it. `Err` means out of memory, and comes
     /// only for an event that a site would record: the world is then as before.
     pub fn step(&mut self, event: WorldEvent) -> Result<Reply, AllocError>
         requires { IsCommand event }
@@ -177,8 +177,8 @@ impl<E: KeepsEntry, R: KeepsEvent> World<E, R> {
         }
     }
 
-    /// What an event brings to its site arrives there: unless the site's history is full, the site takes a step, and
-    /// the event is listed.
+    /// The site's event `arrived` comes to the site: unless its history is full, the site takes a step, and the world's
+    /// event is listed.
     #[inline(always)]
     fn arrive(
         &mut self,

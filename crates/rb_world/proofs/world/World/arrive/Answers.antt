@@ -50,7 +50,7 @@ returns-then-is_full-clause-ok g c =
     full_step c.args.self.now c.args.event.now c.args.arrived.now (state_of c.index.result.now) c.requires.arrived
     (state_there g before.After-index) (the_full g before.After-is_full ∙ c.if-is_full.true)
 
--- ---- at another the event is recorded, where there is memory
+-- ---- at another the event is recorded, if there is memory
 
 recorded : (g : Over) (c : goal.Else-is_full g) → is_recorded c.args.self.now.settings c.args.self.now.world c.args.event.now ≡ true
 recorded g c =
