@@ -1,4 +1,4 @@
--- What a site has reported it keeps.
+-- A site keeps all that it has reported.
 use Rattle.std.proofs.Common.{◌≡◌, ℕ, ◌≤◌, Bool, true, false, cond, List, [], ◌∷◌, ◌++◌, length, take, drop, refl, ap, sym, subst, ◌∙◌}
 use Rattle.std.proofs.Common.{zero, suc, arith, inl, inr, Some}
 use Rattle.std.specs.Prelude.{nat_le, slice_get, slice_set}

@@ -1,4 +1,4 @@
--- What crashes lose, and what a deeper one would.
+-- The events that crashes lose, and the reports that a deeper crash would lose.
 use Rattle.std.proofs.Common.{◌≡◌, suc, ◌+◌, List, [], ◌∷◌, ◌++◌, length, take, refl, ap, arith, Some}
 use Rattle.std.specs.Prelude.{slice_get, slice_set}
 use Rattle.std.proofs.lemmas.List.{length-append, length-take-le}

@@ -15,7 +15,7 @@ use Rattle.rb_crashes.proofs.Places
 abbrev pub disk : ℕ → ℕ → List Event → DiskSite
 disk on_disk reported es = record { events = es; on_disk = on_disk; reported = reported }
 
--- the site with the event, where there is spare capacity
+-- the site with the event, if there is spare capacity
 recorded : (s : Settings) (w : List DiskSite) (i : ℕ) (d : DiskSite) (e : Event) → length d.events < s.limits.history →
     slice_set w i (record d { events = d.events ++ e ∷ [] })
     ≡ slice_set w i (cond (nat_le s.limits.history (length d.events)) d (record d { events = d.events ++ e ∷ [] }))

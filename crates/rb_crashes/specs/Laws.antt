@@ -1,4 +1,4 @@
--- What holds of every world whose sites crash.
+-- Laws of every world whose sites crash.
 use Rattle.std.specs.Prelude.{◌≡◌, ℕ, ◌<◌, ◌≤◌, ◌↔◌, List, [], ◌∷◌, ◌++◌, length, take, Some, slice_get, slice_set}
 use Rattle.rb_money.specs.Settings.{Settings}
 use Rattle.rb_money.specs.declared.limits.TheConstants.{MOST_SITES}

@@ -43,8 +43,8 @@ pub fn headline_holds()
     can_catch_up();
 }
 
-/// What a site reported, each event with its reply and its messages, is a prefix of its history and of what it has
-/// reported at any later time.
+/// The reports of a site, each an event with its reply and its messages, are a prefix of its history and of its reports
+/// at any later time.
 pub fn nothing_reported_is_lost()
     ensures { AfterSteps KeepsTheReported }
 {}
