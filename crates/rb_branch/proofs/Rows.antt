@@ -45,7 +45,7 @@ promise_push {X} {Y} at xs xs' x f t now len all here i h found =
     let Q : List X → Type 0 = λ l. slice_get l i ≡ Some h in
     row_push P xs x all (here ∙ ap at (sym len)) i h (subst Q now found)
 
--- what each element keeps by its handle's promise, where the promises are known by their places
+-- each element keeps the promise of its place, if the handles' promises are known by their places
 pub promised : {H C Y : Type 0} (hs : List H) (cs : List C) (f : H → Y) (at : ℕ → Y) (K : Y → C → Type 0)
     → ((k : ℕ) (h : H) → slice_get hs k ≡ Some h → f h ≡ at k)
     → ((k : ℕ) (c : C) → slice_get cs k ≡ Some c → (h : H) × (slice_get hs k ≡ Some h) × K (f h) c)

@@ -119,8 +119,8 @@ Explains reports seats (Mixed site) =
     (r : SiteReport) × (slice_get reports site ≡ Some r) × ¬ IsGathered site r.history.items seats
 Explains reports seats OutOfMemory = Unit {0}
 
--- what looking at the report at k finds, where b says that there are fewer receipts than entries: that it is of the site
--- k and gathered, or a fault of that site
+-- the outcome of a look at the report at k: it is of the site k and gathered, or there is a fault of that site; b says
+-- that there are fewer receipts than entries
 abbrev pub LooksSo : List SiteReport → List SeenSeat → Bool → ℕ → Result (Unit {0}) GatherFault → Type 0
 LooksSo reports seats b k found =
     (r : SiteReport) → slice_get reports k ≡ Some r

@@ -48,24 +48,25 @@ pub record HoldsReceipt (site number : ℕ) (seats : List SeenSeat) (k : ℕ) : 
 abbrev pub AreDistinct : ℕ → List SeenSeat → Type 0
 AreDistinct site seats = (number j k : ℕ) → HoldsReceipt site number seats j → HoldsReceipt site number seats k → j ≡ k
 
--- the table has k for this number, where it is long enough, and all else is as before
+-- the table contains k for this number, if it is long enough, and all else is as before
 abbrev pub Puts : ℕ → ℕ → List ℕ → List ℕ → Type 0
 Puts number k old new =
     (length new ≡ length old)
     × ((i v : ℕ) → slice_get new i ≡ Some v → ((v ≡ k) × (number ≡ i + 1)) ⊎ ((slice_get old i ≡ Some v) × (number ≢ i + 1)))
 
--- the table has k for the numbers of the first m receipts, where it is long enough, and all else is as before
+-- the table contains k for the numbers of the first m receipts, if it is long enough, and all else is as before
 abbrev pub PutsAll : ℕ → List Receipt → ℕ → List ℕ → List ℕ → Type 0
 PutsAll m rs k old new =
     (length new ≡ length old)
     × ((i v : ℕ) → slice_get new i ≡ Some v → ((v ≡ k) × HasWithin m (i + 1) rs) ⊎ ((slice_get old i ≡ Some v) × ¬ HasWithin m (i + 1) rs))
 
--- the table has at each number a seat among the first m that claims it, or the number of seats where none of these does
+-- the table contains at each number a seat among the first m that claims it, or the number of seats if none of these
+-- does
 abbrev pub OwnedWithin : ℕ → ℕ → List SeenSeat → List ℕ → Type 0
 OwnedWithin m site seats owners =
     (i v : ℕ) → slice_get owners i ≡ Some v
     → ((v < m) × HoldsReceipt site (i + 1) seats v) ⊎ ((v ≡ length seats) × ((j : ℕ) → j < m → ¬ HoldsReceipt site (i + 1) seats j))
 
--- the table has at each number, from 1, a seat that claims it, or the number of seats where none does
+-- the table contains at each number, from 1, a seat that claims it, or the number of seats if none does
 abbrev pub AreOwners : ℕ → List SeenSeat → List ℕ → Type 0
 AreOwners site seats owners = OwnedWithin (length seats) site seats owners

@@ -1,4 +1,4 @@
--- What a call does to a desk and to a seat.
+-- The effect of a call on a desk and on a seat.
 use Rattle.std.specs.Prelude.{◌≡◌, ◌≢◌, ◌⊎◌, ℕ, ◌+◌, ◌≤◌, ◌<◌, Bool, true, false, Option, Some, None, zero, suc}
 use Rattle.std.specs.Prelude.{slice_get, drop, List, [], ◌∷◌, ◌++◌, length, All}
 use Rattle.rb_money.specs.Settings.{Settings}

@@ -22,7 +22,7 @@ use Rattle.rb_site.specs.Seen.{entry}
 unfoldable pub next_number : ℕ → ℕ
 next_number x = (x * MULTIPLIER + INCREMENT) % 2 ^ 64
 
--- a cancellation of the last operation that a teller made, by its name, or a deposit of 1 cent where there is none
+-- a cancellation of the last operation that a teller made, by its name, or a deposit of 1 cent if there is none
 abbrev pub cancel_or : Place → Option OpName → Request
 cancel_or a None = Deposit a 1
 cancel_or a (Some x) = Cancel x

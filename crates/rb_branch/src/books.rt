@@ -1,4 +1,7 @@
 //! The books of a branch.
+//!
+//! Both ledgers count under one lock, which an event takes for a moment. So there are as many entries as receipts
+//! whenever it is got, by the type alone; with a lock for each ledger no type could say so.
 ghost use Rattle.std.specs.Prelude.{◌≡◌, ◌+◌, ◌<◌, ◌≤◌, ◌↔◌, [], IsSome, IfSome, OnSome};
 ghost use Rattle.rb_branch.specs.declared.limits.TheConstants.{MOST_SEATS, RECEIPT_PARTS};
 
@@ -7,7 +10,7 @@ use std::alloc::Global;
 use std::marker::Model;
 use std::sync::ledger::{Blank, Book, Ledger, Share};
 
-/// What lies behind the one lock that all sites share: how many entries and how many receipts there are,
+/// The contents of the one lock that all sites share: how many entries and how many receipts there are,
 /// which is one number, and the parts of the receipts that no seat has. Clients see how many seats were given.
 #[derive(Drop)]
 pub struct Books<E: Entries, R: Ledger> {

@@ -1,4 +1,4 @@
-//! What a seat asks of its site.
+//! The calls that a seat makes at its site.
 ghost use Rattle.std.specs.Prelude.{◌≡◌, IfOk, OnErr};
 ghost use Rattle.rb_branch.specs.Seats.{HasOneMore};
 
@@ -75,7 +75,7 @@ impl<E: Entries, R: Ledger, G: Gate + Drop> Branch<E, R, G> {
         self.make(rt, seat, Some(outbox), Event::Pass(to))
     }
 
-    /// One event. What it sends goes out by the outbox once the site's lock is released.
+    /// One event. Its messages go out by the outbox once the site's lock is released.
     pub fn send<W: Wait>(
         &self,
         rt: &W,
@@ -89,7 +89,7 @@ impl<E: Entries, R: Ledger, G: Gate + Drop> Branch<E, R, G> {
         self.make(rt, seat, Some(outbox), event)
     }
 
-    /// One event. What it sends goes out by the outbox, if there is one, once the site's lock is released.
+    /// One event. Its messages go out by the outbox, if there is one, once the site's lock is released.
     fn make<W: Wait>(
         &self,
         rt: &W,

@@ -82,9 +82,9 @@ impl<E: Entries, R: Ledger> Closed<E, R> {
         self.books.seats()
     }
 
-    /// The reports, where each history is the receipts of the seats given back for it, interleaved. Else the
-    /// first site where it isn't so: where receipts are missing in all, the first where they are missing or
-    /// are others. Where every seat is given back, none is missing. `OutOfMemory` where there is no memory to find out.
+    /// The reports, if each history is the receipts of the seats given back for it, interleaved. Else the first
+    /// site at which it isn't so: if receipts are missing in all, the first at which they are missing or are
+    /// others. If every seat is given back, none is missing. `OutOfMemory` if there is no memory to find out.
     pub fn settle(self, seats: Vec<Seat<E, R>>) -> Result<Vec<SiteReport>, GatherFault>
         ensures ok { IfOk result (λ reports. (reports.items ≡ self.reports) × AllGathered reports.items seats.items) }
         ensures err { IfErr result (Explains self.reports seats.items) }
@@ -120,7 +120,7 @@ impl<E: Entries, R: Ledger> Closed<E, R> {
         }
     }
 
-    /// Takes the seats back: the reports, what the seats gave, and whether there are fewer receipts than entries. Where
+    /// Takes the seats back: the reports, what the seats gave, and whether there are fewer receipts than entries. If
     /// every seat is given back, there are as many. `Err` means out of memory.
     fn take_in(
         self,
@@ -237,7 +237,7 @@ fn look_at(
 {
     let site = report.me;
     if usize::from(site) != number {
-        // No type can say that each lock's site is at its number, where `Branch::open` puts it.
+        // `Branch::open` puts each lock's site at its number, but no type can say so.
         return Err(GatherFault::OutOfMemory);
     }
     if missing && count_at(site, seats) < report.history.len() as u64 {

@@ -1,4 +1,8 @@
 //! Sites opened and closed, and seats given back.
+//!
+//! Each desk and each seat has one part of a ledger. As they end, their shares are merged, so that the merged share
+//! counts every entry or receipt that they have. Closing takes no memory: `Branch::open` took it for the reports. Desks
+//! can't be dropped, so sites that were opened before memory ran out are closed too.
 ghost use Rattle.std.specs.Prelude.{◌≡◌, ◌+◌, ◌≤◌, [], All, IfOk, vec_capacity, vec_len};
 ghost use Rattle.rb_branch.specs.Gathered.{IsClosedReport, entries_in, receipts_in};
 

@@ -1,4 +1,7 @@
 //! The threads of a run.
+//!
+//! A serving thread ends once its link closes, and a link closes once all its outboxes are dropped. So the run gives
+//! each teller a copy of the outbox and drops its own before it waits, else the serving threads would never end.
 ghost use Rattle.std.specs.Prelude.{◌≡◌, ◌+◌, ◌%◌, ◌<◌, [], ℕ, IfOk, Some, vec_len, slice_get};
 ghost use Rattle.rb_branch.specs.Tellers.{IsCrew, IsServer, IsTeller};
 
@@ -19,7 +22,7 @@ pub(crate) type TellerHandle<E, R> = PromisedHandle<Result<Seat<E, R>, CallFault
 /// A serving thread, which gives its seat back.
 pub(crate) type ServerHandle<E, R> = PromisedHandle<Result<Seat<E, R>, CallFault>, ServerOf>;
 
-/// What the threads of a run have in common: the scope that they end in, the branch, and how many sites it has.
+/// The values that all threads of a run use: the scope that they end in, the branch, and how many sites it has.
 #[derive(Drop)]
 pub(crate) struct Crew<'s, X, E: Entries, R: Ledger, G: Gate, W> {
     pub scope: &'s Scope<'s, X>,

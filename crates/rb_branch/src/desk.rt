@@ -1,4 +1,8 @@
 //! Desks, seats, and the one call that makes a receipt.
+//!
+//! Only `record` makes receipts and entries, and it counts them in the books by the lengths of both lists. So an event
+//! that leaves no entry at its own site can't be counted. Memory is taken before the step, so a call that fails leaves
+//! desk and seat as they were.
 ghost use Rattle.std.specs.Prelude.{◌≡◌, ◌<◌, ◌≤◌, ◌++◌, ◌∷◌, [], All, IfNone, IfOk, IfSome, List, OnErr, Err, Ok};
 ghost use Rattle.std.specs.Prelude.{IsTrue, None, false, length};
 ghost use Rattle.std.specs.Option.{option_copied};
@@ -25,7 +29,7 @@ use std::marker::{Model, PhantomData};
 use std::sync::ledger::{Ledger, Share};
 use std::sync::{Mutex, Wait};
 
-/// What lies behind a site's lock: the site, and its share of the entries. Clients see the site. It can't be
+/// The contents of a site's lock: the site, and its share of the entries. Clients see the site. It can't be
 /// dropped.
 pub struct Desk<E: Entries> {
     site: Site,
@@ -136,7 +140,7 @@ fn note(
 
 /// The first, by home, colour and number, of the held operations whose past the desk's site applied is applied, and its
 /// receipt is the last of the seat, as `record` puts it: its number there, and what is to be sent. `None` comes only
-/// where there is no such operation; there is no event then.
+/// if there is no such operation; there is no event then.
 pub fn record_ready<E: Entries, R: Ledger, W: Wait>(
     rt: &W,
     desk: &mut Desk<E>,

@@ -1,4 +1,7 @@
 //! The receiving ends of links.
+//!
+//! Memory for a message is taken before it leaves its link, so that running out of memory loses none. The inlet keeps
+//! what finds the inbox full. All of it is received again after each application, as a later one may be ready first.
 ghost use Rattle.std.specs.Prelude.{◌≡◌, ◌<◌, ◌++◌, ◌∷◌, [], IfOk, MatchBool, OnErr, Some, length, slice_get};
 ghost use Rattle.std.specs.List.{remove};
 ghost use Rattle.rb_site.specs.declared.message.Message.{Message as MessageOf};
@@ -45,7 +48,7 @@ impl Inlet {
         self.link.recv(rt).ok()
     }
 
-    /// What it keeps.
+    /// The messages that it keeps.
     pub fn kept(&self) -> &[Message]
         ensures { result.now ≡ self.now }
     {
@@ -67,7 +70,7 @@ impl Inlet {
         Ok(true)
     }
 
-    /// Takes the next message that has come by the link, without waiting, and keeps it behind the others. `false` where
+    /// Takes the next message that has come by the link, without waiting, and keeps it behind the others. `false` if
     /// none has come. After an `Err`, out of memory, nothing was taken.
     pub(crate) fn take_come<W: Wait>(&mut self, rt: &W) -> Result<bool, AllocError>
         ensures ok { IfOk result

@@ -1,4 +1,7 @@
 //! Threads joined, and their seats put together.
+//!
+//! All threads are joined before the fault of one is returned. Seats stay in the order of the handles: by its place a
+//! seat is known to be as its thread promised.
 ghost use Rattle.std.specs.Prelude.{◌≡◌, ◌++◌, ℕ, map, IfOk, Ok, Some, vec_len, slice_get};
 ghost use Rattle.rb_branch.specs.Seats.{SeenSeat};
 
@@ -24,7 +27,7 @@ pub(crate) fn join<E: Entries, R: Ledger, P: Promise<Result<Seat<E, R>, CallFaul
     all_ok(alloc, results)
 }
 
-/// The seats, where every thread gave one back.
+/// The seats, if every thread gave one back.
 fn all_ok<E: Entries, R: Ledger>(
     alloc: Global,
     results: Vec<Result<Seat<E, R>, CallFault>>,

@@ -1,4 +1,7 @@
 //! Whether a history is its seats' receipts, interleaved.
+//!
+//! A receipt has its entry's number, so a table of owners says for each entry which seat has its receipt. With it the
+//! time is linear in entries and receipts; a search of all seats for each entry would cost their number times as much.
 ghost use Rattle.std.specs.Prelude.{◌≡◌, ◌+◌, ◌^◌, ◌<◌, ◌↔◌, ℕ, IfOk, IfSome, IsNone, IsTrue, length};
 ghost use Rattle.rb_site.specs.Seen.{entry as entry_of};
 ghost use Rattle.rb_branch.specs.Gathered.{IsGathered};
@@ -38,7 +41,7 @@ pub(crate) fn merges(
     Ok(all_read(site, seats, next.as_slice()))
 }
 
-/// The seat that the table has at this index, if its next receipt has the number one above the index.
+/// The seat that the table contains at this index, if its next receipt has the number one above the index.
 fn holder(
     site: u8,
     index: usize,

@@ -1,4 +1,7 @@
 //! Which seat has which receipt of a site.
+//!
+//! The table is filled in one pass over the receipts, and takes two bytes for each entry. Of two seats with one number
+//! it keeps the last. So a merge never reads the other's receipt, and finds in the end that it is left.
 ghost use Rattle.std.specs.Prelude.{◌≡◌, ◌+◌, ◌^◌, ◌<◌, List, Some, slice_get, IfOk, length, vec_len};
 ghost use Rattle.rb_branch.specs.Owners.{AreOwners, OwnedWithin, Puts, PutsAll};
 ghost use Rattle.rb_branch.specs.Seats.{SeenSeat};
@@ -8,7 +11,7 @@ use crate::returned_seat::ReturnedSeat;
 use std::alloc::{AllocError, Global};
 
 /// For each number of the site, from 1 to this count, the seat that has its receipt, counted from 0; the
-/// number of seats where none has. Of two with one number it is the last. `Err` means out of memory.
+/// number of seats if none has. Of two with one number it is the last. `Err` means out of memory.
 pub(crate) fn owners_of(
     alloc: Global,
     site: u8,
@@ -47,7 +50,7 @@ fn put_all(owners: &mut Vec<u16>, k: u16, receipts: &[Receipt])
     }
 }
 
-/// Puts a seat into the table at a number, from 1, where the table has it.
+/// Puts a seat into the table at a number, from 1, if the table is long enough.
 fn put(owners: &mut Vec<u16>, k: u16, number: u32)
     ensures { Puts number k owners.old.items owners.new.items }
 {

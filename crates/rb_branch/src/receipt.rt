@@ -5,14 +5,14 @@
 
 use rb_site::{Event, Reply};
 
-/// What a seat keeps of one event that it made.
+/// The record that a seat keeps of one event that it made.
 #[derive(Debug, Drop)]
 pub struct Receipt {
     /// The position of its entry in the site's history, from 1.
     pub number: u32,
-    /// What happened.
+    /// The event.
     pub event: Event,
-    /// What the site answered.
+    /// The site's answer.
     pub reply: Reply,
     /// How many sendings failed: each message that went with it counts once for each link that refused it, as
     /// its inlet was dropped or there was no memory, or that wasn't there.

@@ -1,4 +1,7 @@
-//! What a server does at its desk while it has the site's lock.
+//! The steps of a server at its desk while it has the site's lock.
+//!
+//! A message that finds the inbox full stays in the inlet. All that is kept is received again after each application,
+//! as a later one may be ready first. Until then each is received once: the index says which were refused already.
 ghost use Rattle.std.specs.Prelude.{◌≡◌, ◌<◌, ◌+◌, ◌^◌, ℕ, IfNone, IfOk, IfSome, MatchOption, OnErr, OnOk, length};
 ghost use Rattle.rb_branch.specs.Seats.{HasOneMore, HasServed, IsApply, RefusesOn};
 
@@ -53,7 +56,7 @@ fn receive_from<E: Entries, R: Ledger, W: Wait>(
     Ok(())
 }
 
-/// Receives the kept message at this index. It stays where the inbox is full, and goes otherwise: the index
+/// Receives the kept message at this index. It stays if the inbox is full, and goes otherwise: the index
 /// of the next.
 fn receive_at<E: Entries, R: Ledger, W: Wait>(
     rt: &W,

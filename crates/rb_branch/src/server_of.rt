@@ -1,4 +1,4 @@
-//! What a serving thread promises.
+//! The promise of a serving thread.
 ghost use Rattle.std.specs.Prelude.{IfOk};
 ghost use Rattle.rb_branch.specs.Tellers.{IsServer};
 

@@ -14,10 +14,10 @@ const MOST_STEPS: u32 = 64;
 
 impl<E: Entries, R: Ledger, G: Gate + Drop> Branch<E, R, G> {
     /// Receives what the inlet keeps and then what comes by its link until it closes, and after each message
-    /// applies what is ready. Ok is how many receipts the seat has more. What the site refuses as its inbox is
-    /// full is received again after each application; where it never finds space it goes with the inlet, and the
-    /// seat has a receipt of its refusal. After an `Err` the seat has the receipts of the events before, and what was
-    /// taken and not received goes with the inlet: `serve_from` leaves it with the caller.
+    /// applies what is ready. Ok is how many receipts the seat has more. A message that the site refuses as its inbox
+    /// is full is received again after each application; if it never finds space it goes with the inlet, and the seat
+    /// has a receipt of its refusal. After an `Err` the seat has the receipts of the events before, and what was taken
+    /// and not received goes with the inlet: `serve_from` leaves it with the caller.
     ///
     /// The link closes once all outboxes are dropped, so a thread that serves must not hold one of them: it
     /// would wait for itself.
@@ -35,8 +35,8 @@ impl<E: Entries, R: Ledger, G: Gate + Drop> Branch<E, R, G> {
         self.serve_from(rt, seat, &mut inlet)
     }
 
-    /// The same, with an inlet that stays with the caller. What the site refuses as its inbox is full is kept in
-    /// the inlet, and all that is kept is received again after each application. After an `Err` the seat has the
+    /// The same, with an inlet that stays with the caller. A message that the site refuses as its inbox is full is kept
+    /// in the inlet, and all that is kept is received again after each application. After an `Err` the seat has the
     /// receipts of the events before, the inlet keeps what was taken and not received, and `serve_from` may be
     /// called again. After Ok the call's own receipts have the refusal of each message that is kept.
     pub fn serve_from<W: Wait>(

@@ -1,4 +1,7 @@
 //! Tellers.
+//!
+//! Each call follows from a teller's number and the name of the last operation that it made, and from nothing else. So
+//! the contract names every call, and one can find a teller's calls again in the histories of a run.
 ghost use Rattle.std.specs.Prelude.{◌≡◌, ◌<◌, ◌++◌, ◌∷◌, [], List, IfOk};
 ghost use Rattle.rb_branch.specs.declared.receipt.Receipt.{Receipt};
 ghost use Rattle.rb_branch.specs.Tellers.{IsTeller, call_of, cancel_or, last_after, next_number};
@@ -14,10 +17,10 @@ use std::sync::ledger::Ledger;
 /// How many calls a teller makes.
 pub const CALLS: u8 = 100;
 
-/// What a teller's number is multiplied by, modulo 2^64, for the next one.
+/// The factor that a teller's number is multiplied by, modulo 2^64, for the next one.
 pub const MULTIPLIER: u64 = 6_364_136_223_846_793_005;
 
-/// What is added then.
+/// The number that is added then.
 pub const INCREMENT: u64 = 1_442_695_040_888_963_407;
 
 /// A teller's calls, one after another, each chosen by the next number and the name of the last operation
@@ -86,7 +89,7 @@ fn call_at(x: u64, last: Option<OpName>, site: u8, sites: u8) -> Event
     }
 }
 
-/// A cancellation of the last name, or a deposit of 1 where there is none.
+/// A cancellation of the last name, or a deposit of 1 if there is none.
 fn cancel_last(account: Place, last: Option<OpName>) -> Request
     ensures { result ≡ cancel_or account last }
 {

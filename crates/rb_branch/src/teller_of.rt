@@ -1,4 +1,4 @@
-//! What a teller's thread promises.
+//! The promise of a teller's thread.
 ghost use Rattle.std.specs.Prelude.{IfOk};
 ghost use Rattle.rb_branch.specs.Tellers.{IsTeller};
 
