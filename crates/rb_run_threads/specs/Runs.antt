@@ -1,4 +1,4 @@
--- What a run of tellers comes to, and what was written by its end.
+-- The outcome of a run of tellers, and the text that was written by its end.
 use Rattle.std.specs.Prelude.{◌≡◌, ◌⊎◌, ℕ, List, [], length, Some, slice_get, Result, Ok, Err}
 use Rattle.rb_money.specs.Settings.{Settings}
 use Rattle.rb_site.specs.declared.entry.Entry.{Entry}
@@ -27,7 +27,7 @@ pub record IsRun (sites tellers seed : ℕ) (text : List ℕ) : Type 0 where
 abbrev pub BeginsRun : ℕ → ℕ → ℕ → List ℕ → Type 0
 BeginsRun sites tellers seed text = (whole : List ℕ) × IsRun sites tellers seed whole × IsFront text whole
 
--- the result of a run of tellers at sites, by the numbers of both, where the text was written; it reads nothing, so it has
+-- the result of a run of tellers at sites, by the numbers of both, which wrote this text; it reads nothing, so it has
 -- no other fault
 abbrev pub ThreadsEndAs : Result Unit ScriptFault → ℕ → ℕ → ℕ → List ℕ → Type 0
 ThreadsEndAs (Ok u) sites tellers seed text = IsRun sites tellers seed text

@@ -7,7 +7,7 @@ ghost use Rattle.rb_run_threads.specs.Bank.{accounts, bank_of};
 use rb_money::{Config, ConfigFault, Limits};
 use std::alloc::{AllocError, Global};
 
-/// What each account starts with, in cents.
+/// The starting balance of each account, in cents.
 const START: u64 = 1000;
 
 /// The accounts, each with its starting balance.

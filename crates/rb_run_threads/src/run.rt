@@ -18,7 +18,7 @@ use std::thread::Threads;
 ///
 /// Teller `t`, from 0, is at site `t % sites`; its calls come from its own numbers, the first of which is `seed + t`.
 /// One more thread at each site receives what the others send, and applies what is ready. All threads have ended before
-/// anything is written. Refuses with `OutOfMemory`, also where a thread can't be made; with `Gather` where a site's
+/// anything is written. Refuses with `OutOfMemory`, also if a thread can't be made; with `Gather` if a site's
 /// history was full, or is no interleaving of the clients' receipts; and with `Write`.
 pub fn run_threads<G: Gate + Drop + Sync, K: Sink, W: Threads + Wait + Sync>(
     rt: &W,
@@ -32,7 +32,7 @@ pub fn run_threads<G: Gate + Drop + Sync, K: Sink, W: Threads + Wait + Sync>(
     requires some_sites { 2 ≤ sites }
     requires few_sites { sites ≤ MOST_SITES }
     requires fresh { K.failed writer.old ≡ false }
-    // What is written is the configuration and histories that the tellers made.
+    // The written text is the configuration and the histories that the tellers made.
     ensures written { (text : List ℕ) × Appends (K.contents writer.old) (K.contents writer.new) text
         × ThreadsEndAs result sites tellers seed text }
     ensures write { (result ≡ Err Write) ↔ (K.failed writer.new ≡ true) }
