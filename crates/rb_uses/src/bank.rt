@@ -49,7 +49,7 @@ pub fn bank_after(alloc: Global, events: &[WorldEvent]) -> Result<World, AllocEr
     }
 }
 
-/// What a site has for an account, in cents.
+/// The balance that a site has for an account, in cents.
 pub fn balance(world: &World, site: u8, account: Place) -> u64
     requires site { site < length world.now.world.sites }
     requires account { account.0 < length world.now.settings.starts }

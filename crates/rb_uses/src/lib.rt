@@ -1,5 +1,5 @@
 //! Uses of the sites of a bank, as a client writes them. The first is the one to read.
-//! Tests: none. What each call answers is in its contract.
+//! Tests: none. Each call's contract says what it answers.
 #![tactic(auto)]
 
 mod bank;
@@ -77,7 +77,7 @@ pub fn cancel_gives_back(alloc: Global, amount: u64) -> Result<(u64, u64), Alloc
 }
 
 /// A batch of a deposit and a withdrawal: what is answered, the balance, and how many messages were sent.
-/// Where the withdrawal isn't covered, the whole batch is refused.
+/// If the withdrawal isn't covered, the whole batch is refused.
 pub fn batch_is_refused_whole(
     alloc: Global,
     deposited: u64,

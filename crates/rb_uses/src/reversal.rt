@@ -19,7 +19,7 @@ use rb_undo::UndoLog;
 use std::alloc::Global;
 
 /// An operation is applied and undone: the list is that before. One that is refused comes back with the
-/// refusal, and out of memory is a refusal only where the ledger has no spare capacity.
+/// refusal, and out of memory is a refusal only if the ledger has no spare capacity.
 pub fn there_and_back(ledger: &mut Ledger, shadow: Shadow) -> Result<(), (Shadow, Refusal)>
     ensures settings { ledger.new.settings ≡ ledger.old.settings }
     ensures entries { ledger.new.entries ≡ ledger.old.entries }
@@ -35,7 +35,7 @@ pub fn there_and_back(ledger: &mut Ledger, shadow: Shadow) -> Result<(), (Shadow
 }
 
 /// The operations after the first `position` are undone, the last one first, each by its record of the log.
-/// Nothing is undone where there are no more than `position`.
+/// Nothing is undone if there are no more than `position`.
 pub fn back_to(ledger: &mut Ledger, log: &mut UndoLog, position: u32)
     requires { log.old.parts ≡ records_of ledger.old.settings ledger.old.entries }
     ensures settings { ledger.new.settings ≡ ledger.old.settings }
