@@ -72,7 +72,7 @@ module _ (all : Bool) (me : ℕ) (bank : List ℕ) (most number : ℕ) (input le
     answered = subst (λ s. AnswersAll all x s number (served_input pending left) still output now said ended) opens.sends_are a;
   }
 
-  -- where the site's journal is full, the whole run's is
+  -- if the site's journal is full, the whole run's is
   pub full_behind : IsFull (SiteAnswers all) number (served_input pending left) x (journal_of x)
       → IsFullBehind all me bank input (recovered file)
   full_behind full = record {

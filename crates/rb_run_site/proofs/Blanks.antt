@@ -20,7 +20,7 @@ pub record Blanks (all : List ℕ) (number : ℕ) (pending rest : List ℕ) (end
   pub are_blank : not_blank done ≡ []
   pub number_is : number ≡ 1 + length done
 
--- the same where the source's bytes are known
+-- the same if the source's bytes are known
 abbrev pub BlanksKnown : Option (List ℕ) → Option (List ℕ) → ℕ → List ℕ → Bool → Type 0
 BlanksKnown None now n p e = Unit {0}
 BlanksKnown (Some all) None n p e = ⊥

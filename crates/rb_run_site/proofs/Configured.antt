@@ -1,4 +1,4 @@
--- What is behind the configuration's line, and the site that is opened for it.
+-- The lines behind the configuration's line, and the site that is opened for it.
 use Rattle.std.proofs.Common.{◌≡◌, ◌<◌, ◌≤◌, ◌+◌, ◌⊎◌, ℕ, Bool, true, List, [], ◌∷◌, ◌++◌, length, take, drop, Option}
 use Rattle.std.proofs.Common.{Some, None, refl, sym, ap, subst, ◌∙◌, arith}
 use Rattle.std.specs.Prelude.{IfSome}
@@ -55,7 +55,8 @@ pub first_once : (old : SeenAsked) (me : ℕ) (bank : List ℕ) → old ≡ firs
 first_once old me bank begins = subst (λ (x : SeenAsked). AreIdsOnce x.asked) (sym begins) none_once
 
 -- the site that a file is replayed at is the configuration's
-pub opened : (config : List ℕ) (me : ℕ) (bank : List ℕ) (most : ℕ) (old new : SeenAsked) (file first sends : List ℕ) → IsOf config me bank old
+pub opened : (config : List ℕ) (me : ℕ) (bank : List ℕ) (most : ℕ) (old new : SeenAsked) (file first sends : List ℕ)
+    → IsOf config me bank old
     → old ≡ first_asked old.settings me bank → OpensFile old new file first sends most → OpensSite config me bank most file new first sends
 opened config me bank most old new file first sends is begins o = record {
   is_of = record {

@@ -56,7 +56,7 @@ pub record AreTheirs (s : Settings) (me : ℕ) (xs : List AskedEntry) : Type 0 w
   pub batch : IsBatch (flat_map (fed s me) xs)
   pub lines : recovered (flat_map (fed s me) xs) ≡ map (fed s me) xs
 
--- so it is with any entries under a configuration, where what is written for each entry is one line
+-- so it is with any entries under a configuration, if what is written for each entry is one line
 pub are_theirs : EntriesAreLines → (s : Settings) → IsConfigured s → (me : ℕ) (xs : List AskedEntry) → HaveIds xs
     → AreTheirs s me xs
 are_theirs are s ok me [] ids = record { batch = refl; lines = refl }

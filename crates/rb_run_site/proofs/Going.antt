@@ -39,7 +39,7 @@ no_entries : (lines : List (List ℕ)) (x : SeenAsked) → lines ≡ [] → IsJo
 no_entries lines x none (inl is) = ap (λ (y : SeenAsked). y.asked) is.1
 no_entries lines x none (inr is) = absurd (cc (none, is))
 
--- so it is with what a configured site's journal is still to begin with, where a configuration's line is one line
+-- so it is with what a configured site's journal is still to begin with, if a configuration's line is one line
 pub begins : ConfigsAreLines → (lines : List (List ℕ)) (x : SeenAsked) (first : List ℕ) → IsConfigured x.settings
     → IsJournalOf lines x
     → IsToBegin lines x first → Begins lines x first
@@ -87,7 +87,8 @@ silent : (output sends d : List ℕ) → d ≡ output → AddsPrefix output send
 silent output sends d same = (0, same ∙ sym (append-nil output))
 
 -- while the file is opened, a new journal is still new, and any other is the site's
-pub opened : (all : Bool) (file : List ℕ) (x : SeenAsked) (first sends : List ℕ) (number : ℕ) (input : Option (List ℕ)) (output c d : List ℕ)
+pub opened : (all : Bool) (file : List ℕ) (x : SeenAsked) (first sends : List ℕ) (number : ℕ)
+    (input : Option (List ℕ)) (output c d : List ℕ)
     → IsToBegin (recovered file) x first → IsUndamaged file (journal_head x.settings) → IsLeftAs (recovered file) output c d
     → IsRepaired file c → (IsIntact file → IsIntact c) → IsNewOrAnswered all (recovered file) x sends number input output c d
 opened all file x first sends number input output c d begin (inl new) left repaired ok =
@@ -102,7 +103,8 @@ rest_is first = recovered-append first (32 ∷ []) ∙ ap (λ ls. recovered firs
     ∙ append-nil (recovered first)
 
 -- while the journal begins, a new one is still new, or it is the site's
-begun_file : (all : Bool) (lines : List (List ℕ)) (x : SeenAsked) (first sends : List ℕ) (number : ℕ) (input : Option (List ℕ)) (output c d : List ℕ)
+begun_file : (all : Bool) (lines : List (List ℕ)) (x : SeenAsked) (first sends : List ℕ) (number : ℕ)
+    (input : Option (List ℕ)) (output c d : List ℕ)
     → Begins lines x first → IsToBegin lines x first → recovered c ≡ lines → d ≡ output → IsAppended lines first c → IsIntact c
     → IsNewOrAnswered all lines x sends number input output c d
 begun_file all lines x first sends number input output c d is (inl none) same still (inl shut) intact =
@@ -117,7 +119,8 @@ begun_file all lines x first sends number input output c d is (inr whole) same s
     inr (no_turn all x sends number input output c d (same ∙ whole.0) intact (silent output sends d still))
 
 -- and while what is sent again goes out, no turn is made
-pub begun : (all : Bool) (lines : List (List ℕ)) (x : SeenAsked) (first sends reply : List ℕ) (number : ℕ) (input : Option (List ℕ)) (output c d : List ℕ)
+pub begun : (all : Bool) (lines : List (List ℕ)) (x : SeenAsked) (first sends reply : List ℕ) (number : ℕ)
+    (input : Option (List ℕ)) (output c d : List ℕ)
     → Begins lines x first → IsToBegin lines x first → reply ≡ sends → IsDurable lines (recovered first) output reply c d
     → IsAppended lines first c → IsIntact c → IsNewOrAnswered all lines x sends number input output c d
 begun all lines x first sends reply number input output c d is begin same (inl at) appended intact =
@@ -126,7 +129,8 @@ begun all lines x first sends reply number input output c d is begin same (inr a
     inr (no_turn all x sends number input output c d (at.0 ∙ is.whole) intact (subst (λ l. AddsPrefix output l d) same at.1))
 
 -- turns behind what was sent again
-pub answered : (all : Bool) (lines : List (List ℕ)) (x : SeenAsked) (sends : List ℕ) (number : ℕ) (input : Option (List ℕ)) (output : List ℕ)
+pub answered : (all : Bool) (lines : List (List ℕ)) (x : SeenAsked) (sends : List ℕ) (number : ℕ)
+    (input : Option (List ℕ)) (output : List ℕ)
     (mid : List (List ℕ)) (so_far c d : List ℕ) → journal_of x ≡ mid → so_far ≡ output ++ sends
     → IsRunOfTurns (SiteAnswers all) number input x mid so_far c d → IsIntact c → IsNewOrAnswered all lines x sends number input output c d
 answered all lines x sends number input output mid so_far c d same said run intact =
@@ -143,7 +147,8 @@ answered all lines x sends number input output mid so_far c d same said run inta
     })
 
 -- all turns of a run, behind what was sent again
-pub all_answered : (all : Bool) (x : SeenAsked) (sends : List ℕ) (number : ℕ) (input left : Option (List ℕ)) (output : List ℕ) (now : List (List ℕ))
+pub all_answered : (all : Bool) (x : SeenAsked) (sends : List ℕ) (number : ℕ) (input left : Option (List ℕ))
+    (output : List ℕ) (now : List (List ℕ))
     (said : List ℕ) (mid : List (List ℕ)) (so_far : List ℕ) (ended : Result ℕ ServeFault) → journal_of x ≡ mid → so_far ≡ output ++ sends
     → (turns : List (Turn SeenAsked)) × IsPutOut (SiteAnswers all) x mid so_far turns now said
     × EndsAs number turns input left ended
@@ -156,11 +161,13 @@ all_answered all x sends number input left output now said mid so_far ended same
 }
 
 -- the same lines and output at the start
-pub from_same : (all : Bool) (lines : List (List ℕ)) (x : SeenAsked) (sends : List ℕ) (number : ℕ) (input : Option (List ℕ)) (output : List ℕ)
+pub from_same : (all : Bool) (lines : List (List ℕ)) (x : SeenAsked) (sends : List ℕ) (number : ℕ)
+    (input : Option (List ℕ)) (output : List ℕ)
     (mid : List (List ℕ)) (so_far c d : List ℕ) → mid ≡ lines → so_far ≡ output → IsNewOrAnswered all mid x sends number input so_far c d
     → IsNewOrAnswered all lines x sends number input output c d
 from_same all lines x sends number input output mid so_far c d same said run =
-    subst (λ l. IsNewOrAnswered all lines x sends number input l c d) said (subst (λ ls. IsNewOrAnswered all ls x sends number input so_far c d) same run)
+    subst (λ l. IsNewOrAnswered all lines x sends number input l c d) said
+        (subst (λ ls. IsNewOrAnswered all ls x sends number input so_far c d) same run)
 
 -- only a failed journal is reported as one
 pub only_journal : (f : ServeFault) → fault_of_serve f ≡ DiskFailed → f ≡ JournalStopped

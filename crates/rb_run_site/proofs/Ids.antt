@@ -17,13 +17,14 @@ none_once (z ∷ before) between later x y e same = absurd (cc e)
 abbrev known_as : Settings → ModelSite → AskedEntry → Known
 known_as s t x = record { event = x.entry.event; reply = x.entry.reply; sent = sent_at s t x.entry.event }
 
--- where an id isn't known, no entry has it
+-- if an id isn't known, no entry has it
 not_before : (s : Settings) (t : ModelSite) (id : List ℕ) (xs : List AskedEntry) → known_from s t xs id ≡ None
     → (before later : List AskedEntry) (y : AskedEntry) → xs ≡ before ++ y ∷ later → y.id ≢ id
 not_before s t id [] none [] later y e same = absurd (cc e)
 not_before s t id [] none (z ∷ before) later y e same = absurd (cc e)
 not_before s t id (x ∷ xs) none before later y e same =
-    by (bytes_eq x.id id) refl none before e (λ found front behind. not_before s (after_event s t x.entry.event) id xs found front later y behind same)
+    by (bytes_eq x.id id) refl none before e
+        (λ found front behind. not_before s (after_event s t x.entry.event) id xs found front later y behind same)
   where
     by : (b : Bool) → bytes_eq x.id id ≡ b
         → cond b (Some (known_as s t x)) (known_from s (after_event s t x.entry.event) xs id) ≡ None
@@ -36,7 +37,7 @@ not_before s t id (x ∷ xs) none before later y e same =
         absurd (cc (is, hit))
     by false is found (z ∷ front) e rest = let behind : xs ≡ front ++ y ∷ later = cc e in rest found front behind
 
--- where no entry has an id, it isn't known
+-- if no entry has an id, it isn't known
 none_from : (s : Settings) (t : ModelSite) (id : List ℕ) (xs : List AskedEntry)
     → ((before later : List AskedEntry) (y : AskedEntry) → xs ≡ before ++ y ∷ later → y.id ≢ id) → known_from s t xs id ≡ None
 none_from s t id [] apart = refl
@@ -105,7 +106,7 @@ once_more x y none once before between later p q e same = by first.mid first.is 
         let second = rest_of mid between y q later behind in
         last second.mid (is ∙ ap (λ a. before ++ a ∷ mid) at ∙ ap (λ l. before ++ p ∷ l) second.is) second.rest_is
 
--- where no two entries have one id, that of an entry isn't known before it
+-- if no two entries have one id, that of an entry isn't known before it
 pub unknown_before : (s : Settings) (me : ℕ) (bank : List ℕ) (ys zs : List AskedEntry) (y : AskedEntry) → AreIdsOnce (ys ++ y ∷ zs)
     → known_of (record { settings = s; me = me; bank = bank; asked = ys }) y.id ≡ None
 unknown_before s me bank ys zs y once = by y.id refl

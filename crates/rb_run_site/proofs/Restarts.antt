@@ -94,7 +94,7 @@ turns_once stay x (t ∷ turns) are once = turns_once stay t.after turns are.1 (
 
 -- ---- a journal is one site's
 
--- entries that are read back are the same where their lines are
+-- entries that are read back are the same if their lines are
 same_entries : (s : Settings) (me : ℕ) (xs ys : List AskedEntry) → Each (IsReadBack s me) xs → Each (IsReadBack s me) ys
     → lines_of_entries s me xs ≡ lines_of_entries s me ys → xs ≡ ys
 same_entries s me [] [] h k e = refl
@@ -107,7 +107,7 @@ same_entries s me (x ∷ xs) (y ∷ ys) h k e =
     ap (λ z. z ∷ xs) same ∙ ap (λ zs. y ∷ zs) rest
 same_entries s me (x ∷ xs) [] h k e = absurd (cc)
 
--- configurations are the same where their lines are
+-- configurations are the same if their lines are
 same_settings : ConfigsAreRead → (s t : Settings) → IsConfigured s → IsConfigured t → journal_head s ≡ journal_head t → s ≡ t
 same_settings reads s t c d e =
     let text : compact_text (config_json s) ≡ compact_text (config_json t) = append_cancel_right _ _ (10 ∷ []) e in
@@ -194,7 +194,8 @@ turns_both x [] us h k = k
 turns_both x (t ∷ ts) us h k = (h.0, turns_both t.after ts us h.1 k)
 
 -- one run more
-longer : RestartLaws → (all : Bool) (me : ℕ) (bank : List ℕ) (most : ℕ) (input : Option (List ℕ)) (start : SeenAsked) (turns : List (Turn SeenAsked)) (file output c d : List ℕ)
+longer : RestartLaws → (all : Bool) (me : ℕ) (bank : List ℕ) (most : ℕ) (input : Option (List ℕ))
+    (start : SeenAsked) (turns : List (Turn SeenAsked)) (file output c d : List ℕ)
     → Whole me bank start turns file → (run : HasRun all me bank most input (recovered file) output c d)
     → Whole me bank start (turns ++ run.answered.turns) c
 longer laws all me bank most input start turns file output c d w run =
@@ -236,7 +237,8 @@ whole laws me bank start turns file (Again {all = all} {turns = ts} {file = f} {
 
 -- a run over the file that the last crash left starts with the site that the turns led to
 pub goes_on : RestartLaws → RestartsGoOn
-goes_on laws me bank start turns file runs input x starts = next_is laws me bank start turns file (whole laws me bank start turns file runs) input x starts
+goes_on laws me bank start turns file runs input x starts =
+    next_is laws me bank start turns file (whole laws me bank start turns file runs) input x starts
 
 -- all runs are one
 pub one_run : RestartLaws → RestartedRunsAreOne
@@ -257,7 +259,8 @@ is_taken laws me bank start turns file runs config number fault of is (s, on, lo
     let named : bank ≡ last.bank = sym (all.bank ∙ w.named) in
     let same_settings = subst (λ c. EndsFile (first_asked c me bank) file fault) settings ends in
     let same_bank = subst (λ b. EndsFile (first_asked last.settings me b) file fault) named same_settings in
-    not_at_fault last file (w.lines_are ∙ sym all.journal) w.intact all.replayed read (turns_once laws.ids start turns w.are w.once) fault is
+    not_at_fault last file (w.lines_are ∙ sym all.journal) w.intact all.replayed read
+        (turns_once laws.ids start turns w.are w.once) fault is
     (subst (λ i. EndsFile (first_asked last.settings i last.bank) file fault) number_is same_bank)
 
 -- nor is the one that a crash left of a new journal

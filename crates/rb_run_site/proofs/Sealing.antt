@@ -25,7 +25,8 @@ module _ (me : ℕ) (file config : List ℕ) (number : ℕ) (pending : List ℕ)
       (ap (λ (ls : List (List ℕ)). lines_of (concat ls)) (sym none) ∙ waits.behind.whole)
 
   -- a site that was opened over a journal's own lines starts with it, and the journal isn't damaged
-  pub starts_alone : (x : SeenAsked) (first sends : List ℕ) → OpensSite config me [] 0 file x first sends → StartsAlone me file × IsIntact file
+  pub starts_alone : (x : SeenAsked) (first sends : List ℕ) → OpensSite config me [] 0 file x first sends
+      → StartsAlone me file × IsIntact file
   starts_alone x first sends opens = (
     record {
       start = x;

@@ -47,7 +47,7 @@ split_there l n all found =
     (all ∙ parts l n at.0 (eqb-true (get_or l n 0) 10 at.1)) in
     record { lines_are = two.0; batch = two.1; shorter = omega (arith, at.0, length-drop (n + 1) l) }
 
--- where there is no line feed, there is no line
+-- if there is no line feed, there is no line
 pub none_there : (l : List ℕ) → position (λ b. b == 10) l ≡ None → recovered l ≡ []
 none_there l none = elim (cases_lt (position_or_len (λ b. b == 10) l) (length l)) [
   | inl lt ↦

@@ -51,7 +51,7 @@ alone : (d : DiskSite) (e : Event) → MayHappenAlone d (step_of e)
 alone d (Receive m) = tt
 alone d _ = tt
 
--- the history is full where its length says so
+-- the history is full if its length says so
 fullness : (x : SeenSite) → IsReplayed x → nat_le x.settings.limits.history (length (events_of x.entries)) ≡ is_full x.settings (state_of x)
 fullness x is = ap (λ h. nat_le x.settings.limits.history (length h)) (sym (history-state x is))
 

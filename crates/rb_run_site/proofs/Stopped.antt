@@ -1,4 +1,4 @@
--- What a run of a site that stops comes to, by the fault of what it ran over.
+-- The outcome of a run of a site that stops, by the fault of what it ran over.
 use Rattle.std.proofs.Common.{◌≡◌, ℕ, Result, Err, refl, subst, sym, inl}
 use Rattle.rb_journal.specs.declared.host.HostError.{HostError}
 use Rattle.rb_journal.specs.declared.host.HostError.TheVariants.{Memory, DiskFailed as DiskError, OutputFailed, Full}
@@ -11,7 +11,7 @@ use Rattle.rb_run_site.specs.Faults.{fault_of_serve}
 use Rattle.rb_run_site.specs.declared.fault.SiteFault.{SiteFault}
 use Rattle.rb_run_site.specs.declared.fault.SiteFault.TheVariants.{Journal as DiskFailed, Read as NotRead}
 
--- the lines stopped: what holds of their end, where they end at rest, holds of the run's
+-- the lines stopped: what holds of their end, if they end at rest, holds of the run's
 pub stopped : (A : Result ℕ ServeFault → Type 0) (fault : ServeFault) (f : SiteFault) → f ≡ fault_of_serve fault
     → (EndsAtRest {T = ℕ} (Err fault) → A (Err fault)) → RunsTo A (λ _. ⊥) (Err f)
 stopped A fault f is ends = subst (λ why. RunsTo A (λ _. ⊥) (Err why)) (sym is) (by fault ends)

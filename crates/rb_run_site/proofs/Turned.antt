@@ -139,8 +139,10 @@ module _ (all : Bool) (old new : SeenAsked) (number : ℕ) (line words entries t
       same_turned a.after a.entries_are (λ none. inr (inr (inr (subst (IsOtherBankAnswer old new line words) none a))))
 
 -- the site answered that a line is bad, for this reason: it is a turn that changes nothing
-not_taken : (all : Bool) (old new : SeenAsked) (number : ℕ) (why line text text_after : List ℕ) (batch batch_after : List (List ℕ)) → IsConfigured old.settings
-    → (IsBadAnswer why old new number [] (line_of (bad_json why number)) → IsAnswer all (is_long line) old number line [] (line_of (bad_json why number)) new)
+not_taken : (all : Bool) (old new : SeenAsked) (number : ℕ) (why line text text_after : List ℕ)
+    (batch batch_after : List (List ℕ)) → IsConfigured old.settings
+    → (IsBadAnswer why old new number [] (line_of (bad_json why number))
+        → IsAnswer all (is_long line) old number line [] (line_of (bad_json why number)) new)
     → new ≡ old → text_after ≡ text ++ line_of (bad_json why number) → batch_after ≡ batch
     → IsTurn (SiteAnswers all) old new (journal_of old) (journal_of new) batch batch_after number line text text_after
 not_taken all old new number why line text text_after batch batch_after ok is same said kept =
@@ -155,14 +157,16 @@ not_taken all old new number why line text text_after batch batch_after ok is sa
     }
 
 -- the line is no event, no question and of no other bank
-pub bad_line : (all : Bool) (old new : SeenAsked) (number : ℕ) (line text text_after : List ℕ) (batch batch_after : List (List ℕ)) → IsConfigured old.settings
+pub bad_line : (all : Bool) (old new : SeenAsked) (number : ℕ) (line text text_after : List ℕ)
+    (batch batch_after : List (List ℕ)) → IsConfigured old.settings
     → is_long line ≡ false → asked_event_on old.settings old.bank line ≡ None
     → other_bank_on old.settings old.bank line ≡ false → question_on old.bank line ≡ None → new ≡ old
     → text_after ≡ text ++ line_of (bad_json (codes "line") number) → batch_after ≡ batch
     → IsTurn (SiteAnswers all) old new (journal_of old) (journal_of new) batch batch_after number line text text_after
 bad_line all old new number line text text_after batch batch_after ok short none own unasked same said kept =
     not_taken all old new number (codes "line") line text text_after batch batch_after ok
-    (λ bad. subst (λ b. IsAnswer all b old number line [] (line_of (bad_json (codes "line") number)) new) (sym short) (inr (none, own, unasked, bad)))
+    (λ bad. subst (λ b. IsAnswer all b old number line [] (line_of (bad_json (codes "line") number)) new)
+        (sym short) (inr (none, own, unasked, bad)))
     same said kept
 
 -- the line is too long

@@ -39,7 +39,9 @@ pub record IsSameAnswer (old : SeenAsked) (before : List AskedEntry) (x : AskedE
 abbrev pub SameAnswer : Type 0
 SameAnswer = (start : SeenAsked) (earlier : List (Turn SeenAsked)) (t : Turn SeenAsked) (later : List (Turn SeenAsked))
     → AreIdsOnce start.asked → AreTurns AnswersEither start (earlier ++ t ∷ later) → is_long t.line ≡ false
-    → (asked : AskedEvent) → asked_event_on (state_after start earlier).settings (state_after start earlier).bank t.line ≡ Some asked → asked.id ≢ []
+    → (asked : AskedEvent)
+    → asked_event_on (state_after start earlier).settings (state_after start earlier).bank t.line ≡ Some asked
+    → asked.id ≢ []
     → (before behind : List AskedEntry) (x : AskedEntry) → (state_after start earlier).asked ≡ before ++ x ∷ behind
     → x.id ≡ asked.id → IsSameAnswer (state_after start earlier) before x asked t
 

@@ -1,4 +1,4 @@
--- What a run of a site that stops says on standard error, and its status.
+-- The message on standard error of a run of a site that stops, and its status.
 use Rattle.std.specs.Prelude.{ℕ, List, ◌++◌, codes, decimal}
 use Rattle.rb_journal.specs.declared.fault.ServeFault.{ServeFault}
 use Rattle.rb_journal.specs.declared.fault.ServeFault.TheVariants.{Read as NotRead}

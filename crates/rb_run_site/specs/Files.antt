@@ -1,4 +1,4 @@
--- What the file of a journal has.
+-- The contents of a journal's file.
 use Rattle.std.specs.Prelude.{◌≡◌, ◌≢◌, ◌⊎◌, ◌<◌, ◌≤◌, ◌+◌, ℕ, List, [], ◌∷◌, length}
 use Rattle.rb_journal.specs.Lines.{IsBatch, IsIntact, recovered}
 use Rattle.rb_run_site.specs.declared.fault.SiteFault.{SiteFault}
@@ -9,8 +9,8 @@ abbrev pub BeginsClosed : List ℕ → Type 0
 BeginsClosed [] = ⊥
 BeginsClosed (b ∷ bytes) = (b ≡ 32) ⊎ (b ≡ 0)
 
--- a journal that is new, whose first line is to be this one: the file has no whole line, and is empty, or begins with a
--- closed gate and has no more bytes behind it than the line has. A crash of the line's write leaves no more
+-- a journal that is new, whose first line is to be this one: the file contains no whole line, and is empty, or begins
+-- with a closed gate and has no more bytes behind it than the line has. A crash of the line's write leaves no more
 abbrev pub IsNew : List ℕ → List ℕ → Type 0
 IsNew file first = (recovered file ≡ []) × ((file ≡ []) ⊎ (BeginsClosed file × (length file ≤ length first + 1)))
 
@@ -23,12 +23,12 @@ IsUndamaged file first = IsNew file first ⊎ ((recovered file ≢ []) × IsInta
 abbrev pub BeginsWith : List ℕ → List ℕ → List ℕ → Type 0
 BeginsWith file first entries = (recovered file ≡ first ∷ recovered entries) × IsBatch entries
 
--- the file has another first line, or no whole line and another first byte than a closed gate's
+-- the file contains another first line, or no whole line and another first byte than a closed gate's
 abbrev pub IsAnother : List ℕ → List ℕ → Type 0
 IsAnother file first = ((later : List (List ℕ)) → recovered file ≢ first ∷ later)
     × (recovered file ≡ [] → (file ≢ []) × (BeginsClosed file → ⊥))
 
--- the file has no whole line and begins with a closed gate, but is longer than a new journal
+-- the file contains no whole line and begins with a closed gate, but is longer than a new journal
 abbrev pub IsNoBeginning : List ℕ → List ℕ → Type 0
 IsNoBeginning file first = (recovered file ≡ []) × BeginsClosed file × (length first + 1 < length file)
 

@@ -35,9 +35,9 @@ pub record IsBadAnswer (why : List ℕ) (old new : SeenAsked) (number : ℕ) (ad
   pub same : new ≡ old
   pub none : added ≡ []
 
--- the answer to the line of this number, if all events are recorded or if those that change the site are, by whether the
--- line is too long: if so it is bad, whatever it is; else it is answered as an event, a question or a line of another bank,
--- or it is none of these
+-- the answer to the line of this number, if all events are recorded or if those that change the site are, by whether
+-- the line is too long: if so it is bad, whatever it is; else it is answered as an event, a question or a line of
+-- another bank, or it is none of these
 abbrev pub IsAnswer : Bool → Bool → SeenAsked → ℕ → List ℕ → List (List ℕ) → List ℕ → SeenAsked → Type 0
 IsAnswer all true old number line added text new = IsBadAnswer (codes "long") old new number added text
 IsAnswer all false old number line added text new = IsLineAnswer all old new line text (concat added)

@@ -12,9 +12,9 @@ use Rattle.rb_run_site.specs.Steps.{AreSteps}
 use Rattle.rb_run_site.specs.declared.fault.SiteFault.{SiteFault}
 use Rattle.rb_run_site.specs.declared.fault.SiteFault.TheVariants.{AnotherJournal, BadEntry, Damaged, Sealed, WrongReply}
 
--- site `me` ran and crashed, any number of times, with one name of its bank: the first run started with this site, these are
--- the turns of all runs whose entries the file has that the last crash left. A run that changed nothing left the file that it
--- found. Each run chose by itself whether it records all events or those that change the site
+-- site `me` ran and crashed, any number of times, with one name of its bank: the first run started with this site,
+-- these are the turns of all runs whose entries are in the file that the last crash left. A run that changed nothing
+-- left the file that it found. Each run chose by itself whether it records all events or those that change the site
 pub data HasRestarted (me : ℕ) (bank : List ℕ) : SeenAsked → List (Turn SeenAsked) → List ℕ → Type 0 where
   -- one run
   Once : {all : Bool} {most : ℕ} {input : Option (List ℕ)} {lines : List (List ℕ)} {output c d : List ℕ}
@@ -47,8 +47,8 @@ IsFileFault (Damaged n) = Unit {0}
 IsFileFault Sealed = Unit {0}
 IsFileFault _ = ⊥
 
--- the file that the last crash left is never at fault, so it isn't sealed, for a run of the same number and bank with this
--- configuration
+-- the file that the last crash left is never at fault, so it isn't sealed, for a run of the same number and bank with
+-- this configuration
 abbrev pub RestartsAreTaken : Type 0
 RestartsAreTaken = (me : ℕ) (bank : List ℕ) (start : SeenAsked) (turns : List (Turn SeenAsked)) (file : List ℕ)
     → HasRestarted me bank start turns file → (config : List ℕ) (number : ℕ) (fault : SiteFault)

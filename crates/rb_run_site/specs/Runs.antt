@@ -1,4 +1,4 @@
--- What a run of a site may leave at any moment.
+-- The files and outputs that a run of a site may leave at any moment.
 use Rattle.std.specs.Prelude.{◌≡◌, ◌⊎◌, ℕ, Bool, List, [], ◌++◌, Option, Some, IfSome}
 use Rattle.rb_lines.specs.Lines.{lines_of}
 use Rattle.rb_journal.specs.Host.{AddsPrefix}

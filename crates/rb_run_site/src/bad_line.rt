@@ -16,7 +16,7 @@ fn append_why(out: &mut Vec<u8>, why: &str, number: u64) -> Result<(), AllocErro
     append_number(out, "", number, "}\n")
 }
 
-/// The same, where out of memory leaves what was there.
+/// The same, but out of memory leaves what was there.
 fn append_whole(out: &mut Vec<u8>, why: &str, number: u64) -> Result<(), AllocError>
     ensures ok { OnOk result (out.new.items ≡ out.old.items ++ (codes "{\"bad\":\"" ++ (why.now
         ++ (codes "\",\"line\":" ++ (decimal number ++ codes "}\n"))))) }

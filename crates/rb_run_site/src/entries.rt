@@ -26,11 +26,11 @@ fn check_new(bytes: &[u8], first: &[u8]) -> Result<(), SiteFault>
     Ok(())
 }
 
-/// The lines that a file has behind the line `first`, which has its line feed; `None` if the file is a new journal:
-/// it has no whole line, and is empty, or begins with a closed gate and is no longer than a crash of the first write
-/// leaves it.
+/// The lines of a file behind the line `first`, which has its line feed; `None` if the file is a new journal: it has
+/// no whole line, and is empty, or begins with a closed gate and is no longer than a crash of the first write leaves
+/// it.
 ///
-/// Errors: `Damaged` if it begins so and is longer; `AnotherJournal` if it is neither.
+/// Errors: `Damaged` if it begins so and is longer; else `AnotherJournal`.
 pub fn entries_in<'a>(bytes: &'a [u8], first: &[u8]) -> Result<Option<&'a [u8]>, SiteFault>
     requires { (line : List ℕ) × IsLine line × (first.now ≡ line ++ 10 ∷ []) }
     ensures { MatchResult result

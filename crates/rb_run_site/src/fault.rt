@@ -96,7 +96,7 @@ impl From<ServeFault> for SiteFault {
     }
 }
 
-/// What a program says on standard error, without the line feed. An `Err` means out of memory.
+/// The message of a program on standard error, without the line feed. An `Err` means out of memory.
 pub fn site_message(alloc: Global, fault: SiteFault) -> Result<String, AllocError>
     ensures { IfOk result (λ text. string_bytes text ≡ site_message_of fault) }
 {

@@ -1,4 +1,7 @@
 //! The first line of an input.
+//!
+//! It is read through the buffers that the events are read through later, as one read may bring both. Blank lines
+//! before it are skipped but counted, so that a fault names the line by its number in the input.
 ghost use Rattle.std.specs.Prelude.{◌≡◌, ◌+◌, ◌*◌, ◌≤◌, ◌⊎◌, [], false, true, take, Err, IfErr, IfOk, IfSome};
 ghost use Rattle.std.specs.Io.KnownBytes.{IsAtEnd};
 ghost use Rattle.rb_lines.specs.Buffers.{Counts, IsWholeLine, left};

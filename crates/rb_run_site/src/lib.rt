@@ -25,7 +25,7 @@ pub use run::{Ran, run_site};
 pub use seal::seal_site;
 
 /// However often a site ran and crashed, each run over the file that the crash before it left: the next run starts with
-/// the very site that all turns led to whose entries the file has, and all turns are one run of a site that doesn't
+/// the very site that all turns led to whose entries are in the file, and all turns are one run of a site that doesn't
 /// crash. So what the site answers is what it would have answered without the crashes, after the same events. And that
 /// file is never at fault, nor is one that a crash left before the configuration's line was there.
 pub fn restart_goes_on()

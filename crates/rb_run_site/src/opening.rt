@@ -100,7 +100,7 @@ fn replay_file(
     }
 }
 
-/// Reads the configuration, and opens site `me` of it, of the bank of the name, with the history that the file has.
+/// Reads the configuration, and opens site `me` of it, of the bank of the name, with the history in the file.
 ///
 /// The number of the line behind the configuration's comes with it.
 pub fn open_site<S: Source, M: Records>(

@@ -33,8 +33,8 @@ pub fn count_lines(lines: &[u8]) -> usize
     count
 }
 
-/// Replays one line of a journal, without its line feed. What its entry sent is added to `sends` if that is asked
-/// for.
+/// Replays one line of a journal, without its line feed. The messages of its entry are added to `sends` if that is
+/// asked for.
 fn replay_one(
     node: &mut Node,
     line: &[u8],
@@ -58,8 +58,8 @@ fn replay_one(
     Ok(())
 }
 
-/// Replays the entries of these lines, each with its line feed, of which the first is line 2 of the journal. What they
-/// sent, but the first `skipped` of them, is added to `sends`, a line for each entry that sent any.
+/// Replays the entries of these lines, each with its line feed, of which the first is line 2 of the journal. The
+/// messages of all but the first `skipped` are added to `sends`, a line for each entry that sent any.
 ///
 /// Errors: `BadEntry` and `WrongReply`, by the line's number; `OutOfMemory`.
 pub fn replay_all(

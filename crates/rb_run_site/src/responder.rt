@@ -1,4 +1,7 @@
-//! A site as what answers lines over a journal.
+//! A site as the responder that answers lines over a journal.
+//!
+//! The entries of a line are written apart, and then added to the batch at once. If memory for that runs out, the text
+//! of the answer is taken back, so no answer is put out whose entries aren't in the batch.
 ghost use Rattle.std.specs.Prelude.{◌≡◌};
 
 use crate::bad_line::{append_bad_line, append_long_line};

@@ -28,7 +28,7 @@ use rb_journal::{Host, Journal, ServeFault, is_sealed, serve};
 use rb_lines::{Buffers, Source};
 use std::alloc::Global;
 
-/// What a run came to: the host that it ran over, and how many lines were answered, or why it stopped.
+/// The outcome of a run: the host that it ran over, and how many lines were answered, or why it stopped.
 pub struct Ran<H: Host> {
     pub host: H,
     pub ended: Result<u64, SiteFault>,
@@ -148,8 +148,8 @@ fn run_opened<S: Source, H: Host, M: Records>(
 }
 
 /// Runs site `me` (0 to 15) of the configuration that the reader's first line has, over the file of the host, whose
-/// bytes these are. If the bank has a name, each message has it, and a line of another bank is refused. What the last
-/// `resend` entries of its journal sent is put out again; then each line of the reader is an event, and is answered by
+/// bytes these are. If the bank has a name, each message has it, and a line of another bank is refused. The messages of
+/// the last `resend` entries of its journal are put out again; then each line of the reader is an event, answered by
 /// a line. `M` says which events are recorded: all, or those that change the site. The bytes and what is put out again
 /// are given back before the first event is read, so a site that runs holds its history and what one read brings. A
 /// file that is sealed is refused before that.

@@ -15,10 +15,12 @@ returns-in-Ok-clause-opened g c =
     let is = c.in_ok-node.ensures in
     let file = c.in-Ok.ensures in (
       take n p,
-      subst (λ x. OpensSite (take n p) c.args.me c.args.bank c.args.resend c.args.bytes.now x c.in-Ok.first.items c.replay_file.new.sends.items)
+      subst (λ x. OpensSite (take n p) c.args.me c.args.bank c.args.resend c.args.bytes.now x
+              c.in-Ok.first.items c.replay_file.new.sends.items)
           (ap (λ (y : SeenNode). y.site) (sym c.new-responder.ensures))
-          (opened (take n p) c.args.me c.args.bank c.args.resend c.in_ok-node.node.site c.replay_file.new.node.site c.args.bytes.now c.in-Ok.first.items
-          c.replay_file.new.sends.items (subst (λ l. IsOf (take n l) c.args.me c.args.bank c.in_ok-node.node.site) c.as_slice.ensures is.0) is.1 file),
+          (opened (take n p) c.args.me c.args.bank c.args.resend c.in_ok-node.node.site
+          c.replay_file.new.node.site c.args.bytes.now c.in-Ok.first.items c.replay_file.new.sends.items
+          (subst (λ l. IsOf (take n l) c.args.me c.args.bank c.in_ok-node.node.site) c.as_slice.ensures is.0) is.1 file),
       rw c.skip_line.ensures (behind _ _ c.in_ok-n.number p c.first_line.new.buffers.ended n c.in_ok-n.ensures.input line.0 line.2 line.3
           c.in_ok-n.ensures.end),
     )
@@ -39,7 +41,8 @@ returns-in_err-n-clause-cause g c =
     let fault = c.in_err-n.field-0.0 in
     let passed : c.from_residual.result ≡ Err fault = search rules in
     subst (λ r. IfErr r (IsOpeningCause c.args.me c.args.bank input left file)) (sym passed)
-    (first_cause c.args.me c.args.bank input left file c.first_line.new.buffers.pending fault c.in_err-n.ensures.kind c.in_err-n.ensures.input)
+    (first_cause c.args.me c.args.bank input left file c.first_line.new.buffers.pending fault
+        c.in_err-n.ensures.kind c.in_err-n.ensures.input)
 
 pub returns-in_err-node-clause-cause : goal.returns-in_err-node-clause-cause
 returns-in_err-node-clause-cause g c =

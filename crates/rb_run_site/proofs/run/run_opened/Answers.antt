@@ -32,8 +32,8 @@ over_file g c =
     (λ e d. IsLeftAs (recovered f) (host.output was) e d × (IsRepaired f e × (IsIntact f → IsIntact e)))) c.deref.ensures.value
     (two host.moment host.left_since was c.in-Ok.journal.host _ _ c.in-Ok.ensures.any_moment c.in-Ok.ensures.repaired) in
     weaker host.moment host.left_since was c.in-Ok.journal.host _ _ both
-    (λ e d at. opened g.M.Records.ALL file c.args.opened.responder.node.site c.args.opened.first.items c.args.opened.sends.items _ _ (host.output was) e d
-    c.requires.begins c.requires.undamaged at.0 at.1.0 at.1.1)
+    (λ e d at. opened g.M.Records.ALL file c.args.opened.responder.node.site c.args.opened.first.items
+    c.args.opened.sends.items _ _ (host.output was) e d c.requires.begins c.requires.undamaged at.0 at.1.0 at.1.1)
 
 -- a crash leaves a new journal, or the site's with some of the lines answered
 run : (g : Over) (c : After-go_on-ended g) → LeavesOnly g.H.Host.moment g.H.Host.left_since c.args.host
@@ -43,7 +43,8 @@ run : (g : Over) (c : After-go_on-ended g) → LeavesOnly g.H.Host.moment g.H.Ho
 run g c =
     let host = g.H.Host in
     runs_on host.moment host.left_since _ c.in-Ok.journal.host _ _ _ (over_file g c) c.go_on-ended.ensures.any_moment
-    (λ f d run. from_same g.M.Records.ALL _ _ _ _ _ _ _ _ f d (c.in-Ok.ensures.lines ∙ ap recovered c.deref.ensures.value) c.in-Ok.ensures.output run)
+    (λ f d run. from_same g.M.Records.ALL _ _ _ _ _ _ _ _ f d
+        (c.in-Ok.ensures.lines ∙ ap recovered c.deref.ensures.value) c.in-Ok.ensures.output run)
 
 -- why the file can't be opened is passed on
 passed : (g : Over) (c : After-from-in-Err-2 g) → c.from-in-Err-2.result ≡ fault_of_serve (fault_of_host c.in-Err.error)

@@ -1,4 +1,4 @@
--- A journal that isn't sealed isn't changed where a site doesn't start with it.
+-- A journal that isn't sealed isn't changed if a site doesn't start with it.
 use Rattle.std.proofs.Common.{subst, sym, true≢false, ◌∙◌}
 use Rattle.rb_journal.specs.Lines.{IsSealed}
 use Rattle.rb_journal.proofs.Public.Moments.{started}

@@ -11,20 +11,25 @@ use Rattle.rb_run_site.proofs.responder.SiteResponderJournaledResponder.answer_l
 pub extend-requires : goal.extend-requires
 extend-requires g c =
     let (text, entries, by, said, lines) = c.in-Ok.ensures.answered in
-    let a = subst (λ all. IsLineAnswer all c.args.self.now.node.site c.answer.new.self.site c.args.line.now text entries) c.ALL.ensures by in
+    let a = subst (λ all. IsLineAnswer all c.args.self.now.node.site c.answer.new.self.site
+        c.args.line.now text entries) c.ALL.ensures by in
     let ok = subst IsConfigured c.config.ensures c.sites-sites.ensures.configured in
     subst IsBatch (sym (c.deref.ensures.value ∙ lines ∙ ap (λ l. l ++ entries) c.clear.ensures.items))
-    (batched c.lines_are_single.ensures.entries c.named_events_fit.ensures g.M.Records.ALL c.args.self.now.node.site c.answer.new.self.site c.args.line.now text entries ok a)
+    (batched c.lines_are_single.ensures.entries c.named_events_fit.ensures g.M.Records.ALL
+        c.args.self.now.node.site c.answer.new.self.site c.args.line.now text entries ok a)
 
 pub returns-in-Ok-extend-clause-answered : goal.returns-in-Ok-extend-clause-answered
 returns-in-Ok-extend-clause-answered g c =
     let (text, entries, by, said, lines) = c.in-Ok.ensures.answered in
-    let a = subst (λ all. IsLineAnswer all c.args.self.now.node.site c.answer.new.self.site c.args.line.now text entries) c.ALL.ensures by in
+    let a = subst (λ all. IsLineAnswer all c.args.self.now.node.site c.answer.new.self.site
+        c.args.line.now text entries) c.ALL.ensures by in
     let ok = subst IsConfigured c.config.ensures c.sites-sites.ensures.configured in
     turned g.M.Records.ALL c.args.self.now.node.site c.answer.new.self.site c.args.number c.args.line.now text entries
     c.args.text.now.items c.answer.new.answers.items (recovered c.args.batch.now.bytes.items) (recovered c.extend.new.self.bytes.items)
-    ok (short_line c.args.line.now c.requires.short) said (c.in-Ok-extend.ensures.lines ∙ ap (λ l. recovered c.args.batch.now.bytes.items ++ recovered l)
-    (c.deref.ensures.value ∙ lines ∙ ap (λ l. l ++ entries) c.clear.ensures.items)) c.lines_are_single.ensures.entries c.named_events_fit.ensures a
+    ok (short_line c.args.line.now c.requires.short) said
+    (c.in-Ok-extend.ensures.lines ∙ ap (λ l. recovered c.args.batch.now.bytes.items ++ recovered l)
+        (c.deref.ensures.value ∙ lines ∙ ap (λ l. l ++ entries) c.clear.ensures.items))
+    c.lines_are_single.ensures.entries c.named_events_fit.ensures a
 
 pub returns-in-Err-BadLine-clause-answered : goal.returns-in-Err-BadLine-clause-answered
 returns-in-Err-BadLine-clause-answered g c =
@@ -32,6 +37,7 @@ returns-in-Err-BadLine-clause-answered g c =
     let bad = c.in-Err-BadLine.ensures.bad (ap Err c.in-Err-BadLine.field-0-is) in
     on_ok_weaker c.append_bad_line.result
     (λ said. bad_line g.M.Records.ALL c.args.self.now.node.site c.answer.new.self.site c.args.number c.args.line.now c.args.text.now.items
-    c.append_bad_line.new.out.items _ _ ok (short_line c.args.line.now c.requires.short) bad.0 bad.1 bad.2 (ap (λ (n : SeenNode). n.site) bad.3)
+    c.append_bad_line.new.out.items _ _ ok (short_line c.args.line.now c.requires.short)
+    bad.0 bad.1 bad.2 (ap (λ (n : SeenNode). n.site) bad.3)
     (said ∙ ap (λ l. l ++ line_of (bad_json (codes "line") c.args.number)) c.in-Err-BadLine.ensures.err.0) refl)
     c.append_bad_line.ensures.ok
