@@ -81,7 +81,7 @@ holder_claims site number seats next k h =
     let t = has_if (c.site == site) c.receipts (slice_index next k) number h.2 in
     record { seat = c; at = h.1; here = eqb-true _ _ t.0; has = t.1 }
 
--- where the table's seat has the number not next, nobody has
+-- if the table's seat has the number not next, nobody has
 pub none_holds : (site i : ℕ) (seats : List SeenSeat) (next owners : List ℕ) (v : ℕ) → AreOwners site seats owners
     → slice_get owners i ≡ Some v → ¬ IsHolder site (i + 1) seats next v
     → AreDistinct site seats → (k : ℕ) → IsHolder site (i + 1) seats next k → ⊥

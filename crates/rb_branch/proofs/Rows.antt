@@ -24,7 +24,7 @@ ended {C} {F} cs rs t c is at =
     let here = subst P is (map_at Ok cs t c at) in
     (slice_get_within rs t (Ok c) here, get_or_from_slice_get rs t (Ok c) (Ok c) here)
 
--- where all ended well
+-- if all ended well
 pub as_many : {C F : Type 0} (cs : List C) (rs : List (Result C F)) → map Ok cs ≡ rs → length cs ≡ length rs
 as_many {C} {F} cs rs is = sym (length-map {B = Result C F} cs Ok) ∙ ap length is
 

@@ -321,7 +321,7 @@ refuses_untaken kept new a false is same from few all =
     subst (λ (l : List Message). AreRefused (length l) l (drop from a.receipts)) (sym same) all
 refuses_untaken kept new a true is taken from few all = absurd (true≢false is)
 
--- what holds where there is none
+-- what holds if there is none
 pub if_none : (o : Option ℕ) (P : Type 0) → ((x : ℕ) → ¬ (o ≡ Some x)) → IfNone o P → P
 if_none None P not h = h
 if_none (Some x) P not h = absurd (not x refl)

@@ -11,7 +11,7 @@ use Rattle.rb_crashes.specs.Laws.{HidesCrashes, IsBounded, IsWorldOf}
 use Rattle.rb_crashes.proofs.Cuts
 use Rattle.rb_crashes.proofs.Cuts.{IsSafe}
 
--- where steps lead, the sites are in order, and whatever crashes may leave is a world's
+-- if steps lead, the sites are in order, and whatever crashes may leave is a world's
 pub safe : (s : Settings) (w : List DiskSite) → Leads s (first_disks s) w → IsSafe s w
 safe s w led = Cuts.later_safe s (first_disks s) w led (Cuts.first_safe s)
 

@@ -59,7 +59,7 @@ history_back s i (suc k) (x ∷ w) h at =
       is = o.is ∙ ap (λ j. with_replies s (first_site j) o.site.events) (let q : (i + 1) + k ≡ i + suc k = omega arith in q);
     }
 
--- where sites have nothing but the receipt of one message, which so none of them sent, the histories are no world's
+-- if sites have nothing but the receipt of one message, which so none of them sent, the histories are no world's
 never_sent : (s : Settings) (w : List DiskSite) (m : Message) (k : ℕ) (b : DiskSite) →
     ((i : ℕ) (d : DiskSite) → slice_get w i ≡ Some d → (d.events ≡ []) ⊎ (d.events ≡ Receive m ∷ [])) →
     slice_get w k ≡ Some b → b.events ≡ Receive m ∷ [] → ¬ HidesCrashes s w

@@ -213,7 +213,7 @@ blue_passed lists c k h none waits u a r l = at (row_of u.name == k) refl
 
 -- ---- the first one of all
 
--- where there is no answer, one fact for another
+-- if there is no answer, one fact for another
 pub none_then : {P Q : Type 0} (o : Option OpName) → IfNone o P → (P → Q) → IfNone o Q
 none_then None p f = f p
 none_then (Some x) p f = tt

@@ -157,7 +157,7 @@ find-same us x u h l e q =
     sym (find-index us x u h l ∙ ap (λ (w : Shadow). cond (same_name w.name x) (Some w) None) (sym e)
     ∙ ap (λ b. cond b (Some u) None) (ap (same_name u.name) (sym q) ∙ Members.same_name-refl u.name))
 
--- where another name is at the place of a name it is held nowhere
+-- if another name is at the place of a name it is held nowhere
 pub find-other : (us : List Shadow) (x : OpName) (u : Shadow) → IsInOrder us → held_before us x < length us →
     u ≡ get_or us (held_before us x) u → (u.name ≡ x → ⊥) → None ≡ find_in us x
 find-other us x u h l e q =
@@ -228,7 +228,7 @@ by_number (Red m) (Red n) e = refl
 abbrev pub AreInRow : List Shadow → OpName → Type 0
 AreInRow us x = (u : Shadow) → Among u us → row_of u.name ≡ row_of x
 
--- what is read from the list is in the row, so its name comes before the other where its number does
+-- what is read from the list is in the row, so its name comes before the other if its number does
 pub read-number : (us : List Shadow) (x : OpName) (i : ℕ) (d : Shadow) → AreInRow us x → i < length us →
     comes_before (get_or us i d).name x ≡ nat_lt (number_of (get_or us i d).name) (number_of x)
 read-number [] x i d row l = absurd (omega arith)
@@ -241,7 +241,7 @@ pub parted-number : (us : List Shadow) (x : OpName) → IsInOrder us → AreInRo
 parted-number us x h row i j d up l e =
     sym (read-number us x i d row (omega arith)) ∙ parted us x h i j d up l (read-number us x j d row l ∙ e)
 
--- where the first of a row has no smaller number, none is before the name
+-- if the first of a row has no smaller number, none is before the name
 pub none-before : (us : List Shadow) (x : OpName) (n : ℕ) (d : Shadow) → AreInRow us x → 0 < length us →
     n ≡ number_of (get_or us 0 d).name → number_of x ≤ n → 0 ≡ held_before us x
 none-before [] x n d row l e h = absurd (omega arith)
@@ -251,7 +251,7 @@ none-before (u ∷ us) x n d row l e h =
     at : nat_lt (number_of u.name) (number_of x) ≡ false
     at = grind (arith, nat_tests)
 
--- where the last of them is before the name, all are
+-- if the last of them is before the name, all are
 pub all-before : (us : List Shadow) (x : OpName) (i : ℕ) (d : Shadow) → IsInOrder us → suc i ≡ length us →
     comes_before (get_or us i d).name x ≡ true → length us ≡ held_before us x
 all-before [] x i d h l e = refl
@@ -350,6 +350,6 @@ pub found_inside : (n : ℕ) (us : List Shadow) (b : Holding) (x : OpName) (o : 
     find_in us x ≡ o
 found_inside n us b x o h e = ap (λ (b : Holding). find_in b.held x) h ∙ sym e
 
--- the value where the list is the same
+-- the value if the list is the same
 pub unchanged : (n : ℕ) (us vs : List Shadow) (b : Holding) → us ≡ vs → holding n vs ≡ b → holding n us ≡ b
 unchanged n us vs b e h = ap (holding n) e ∙ h

@@ -219,7 +219,7 @@ pub none_yet : {S : Type 0} (answers : Answers S) (e : Bool) (p : Point S) → A
 unfolding no_step
 none_yet answers e p = (no_step answers e p, (omega arith, omega arith))
 
--- where the bytes that wait are few, the turns that they come from are
+-- if the bytes that wait are few, the turns that they come from are
 pub few_so_far : {S : Type 0} (answers : Answers S) (e : Bool) (p q : Point S) (batch : List ℕ) (a : Advances answers e p q)
     → q.lines ≡ p.lines ++ recovered batch → IsBatch batch → p.text ≡ [] → length batch ≤ MOST_BATCHED
     → length q.text ≤ MOST_BATCHED

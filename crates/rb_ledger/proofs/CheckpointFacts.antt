@@ -31,7 +31,7 @@ row_behind zero (suc n) w i near from below = absurd (omega arith)
 row_behind (suc k) zero w i near from below = absurd (omega arith)
 row_behind (suc k) (suc n) w i near from below = omega (arith, row_behind k n w i near (omega arith) (omega arith))
 
--- where there is a whole row, there is one row less without it
+-- if there is a whole row, there is one row less without it
 pub row_less : (n w : ℕ) → 0 < n * w → (j : ℕ) × (n * w ≡ j * w + w)
 row_less zero w some = absurd (omega arith)
 row_less (suc j) w some = (j, omega arith)
@@ -70,7 +70,7 @@ none s c configured empty accounts due =
       each = λ k a p near read. absurd (omega (arith, slice_get_within c.lasts.items (k * c.accounts + a.0) p read, ap length empty));
     }
 
--- they are what they were where nothing else is new
+-- they are what they were if nothing else is new
 pub moved : (s t : Settings) (us vs : List Shadow) (c d : Checkpoints) → AreCheckpoints s us c → t ≡ s → vs ≡ us →
     d.lasts.items ≡ c.lasts.items → d.accounts ≡ c.accounts → d.due ≡ c.due → AreCheckpoints t vs d
 moved s t us vs c d are es eus lasts accounts due =

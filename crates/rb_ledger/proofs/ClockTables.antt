@@ -45,7 +45,7 @@ steps_are (b ∷ bs) (n ∷ ns) (t ∷ ts) many long each =
     let rest = steps_are bs ns ts (omega (arith, many)) (omega (arith, long)) (λ k low. each (suc k) (omega (arith, low))) in
     ap (λ x. x ∷ take (length bs) ts) (each zero (omega arith)) ∙ ap (λ xs. kept_step b n ∷ xs) rest
 
--- where the counts are near a base, the base with the steps added gives them
+-- if the counts are near a base, the base with the steps added gives them
 pub near_sums : (bs ns : List ℕ) → AreNear bs ns → length bs ≤ length ns → sums bs (steps_of bs ns) ≡ take (length bs) ns
 near_sums [] ns near many = refl
 near_sums (b ∷ bs) [] near many = absurd (omega (arith, many))
@@ -332,7 +332,7 @@ read_on (n ∷ ms) bs j x is near small read =
     ∙ ap (λ y. take j ms ++ y ∷ rest) (read ∙ ap (λ k. get_or (n ∷ ms) k 0) one)
     ∙ sym (ap (λ xs. xs ++ rest) (take_more ms j 0 (omega (arith, near))) ∙ append_assoc (take j ms) (get_or ms j 0 ∷ []) rest)
 
--- where there is memory for one more clock, there is memory for all its counts
+-- if there is memory for one more clock, there is memory for all its counts
 pub room_more : (w n limit : ℕ) → n < limit → n * w + w ≤ limit * w
 room_more w n limit less =
     let more = mul-le-mul_right w (let e : n + 1 ≤ limit = omega (arith, less) in e) in

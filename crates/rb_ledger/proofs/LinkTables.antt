@@ -56,7 +56,7 @@ all_but_last k n (p ∷ os) o (inr (is, are)) = after (all_but_last (k + 1) n os
     after (inl (none, rest)) = inl (none, inr (is, rest))
     after (inr (m, one, last, rest)) = inr (m, one, last, inr (is, rest))
 
--- a number that isn't above the list's length has the same balance where the list is one longer
+-- a number that isn't above the list's length has the same balance if the list is one longer
 pub second_before : (ls : List ℕ) (l n : ℕ) → n ≤ length ls → second_balance (ls ++ l ∷ []) n ≡ second_balance ls n
 second_before ls l zero few = refl
 second_before ls l (suc i) few = get_or_append_left ls (l ∷ []) 0 i (omega (arith, few))

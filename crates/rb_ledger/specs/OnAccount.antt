@@ -12,7 +12,7 @@ IsOn us a p = (p ≡ 0) ⊎ ((i : ℕ) × (u : Shadow) × (p ≡ i + 1) × (slic
 abbrev pub IsNoneAfter : List Shadow → Place → ℕ → Type 0
 IsNoneAfter us a p = (i : ℕ) (u : Shadow) → slice_get us i ≡ Some u → is_on (take i us) u a ≡ true → i < p
 
--- the position of the last operation on the account, or 0 where none is on it
+-- the position of the last operation on the account, or 0 if none is on it
 pub record IsLast (us : List Shadow) (a : Place) (p : ℕ) : Type 0 where
   pub on : IsOn us a p
   pub after : IsNoneAfter us a p

@@ -110,7 +110,7 @@ at_the_end of all b s t (Ok n) whole end (many, is) =
 at_the_end of all b s t (Err f) whole end (unconfigured, is) =
     subst (λ g. RunEndsAs of (Err g) all b t) (sym unconfigured) (faulty (of (lines_of all)) t s.count NoConfig _ whole is)
 
--- the result where there are no more lines
+-- the result if there are no more lines
 pub known_end : (of : Whole) (a b : Option (List ℕ)) (s : RunState) (p : List ℕ) (e : Bool) (t : List ℕ) (r : Result ℕ ScriptFault)
     → FollowsKnown of a b s p e t → p ≡ [] → IsAtEnd b → EndsWith s r
     → IfSome a (λ input. RunEndsAs of r input b t)

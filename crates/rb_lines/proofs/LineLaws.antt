@@ -4,12 +4,12 @@ use Rattle.std.proofs.Common.{arith}
 use Rattle.rb_lines.specs.Lines.{lines_of, whole_lines, line_len}
 use Rattle.rb_lines.proofs.Public.LongLines.{len, len_is, first}
 
--- where a line feed comes, what is before it is the first line
+-- if a line feed comes, what is before it is the first line
 pub first_line : (p tail : List ℕ) → line_len p < length p
     → lines_of (p ++ tail) ≡ take (line_len p) p ∷ lines_of (drop (line_len p + 1) p ++ tail)
 first_line p tail h = rw (len_is p) at (first p tail (rw (len_is p) h)).0
 
--- where a line feed comes, what is before it is the first whole line
+-- if a line feed comes, what is before it is the first whole line
 pub first_whole : (p tail : List ℕ) → line_len p < length p
     → whole_lines (p ++ tail) ≡ take (line_len p) p ∷ whole_lines (drop (line_len p + 1) p ++ tail)
 first_whole p tail h = rw (len_is p) at (first p tail (rw (len_is p) h)).1
@@ -57,7 +57,7 @@ after bs zero h = omega arith
 after [] (suc k) h = absurd (omega arith)
 after (b ∷ bs) (suc k) h = after_step (b == 10) b bs k refl (after bs k) h
 
--- where the first k bytes have no line feed, the line is found among the others
+-- if the first k bytes have no line feed, the line is found among the others
 pub found_later : (bs : List ℕ) (k : ℕ) → k ≤ line_len bs → line_len bs ≡ k + line_len (drop k bs)
 found_later bs k h = omega (arith, after bs k (omega (arith, len_is bs)), len_is bs, len_is (drop k bs))
 

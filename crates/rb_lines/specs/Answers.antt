@@ -57,7 +57,7 @@ RunEndsAs of (Err Write) input left text = IsFront text (of (lines_of input)).te
 RunEndsAs of (Err OutOfMemory) input left text = IsFront text (of (lines_of input)).text
 RunEndsAs of (Err Gather) input left text = ⊥
 
--- the same where some of the text is still to be written: whatever prefix of it goes out is a prefix of the whole text
+-- the same if some of the text is still to be written: whatever prefix of it goes out is a prefix of the whole text
 abbrev pub RunWillEndAs : (List (List ℕ) → LinesOutcome) → Result ℕ ScriptFault → List ℕ → Option (List ℕ) → List ℕ → Type 0
 RunWillEndAs of r input left text = RunEndsAs of r input left text × IsFront text (of (lines_of input)).text
 

@@ -147,7 +147,7 @@ proper sites accounts limits none =
       each_limit = holds (are_limits limits) r.1;
     }
 
--- the version where none is asked for may be so
+-- the version if none is asked for may be so
 allowed : (sites : ℕ) → IsVersion (version_of sites) sites
 allowed sites = at (nat_le sites MOST_SITES_OF_VERSION_1) refl
   where

@@ -37,7 +37,7 @@ names_more i accounts a l =
     ∙ ap (map (λ b. b.0)) (map-append account_of (take i accounts) (get_or accounts i a ∷ []))
     ∙ map-append (λ b. b.0) (map account_of (take i accounts)) (account_of (get_or accounts i a) ∷ [])
 
--- where nothing is wrong behind earlier names, no name is among those before it
+-- if nothing is wrong behind earlier names, no name is among those before it
 new_after : (before : List (List ℕ)) (k : ℕ) (accounts : Entries) → account_fault before k (map account_of accounts) ≡ None → (i : ℕ)
     (a : String Global × ℕ) → i < length accounts →
     is_among (before ++ names_before i accounts) (string_bytes (get_or accounts i a).0) ≡ false
@@ -49,6 +49,6 @@ new_after before k (e ∷ es) none (suc i) a l =
     ap (λ ns. is_among ns (string_bytes (get_or es i a).0)) (sym (append_assoc before (string_bytes e.0 ∷ []) (names_before i es)))
     ∙ new_after (before ++ string_bytes e.0 ∷ []) (k + 1) es rest i a (omega arith)
 
--- where nothing is wrong with them, no name is among those before it
+-- if nothing is wrong with them, no name is among those before it
 pub all_new : (accounts : Entries) → account_fault [] 0 (map account_of accounts) ≡ None → AreNewUpTo (length accounts) accounts
 all_new accounts none = new_after [] 0 accounts none

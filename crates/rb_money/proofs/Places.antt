@@ -50,7 +50,7 @@ own_index (e ∷ es) new (suc i) a l j =
         let later = string_bytes (get_or es k b).0 in
         or_parts (bytes_eq later (string_bytes e.0)) (is_among (names_before k es) later) (new (suc k) b (omega arith))
 
--- where nothing is wrong with accounts, each is at its own index
+-- if nothing is wrong with accounts, each is at its own index
 pub own_place : (es : Entries) → account_fault [] 0 (map account_of es) ≡ None → (i : ℕ) (a : String Global × ℕ) → i < length es →
     place_in (names_of es) (string_bytes (get_or es i a).0) ≡ Some (record { 0 = i })
 own_place es none i a l =

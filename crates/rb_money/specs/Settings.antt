@@ -53,7 +53,7 @@ IsLimit n most = (1 ≤ n) × (n ≤ most)
 abbrev pub IsVersion : ℕ → ℕ → Type 0
 IsVersion version sites = ((version ≡ 1) × (sites ≤ MOST_SITES_OF_VERSION_1)) ⊎ (version ≡ 2)
 
--- the version for this number of sites where none is asked for: 1 where it may be
+-- the version for this number of sites if none is asked for: 1 if it may be
 abbrev pub version_of : ℕ → ℕ
 version_of sites = if nat_le sites MOST_SITES_OF_VERSION_1 then 1 else 2
 

@@ -14,13 +14,13 @@ use Rattle.rb_token.specs.Token.{Token}
 use Rattle.rb_scratch.specs.declared.request.Request.{Request}
 use Rattle.rb_scratch.specs.Requests.{Plan, plan_of, next_name, operation_of, allowed, allowed_red, made_of}
 
--- nothing is made where there is no plan
+-- nothing is made if there is no plan
 pub unplanned : (s : Settings) (me : ℕ) (us : List Shadow) (token : Token) (r : Request) (why : Refusal) → plan_of s us r ≡ Err why →
     made_of s me us token r ≡ Err why
 unfolding made_of
 unplanned s me us token r why e = ap (λ q. and_then Err q (λ p. allowed s us token (operation_of me us p))) e
 
--- where there is one, what it allows is made
+-- if there is one, what it allows is made
 pub planned : (s : Settings) (me : ℕ) (us : List Shadow) (token : Token) (r : Request) (p : Plan) → plan_of s us r ≡ Ok p →
     made_of s me us token r ≡ allowed s us token (operation_of me us p)
 unfolding made_of
@@ -55,7 +55,7 @@ pub blue_made : (s : Settings) (me : ℕ) (us : List Shadow) (token : Token) (r 
 blue_made s me us token r p v e is low blue = within s me us token r p v e is low
     ∙ ap (λ x. cond (is_red x) (allowed_red s us token v) (Ok v)) (named me us p v is ∙ ap (next_name me us) blue)
 
--- a red one is made where it is allowed
+-- a red one is made if it is allowed
 pub red_made : (s : Settings) (me : ℕ) (us : List Shadow) (token : Token) (r : Request) (p : Plan) (v : Shadow) → plan_of s us r ≡ Ok p →
     v ≡ operation_of me us p
     → number_of v.name ≤ limit_of s.limits v.name → colour_in us p.kind ≡ RedColour → made_of s me us token r ≡ allowed_red s us token v

@@ -14,7 +14,7 @@ use Rattle.rb_shadow.proofs.Public.Totals
 use Rattle.rb_ledger.proofs.Public.Pushes
 use Rattle.rb_scratch.specs.Originals.{left_out}
 
--- where no operation has the name, none is left out
+-- if no operation has the name, none is left out
 none_left_out : (x : OpName) (us : List Shadow) → names us x ≡ false → left_out x us ≡ us
 none_left_out x [] e = refl
 none_left_out x (u ∷ us) e =

@@ -118,7 +118,7 @@ plan_of_transfer s us a c n p e =
     let (_, e4) = Made.passed_by (a.0 == c.0) _ _ p e3 in
     accepted p _ e4
 
--- what is known where a cancellation is planned
+-- what is known if a cancellation is planned
 record HasTargetFor (us : List Shadow) (x : OpName) (p : Plan) : Type 0 where
   target : Shadow
   found : find_in us x ≡ Some target

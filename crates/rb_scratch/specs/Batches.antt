@@ -17,7 +17,7 @@ use Rattle.rb_scratch.specs.declared.run_fault.RunFault.TheVariants.{Declined as
 use Rattle.rb_token.specs.Token.{Token}
 
 -- what a request of a batch makes, or what is wrong with it: a declined withdrawal or transfer stops a batch as a
--- refusal does, before its number is looked at, so where no number is left either, the cause is that it is declined
+-- refusal does, before its number is looked at, so if no number is left either, the cause is that it is declined
 unfoldable pub made_in_batch : Settings → ℕ → List Shadow → Token → Request → Result Shadow RunFault
 made_in_batch s me us token r =
     and_then (λ why. Err (RefusedFault why)) (plan_of s us r) (λ p.

@@ -33,7 +33,7 @@ after_transfer b a c x = λ q. b q +ℤ (if grants b a x then (if a.0 == q.0 the
 abbrev pub after_accrue : (Place → ℤ) → Place → ℕ → Place → ℤ
 after_accrue b a rate = λ q. b q +ℤ (if a.0 == q.0 then pos (interest_on b a rate) else pos 0)
 
--- the kind of operation that a request is granted on these balances; where there isn't enough, it is a declined one
+-- the kind of operation that a request is granted on these balances; if there isn't enough, it is a declined one
 abbrev pub granted_kind : (Place → ℤ) → Request → Kind
 granted_kind b (AskDeposit a n) = Deposit
 granted_kind b (AskWithdraw a n) = if grants b a n then Withdraw else Declined

@@ -37,7 +37,7 @@ pub record Plan : Type 0 where
   pub amount : ℕ
   pub kind : Kind
 
--- the kind of an operation that takes from an account: the one asked for where the balance covers it, and else declined
+-- the kind of an operation that takes from an account: the one asked for if the balance covers it, and else declined
 abbrev pub if_covered : Settings → List Shadow → Place → ℕ → Kind → Kind
 if_covered s us a n k = if int_lt (bal s us a) (pos n) then Declined else k
 

@@ -33,7 +33,7 @@ use Rattle.rb_site.specs.Events.{MakesAll, ModelSite, Outcome, Refuses, outcome_
 use Rattle.rb_site.specs.States.{Follows, Says, SiteState}
 use Rattle.rb_site.proofs.Handlers.{AnswersAlone, answers_as, follows_as, site_as, state_as}
 
--- what a request makes where the list is the same
+-- what a request makes if the list is the same
 same_made : (s now : Settings) (me here : ℕ) (us them : List Shadow) (known : Token) (r : Request) → now ≡ s → here ≡ me → them ≡ us →
     made_in_batch s me us known r ≡ made_in_batch now here them known r
 same_made s now me here us them known r same at list =

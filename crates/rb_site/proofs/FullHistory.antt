@@ -41,7 +41,7 @@ use Rattle.rb_site.proofs.Handlers.{comes_to_check, conflict_comes, dropped, kno
 use Rattle.rb_site.proofs.Handlers.{submit_comes, too_many_comes, welcome_comes}
 use Rattle.rb_site.proofs.Batches.{batch_comes, is_of_size, of_batch}
 
--- the reply where the history is full is that of the outcome that the event comes to
+-- the reply if the history is full is that of the outcome that the event comes to
 pub replied : (s : Settings) (t : ModelSite) (e : Event) (o : Outcome) (given : Reply) → outcome_of s t e ≡ o →
     given ≡ reply_of s t.ops (unless_full true o) → given ≡ reply_at_full s t e
 replied s t e o given comes is = is ∙ sym (ap (λ q. reply_of s t.ops (unless_full true q)) comes)

@@ -72,7 +72,7 @@ pub follows_less : (keeps : Bool) (old now : SiteState) (before after : List Mes
     Follows true old now before after o a → Follows keeps old now before after o a
 follows_less keeps old now before after o a h = (h.0, (h.1.0, noted_less keeps (reply_of old.settings old.site.ops o) a.noted h.1.1), h.2)
 
--- where nothing is sent, the messages stay
+-- if nothing is sent, the messages stay
 pub follows_silent : (keeps : Bool) (old now : SiteState) (before : List Message) (o : Outcome) (a : NotedReply) →
     Follows keeps old now [] [] o a → Follows keeps old now before before o a
 follows_silent keeps old now before o a h = (h.0, h.1, sym (append-nil before) ∙ ap (λ ms. before ++ ms) h.2)
@@ -99,7 +99,7 @@ handled keeps old now before after d e (Ok a) reply noted same none h =
     (follows_as true old now before after _ _ (plain reply) (ap (outcome_of old.settings old.site) same) h))
 handled keeps old now before after d e (Err why) reply noted same none h = tt
 
--- the same where nothing is sent
+-- the same if nothing is sent
 pub handled_silent : {A E : Type 0} (keeps : Bool) (old now : SiteState) (before : List Message) (d e : Event) (r : Result A E)
     (reply : Reply) (noted : Option Reply) → d ≡ e → noted ≡ None →
     OnOk r (AnswersAlone old now (outcome_of old.settings old.site e) (plain reply))
@@ -207,7 +207,7 @@ pub answers_as_of : (z : SiteState) (a : Place) (n k : ℕ) (given : NotedReply)
     Says true given (BalanceIs k) → AnswersAlone z z (outcome_of z.settings z.site (AsOf a n)) given
 answers_as_of z a n k given known is = answers_as z z _ _ given (as_of_comes z.settings z.site a n (Ok k) known) (refl, is, refl)
 
--- where there is none, it is refused
+-- if there is none, it is refused
 pub refuses_as_of : (z : SiteState) (a : Place) (n : ℕ) (why : Refusal) (given : NotedReply)
     → Err why ≡ balance_as_of z.settings z.site.ops a n → Says true given (Refused why)
     → AnswersAlone z z (outcome_of z.settings z.site (AsOf a n)) given
@@ -457,7 +457,7 @@ holds s me ops inbox later token c v a few valid same limit welcome grown is =
     answers_as _ _ _ _ a (welcome_comes s (site_as me ops inbox.held token) inbox c v few valid same limit refl welcome)
     (ap (λ (b : Holding). state_as s me ops b.held token) grown, is, refl)
 
--- where the inbox is full and the shadow isn't ready, it comes to be refused
+-- if the inbox is full and the shadow isn't ready, it comes to be refused
 pub too_many_comes : (s : Settings) (t : ModelSite) (inbox : Holding) (c : Deps) (v : Shadow) → s.sites ≤ MOST_SITES → IsValid s t.ops →
     c ≡ clock_of t.ops → inbox.limit ≡ s.limits.inbox → inbox.held ≡ t.held → IsTooMany inbox c v
     → outcome_of_new s t v ≡ Refuses InboxFull
@@ -482,7 +482,7 @@ too_many s me ops inbox token c v a few valid same limit many is =
     answers_as _ _ _ _ a (too_many_comes s (site_as me ops inbox.held token) inbox c v few valid same limit refl many)
     (refl, is, refl)
 
--- the same where it is held already: the answer is that, and nothing changes
+-- the same if it is held already: the answer is that, and nothing changes
 pub already : (s : Settings) (me : ℕ) (ops held : List Shadow) (token : Token) (v : Shadow) (a : NotedReply) →
     find_in held v.name ≡ Some v →
     Says true a (Already v.name)
@@ -491,7 +491,7 @@ already s me ops held token v a found is =
     answers_as _ _ _ _ a (known_comes s (site_as me ops held token) v v true found (SameShadows.same_shadow-refl v))
     (refl, is, refl)
 
--- where another is held under its name, it comes to a conflict
+-- if another is held under its name, it comes to a conflict
 pub conflict_comes : (s : Settings) (t : ModelSite) (inbox : Holding) (v : Shadow) → inbox.held ≡ t.held → IsInConflict inbox v →
     outcome_of_new s t v ≡ Refuses Conflict
 conflict_comes s t inbox v held (u, found, other) =

@@ -46,7 +46,7 @@ replies_alike x old o p standing same =
     ∙ ap (λ z. reply_of z old.site.ops p) standing.settings
     ∙ ap (λ (u : ModelSite). reply_of x.settings u.ops p) standing.site
 
--- where a site is the run of its history, which isn't full, what follows the event's outcome is the model's step
+-- if a site is the run of its history, which isn't full, what follows the event's outcome is the model's step
 pub is_step : (keeps : Bool) (x : SeenSite) (old now : SiteState) (before after : List Message) (e : Event) (a : NotedReply) →
     is_full x.settings (state_of x) ≡ false → IsStanding x old → Follows keeps old now before after (outcome_of old.settings old.site e) a →
     IsStep x now before after e a
@@ -92,7 +92,7 @@ is_step keeps x old now before after e a free standing follows =
 abbrev pub seen_as : Settings → ℕ → List Entry → SeenSite
 seen_as s me xs = record { settings = s; me = me; entries = xs }
 
--- where the entry was pushed, clients see the model's step
+-- if the entry was pushed, clients see the model's step
 pub seen_now : (x : SeenSite) (now : SiteState) (before after : List Message) (e : Event) (a : NotedReply) (xs : List Entry) →
     IsStep x now before after e a → now.site.me ≡ x.me → xs ≡ x.entries ++ entry e a.reply ∷ [] →
     seen_as now.settings now.site.me xs ≡ noted_in x e a.reply

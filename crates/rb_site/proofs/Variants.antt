@@ -27,7 +27,7 @@ sides (Fs ∷ Fss) each all (inr x) (inr y) =
     let rest = sides Fss each.1 all.1 x y in
     (λ e. ap inr (rest.0 e), λ e. rest.1 (ap (right_or x) e))
 
--- where each variant's test is true just of equal fields, the enum's is true just of equal values
+-- if each variant's test is true just of equal fields, the enum's is true just of equal values
 pub enum_equality : (N : Record) (each : Each Bool N.parts) → AreEqualities N.parts each →
     IsEquality (λ (x y : N.D). by false false N.parts each (N.as_values x) (N.as_values y))
 enum_equality N each all x y =
@@ -59,7 +59,7 @@ two first second f g x y = (
 
 -- ---- two values of an enum
 
--- where they are apart, the test is false
+-- if they are apart, the test is false
 pub apart : {A : Type 0} (x y : A) → (x ≡ y → ⊥) → Decides false (x ≡ y)
 apart x y other = (λ e. absurd (false≢true e), λ e. absurd (other e))
 

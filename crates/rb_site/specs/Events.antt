@@ -62,8 +62,8 @@ pub data Outcome : Type 0 where
 
 -- ---- shadows that are received or applied
 
--- what comes of a shadow whose name is known, by the one known: it is answered where it is the same, and refused as a
--- conflict where it is another; where none is known, what comes next
+-- what comes of a shadow whose name is known, by the one known: it is answered if it is the same, and refused as a
+-- conflict if it is another; if none is known, what comes next
 abbrev pub unless_known : Shadow → Option Shadow → Outcome → Outcome
 unless_known v None next = next
 unless_known v (Some u) next = if same_shadow u v then Answers (Already v.name) else Refuses Conflict

@@ -42,7 +42,7 @@ abbrev pub message_at : List Message → ℕ → Option Message
 message_at ms zero = None
 message_at ms (suc k) = slice_get ms k
 
--- the world after an event that is brought to a site; where there is no such event, or no such site, nothing happens
+-- the world after an event that is brought to a site; if there is no such event, or no such site, nothing happens
 abbrev pub world_at : Settings → World → ℕ → Option Event → Option ModelSite → World
 world_at s w i None t = w
 world_at s w i (Some e) None = w

@@ -6,7 +6,7 @@ use rb_money::{Place, Refusal};
 use rb_shadow::Label;
 use rb_token::TokenMessage;
 
-/// The test of what the pattern finds in the value, and `false` where the value is another variant.
+/// The test of what the pattern finds in the value, and `false` if the value is another variant.
 macro_rules! same_in {
     ($value:expr, $pattern:pat => $test:expr) => {
         match $value {

@@ -342,7 +342,7 @@ impl State {
         }
     }
 
-    /// A held shadow whose past is applied is applied too, or is let go where it can't be.
+    /// A held shadow whose past is applied is applied too, or is let go if it can't be.
     #[tactic(auto, unfolding(crate::specs::Events::outcome_of))]
     fn apply(&mut self, name: &OpName, reply: &mut Reply) -> Result<(), AllocError>
         ensures ok { OnOk result (Follows true self.old self.new [] []

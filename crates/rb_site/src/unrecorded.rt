@@ -38,7 +38,7 @@ impl<E: KeepsEntry> Site<E> {
         self.step_if_changes(event, sent, reply)
     }
 
-    /// The same where the history isn't full: memory for the event comes first, and at last it is noted with its
+    /// The same if the history isn't full: memory for the event comes first, and at last it is noted with its
     /// reply, if it changed the site.
     #[inline(always)]
     fn step_if_changes(

@@ -94,7 +94,7 @@ on_error (Err why) P p = p
 
 -- ---- a step that a site records
 
--- what is known where a site takes an event: its place, the event that arrives there, and that its history isn't full
+-- what is known if a site takes an event: its place, the event that arrives there, and that its history isn't full
 pub record IsTaken (config : Settings) (xs : List SeenSite) (messages : List Message) (ev : WorldEvent) (e : Event) (x : SeenSite) : Type 0
   where
     pub arrived : arrival messages ev ≡ Some e
@@ -110,7 +110,7 @@ sites_and ts ms = record { sites = ts; messages = ms }
 abbrev pub shown_world : Settings → List SeenSite → List Message → List WorldEvent → SeenWorld
 shown_world s xs ms es = world_as s (sites_and (map state_of xs) ms) es
 
--- where a site takes an event, its reply is the world's, and its step, with the messages that it sends and the event in
+-- if a site takes an event, its reply is the world's, and its step, with the messages that it sends and the event in
 -- the list, is the world's step
 pub taken_step : (s : Settings) (xs : List SeenSite) (ms : List Message) (es : List WorldEvent) (ev : WorldEvent) (e : Event) (x : SeenSite)
     → IsTaken s xs ms ev e x

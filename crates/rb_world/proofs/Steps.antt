@@ -37,7 +37,7 @@ use Rattle.rb_site.specs.Histories.{IsAmong, IsFrom}
 use Rattle.rb_site.specs.Worlds.{World, shadows_in, tokens_in, message_at, world_at, world_after, world_after_all, AreOwn}
 use Rattle.rb_world.specs.Laws.{EachSite}
 
--- ---- what is known where an event comes to an outcome
+-- ---- what is known if an event comes to an outcome
 
 -- one of the token messages
 abbrev pub AmongTokens : TokenMessage → List TokenMessage → Type 0
@@ -89,7 +89,7 @@ pub record MayTake (ms : List Message) (t : ModelSite) (m : TokenMessage) : Type
   pub mine : m.to ≡ t.me
   pub later : t.token.epoch < m.epoch
 
--- what is known where a site passes the token by a message: the site has it, and the message goes to another site,
+-- what is known if a site passes the token by a message: the site has it, and the message goes to another site,
 -- with the next epoch, within the limit, and the larger of the red numbers that the site needs and has applied
 pub record MayPass (s : Settings) (t : ModelSite) (m : TokenMessage) : Type 0 where
   pub held : t.token.held ≡ true
@@ -99,7 +99,7 @@ pub record MayPass (s : Settings) (t : ModelSite) (m : TokenMessage) : Type 0 wh
   pub within : m.epoch ≤ s.limits.epoch
   pub red : m.red ≡ max t.token.needed (red_count t.ops)
 
--- what is known at a site where an event comes to an outcome, by the outcome; nothing where the outcome refuses,
+-- what is known at a site if an event comes to an outcome, by the outcome; nothing if the outcome refuses,
 -- answers, shows or drops something
 abbrev pub Comes : Settings → List Message → ModelSite → Outcome → Type 0
 Comes s ms t (Refuses why) = Unit {0}
@@ -113,7 +113,7 @@ Comes s ms t (Applies v) = MayApply s t v
 Comes s ms t (Takes m) = MayTake ms t m
 Comes s ms t (Passes m) = MayPass s t m
 
--- a test that refuses leaves what holds where it doesn't
+-- a test that refuses leaves what holds if it doesn't
 past_test : (s : Settings) (ms : List Message) (t : ModelSite) (b : Bool) (why : Refusal) (next : Outcome) → (b ≡ false → Comes s ms t next)
     → Comes s ms t (cond b (Refuses why) next)
 past_test s ms t true why next h = tt

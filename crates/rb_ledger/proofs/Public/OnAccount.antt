@@ -99,7 +99,7 @@ pub none_of_front : (us : List Shadow) (n : ℕ) (a : Place) (p i : ℕ) (u : Sh
 none_of_front us n a p i u none near there own = none i u (Fronts.get_taken n us i near ∙ there) (on_front_same us i n u a (omega arith)
     ∙ own)
 
--- where no operation of a prefix is on the account after a position
+-- if no operation of a prefix is on the account after a position
 pub none_in_front : (us : List Shadow) (n : ℕ) (a : Place) (p : ℕ) → ((i : ℕ) (u : Shadow) → i < n → slice_get us i ≡ Some u →
     is_on (take i us) u a ≡ true → i < p) → IsNoneAfter (take n us) a p
 none_in_front us n a p all i u there own = let (near, here) = Fronts.get_take n us i u there in

@@ -30,7 +30,7 @@ first_step false b bs tail e more h =
     let rest = more below in
     rw (e, (one_more (len bs) b bs).0, (one_more (len bs) b bs).1, rest.0, rest.1) (refl, refl)
 
--- where a line feed comes, what is before it is the first line, and a whole one
+-- if a line feed comes, what is before it is the first line, and a whole one
 pub first : (p tail : List ℕ) → len p < length p → IsFirst p tail
 first [] tail h = absurd (omega arith)
 first (b ∷ bs) tail h = first_step (b == 10) b bs tail refl (first bs tail) h
@@ -57,7 +57,7 @@ has_first : (ls : List (List ℕ)) → 0 < first_len ls → (l : List ℕ) × (m
 has_first [] h = absurd (omega arith)
 has_first (l ∷ ls) h = (l, ls, refl, refl)
 
--- where more than n bytes have no line feed, the first line has more than n
+-- if more than n bytes have no line feed, the first line has more than n
 pub long_line : (p tail : List ℕ) (n : ℕ) → n < line_len p
     → (l : List ℕ) × (more : List (List ℕ)) × (lines_of (p ++ tail) ≡ l ∷ more) × (n < length l)
 long_line p tail n h =

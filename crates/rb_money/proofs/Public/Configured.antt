@@ -5,7 +5,7 @@ use Rattle.rb_money.specs.Settings.{IsConfigured}
 use Rattle.rb_money.specs.declared.limits.Limits.{Limits}
 use Rattle.rb_money.proofs.Faults.{configured}
 
--- where nothing is wrong the settings are configured
+-- if nothing is wrong the settings are configured
 pub parts_configured : (sites : ℕ) (accounts : List Account) (limits : Limits) → config_fault sites accounts limits ≡ None →
     IsConfigured (settings_of sites accounts limits)
 parts_configured = configured

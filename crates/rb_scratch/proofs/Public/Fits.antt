@@ -136,7 +136,7 @@ pub seen_past : (s : Settings) (me : ℕ) (us : List Shadow) (p : Plan) → s.si
     IsWithin (past (shadow_of me us p)) (names us)
 seen_past s me us p few valid x h = sym (ValidClocks.clock_past s us (shadow_of me us p) few valid refl x) ∙ h
 
--- what a plan makes may come next where its accounts are covered
+-- what a plan makes may come next if its accounts are covered
 pub plan_follows : (s : Settings) (me : ℕ) (us : List Shadow) (p : Plan) → s.sites ≤ MOST_SITES → me < s.sites → IsValid s us →
     IsFit s me us p → ((a : Place) → is_on us (shadow_of me us p) a ≡ true → pos 0 ≤ℤ bal s (us ++ shadow_of me us p ∷ []) a) →
     Legal.MayFollow s us (shadow_of me us p)

@@ -48,7 +48,7 @@ pub passed_by : {A : Type 0} (b : Bool) (why : Refusal) (next : Result A Refusal
 passed_by true why next v e = cc
 passed_by false why next v e = (refl, e)
 
--- a condition that refuses doesn't hold where nothing is refused
+-- a condition that refuses doesn't hold if nothing is refused
 pub past_first : (b : Bool) (why : Refusal) (next : Option Refusal) → cond b (Some why) next ≡ None → (b ≡ false) × (next ≡ None)
 past_first true why next e = cc
 past_first false why next e = (refl, e)

@@ -104,7 +104,7 @@ total-reordered f us vs uu uv there back =
     (λ v h k. absurd (Members.true≢false (sym (Members.named vs v (there v h)) ∙ k))) in
     omega (arith, ints, low, high)
 
--- an operation adds the same where it is cancelled the same
+-- an operation adds the same if it is cancelled the same
 pub worth-same : (us vs : List Shadow) (a : Place) (u : Shadow) → is_cancelled us u.name ≡ is_cancelled vs u.name →
     worth us a u ≡ worth vs a u
 worth-same us vs a u e = ap (λ b. cond (not (is_some (target_of u.kind)) && not b) (delta u a) (pos 0)) e

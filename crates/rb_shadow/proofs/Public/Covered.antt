@@ -73,7 +73,7 @@ nothing_added (Transfer to) n a d e = absurd (Members.true≢false e)
 nothing_added _ n a true e = omega (arith, ints)
 nothing_added _ n a false e = omega (arith, ints)
 
--- an operation is worth no less where nothing that adds is cancelled besides
+-- an operation is worth no less if nothing that adds is cancelled besides
 worth-more : (us vs : List Shadow) (a : Place) (u : Shadow) → (is_cancelled us u.name ≡ true → is_cancelled vs u.name ≡ true) →
     (adds u.kind ≡ true → is_cancelled vs u.name ≡ true → is_cancelled us u.name ≡ true) → Balances.worth us a u ≤ℤ Balances.worth vs a u
 worth-more us vs a u there back = elim (Members.bool_cases (adds u.kind)) [
@@ -177,7 +177,7 @@ pub record IsCovered (s : Settings) (all : List Shadow) : Type 0 where
       (before : List Shadow) × IsPart before all × IsUnique before × AreSame (names before) (past r)
       × ((a : Place) → pos 0 ≤ℤ bal s (before ++ r ∷ []) a)
 
--- where there are no operations, a balance is the start
+-- if there are no operations, a balance is the start
 at_start : (s : Settings) (a : Place) → pos (start_of s a) ≤ℤ bal s [] a
 unfolding bal
 at_start s a = omega (arith, ints)

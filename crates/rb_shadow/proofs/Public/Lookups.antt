@@ -17,7 +17,7 @@ found (u ∷ us) x v h = at (same_name u.name x) refl h (found us x v)
     at true e k rest = let a : v ≡ u = cc in (inl a, ap (λ (w : Shadow). w.name) a ∙ Members.same_name-true u.name x e)
     at false e k rest = let r : Among v us × (v.name ≡ x) = rest k in (inr r.0, r.1)
 
--- where nothing is found, no operation has the name
+-- if nothing is found, no operation has the name
 pub unnamed : (us : List Shadow) (x : OpName) → find_in us x ≡ None → names us x ≡ false
 unnamed [] x h = refl
 unnamed (u ∷ us) x h = at (same_name u.name x) h (unnamed us x)
@@ -26,7 +26,7 @@ unnamed (u ∷ us) x h = at (same_name u.name x) h (unnamed us x)
     at true k rest = cc
     at false k rest = rest k
 
--- where an operation has the name, one is found
+-- if an operation has the name, one is found
 pub found_named : (us : List Shadow) (x : OpName) → names us x ≡ true → (t : Shadow) × (find_in us x ≡ Some t)
 found_named [] x h = cc
 found_named (u ∷ us) x h = at (same_name u.name x) h (found_named us x)

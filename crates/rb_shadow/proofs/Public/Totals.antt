@@ -25,7 +25,7 @@ total-filter p f (u ∷ us) = at (p u) (total-filter p f us)
     at true e = omega (arith, ints)
     at false e = omega (arith, ints)
 
--- a sum is at most another where each number is
+-- a sum is at most another if each number is
 pub total-le : (f g : Shadow → ℤ) (us : List Shadow) → ((u : Shadow) → Among u us → f u ≤ℤ g u) → total f us ≤ℤ total g us
 total-le f g [] h = omega (arith, ints)
 total-le f g (u ∷ us) h = omega (arith, ints, h u (inl refl), total-le f g us (λ v k. h v (inr k)))

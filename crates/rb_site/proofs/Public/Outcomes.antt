@@ -61,7 +61,7 @@ pub is_full-state : (x : SeenSite) → IsReplayed x → nat_le x.settings.limits
 is_full-state x kept = ap (nat_le x.settings.limits.history) (sym (ap length (Seen.history-state x kept)
     ∙ length-map x.entries (λ (y : Entry). y.event)))
 
--- where the model site's history isn't full, the site's has fewer entries than its limit
+-- if the model site's history isn't full, the site's has fewer entries than its limit
 pub room_left : (x : SeenSite) → IsReplayed x → is_full x.settings (state_of x) ≡ false → length x.entries < x.settings.limits.history
 room_left x kept free =
     let test : nat_le x.settings.limits.history (length x.entries) ≡ false = is_full-state x kept ∙ free in

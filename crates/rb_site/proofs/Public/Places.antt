@@ -18,7 +18,7 @@ get_set_other (u ∷ ts) zero (suc j) n h = refl
 get_set_other (u ∷ ts) (suc i) zero n h = refl
 get_set_other (u ∷ ts) (suc i) (suc j) n h = get_set_other ts i j n (λ e. h (ap suc e))
 
--- where one place is replaced twice, the second time alone counts
+-- if one place is replaced twice, the second time alone counts
 pub set_set : {A : Type 0} (ts : List A) (i : ℕ) (m n : A) → slice_set (slice_set ts i m) i n ≡ slice_set ts i n
 set_set [] i m n = refl
 set_set (u ∷ ts) zero m n = refl

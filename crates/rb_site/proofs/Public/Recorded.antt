@@ -124,7 +124,7 @@ roomy s (Some t) h = (t, refl, not_true (is_full s t) h)
     not_true true k = cc
     not_true false k = refl
 
--- where messages come by deliveries alone, a recorded event is at a site whose history isn't full, and is the site's
+-- if messages come by deliveries alone, a recorded event is at a site whose history isn't full, and is the site's
 -- own or receives a message that was sent
 pub is_recorded_event : (s : Settings) (w : World) (e : WorldEvent) → AreOwn (e ∷ []) → is_recorded s w e ≡ true → IsRecorded s w e
 is_recorded_event s w (At i x) own h = let (t, at, room) = roomy s (slice_get w.sites i) h in
@@ -152,7 +152,7 @@ is_recorded_event s w (Deliver i k) own h = by (message_at w.messages k) refl h
           is = ap (λ o. world_at s w i (option_map Receive o) (slice_get w.sites i)) e ∙ ap (world_at s w i (Some (Receive m))) at;
         }
 
--- where messages come by deliveries alone in a list, they do in its first event and in the rest
+-- if messages come by deliveries alone in a list, they do in its first event and in the rest
 pub split_own : (e : WorldEvent) (es : List WorldEvent) → AreOwn (e ∷ es) → AreOwn (e ∷ []) × AreOwn es
 split_own (At i x) es h = ((h.0, tt), h.1)
 split_own (Deliver i k) es h = (tt, h)

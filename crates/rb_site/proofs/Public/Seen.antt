@@ -46,7 +46,7 @@ pub replays-push : (s : Settings) (t : ModelSite) (xs : List Entry) (e : Event) 
 replays-push s t [] e h = (refl, tt)
 replays-push s t (x ∷ xs) e h = (h.0, replays-push s (after_event s t x.event) xs e h.1)
 
--- where its history isn't full, a site keeps what it keeps
+-- if its history isn't full, a site keeps what it keeps
 pub replayed-stepped : (x : SeenSite) (e : Event) → length x.entries < x.settings.limits.history → IsReplayed x → IsReplayed (stepped x e)
 replayed-stepped x e room kept = record {
   within = kept.within;
@@ -113,7 +113,7 @@ pub entries-append : (s : Settings) (t : ModelSite) (es fs : List Event) →
 entries-append s t [] fs = refl
 entries-append s t (e ∷ es) fs = ap (λ xs. entry e (reply_to s t e) ∷ xs) (entries-append s (after_event s t e) es fs)
 
--- where a site goes on, its history does
+-- if a site goes on, its history does
 pub history-grown : (s : Settings) (t u : ModelSite) (more : List Event) → u.me ≡ t.me → u.history ≡ t.history ++ more →
     Runs.IsRunOfItsHistory s t → history_of s u ≡ history_of s t ++ with_replies s t more
 history-grown s t u more me longer run =
@@ -122,7 +122,7 @@ history-grown s t u more me longer run =
     ∙ entries-append s (first_site t.me) t.history more
     ∙ ap (λ v. history_of s t ++ with_replies s v more) run
 
--- an event adds its entry where the history isn't full
+-- an event adds its entry if the history isn't full
 pub history-noted : (s : Settings) (t : ModelSite) (e : Event) → is_full s t ≡ false → Runs.IsRunOfItsHistory s t →
     history_of s (after_event s t e) ≡ history_of s t ++ entry e (reply_to s t e) ∷ []
 history-noted s t e room run = history-grown s t (after_event s t e) (e ∷ []) (me_after s t e) (noted_history s t e room) run

@@ -1,4 +1,4 @@
--- Two refusals are equal just where they are of one variant, and what they hold is equal.
+-- Two refusals are equal just if they are of one variant, and what they hold is equal.
 use Rattle.std.proofs.Common.{◌≡◌, ◌∙◌, ◌==◌, sym}
 use Rattle.std.specs.Cmp.{unsigned_Decides}
 use Rattle.rb_money.specs.contracts.refusal.Cause.{enum as cause_enum}

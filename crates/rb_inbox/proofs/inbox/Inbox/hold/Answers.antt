@@ -35,7 +35,7 @@ insert-requires c =
     let long = ap length (row_there rows row c.index_mut.result.now within c.index_mut.ensures.value) in
     omega (arith, index, long, held_before-bound (get_or rows row []) c.args.shadow.now.name)
 
--- where the row couldn't grow, the rows are as before
+-- if the row couldn't grow, the rows are as before
 as_before : (c : goal.After-from_residual-in_err-insert) → set c.add_rows.new.rows.items c.row-row.result c.insert.new.self
     ≡ c.add_rows.new.rows.items
 as_before c =

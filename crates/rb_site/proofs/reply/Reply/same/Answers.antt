@@ -1,4 +1,4 @@
--- Two replies are equal just where they are of one variant, and what they hold is equal.
+-- Two replies are equal just if they are of one variant, and what they hold is equal.
 use Rattle.std.proofs.Common.{◌≡◌, ◌∙◌, sym, ℕ}
 use Rattle.std.specs.Cmp.{unsigned_Decides}
 use Rattle.rb_kit.specs.declared.list.List.{List}

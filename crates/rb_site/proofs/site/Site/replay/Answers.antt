@@ -7,7 +7,7 @@ use Rattle.rb_site.specs.Seen.{first_seen, next_site, next_sites}
 use Rattle.rb_site.proofs.Reports.{sites_more, whole}
 use Rattle.rb_site.proofs.site.Site.replay.Goals as goal
 
--- what holds where a result is Ok holds where it isn't an error
+-- what holds if a result is Ok holds if it isn't an error
 answered : {A : Type 0} (r : Result A AllocError) (P : Type 0) → is_err r ≡ false → OnOk r P → P
 answered (Ok a) P e h = h
 answered (Err why) P e h = cc

@@ -1,4 +1,4 @@
--- Two events of a world are equal just where they are of one variant, and what they hold is equal.
+-- Two events of a world are equal just if they are of one variant, and what they hold is equal.
 use Rattle.std.proofs.Common.{◌≡◌, ◌∙◌, ℕ, ◌==◌, ap, sym}
 use Rattle.std.proofs.lemmas.Bool.{eqb-true}
 use Rattle.std.specs.Bool.{Decides}
