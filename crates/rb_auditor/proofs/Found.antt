@@ -1,4 +1,4 @@
--- What is found at each of some places.
+-- Items that are found at each of some places.
 use Rattle.std.proofs.Common.{◌≡◌, ℕ, List, [], ◌∷◌, ◌++◌, length, refl, ap, sym, ◌∙◌, Option, Some, None}
 use Rattle.std.specs.List.{filter_map}
 use Rattle.std.specs.Prelude.{map, option_map, slice_get}
@@ -18,11 +18,11 @@ is f (p ∷ ps) (y ∷ ys) e =
     filter_map-append f (p ∷ []) ps ∙ ap (λ o. filter_map (λ q. q) (o ∷ []) ++ filter_map f ps) first
     ∙ ap (λ zs. y ∷ zs) (is f ps ys others)
 
--- where it is known what is at each of these places, there is something
+-- if it is known what is at each of these places, there is something
 pub there : {A B : Type 0} (f : A → Option B) (ps : List A) (ys : List B) → map f ps ≡ map (λ y. Some y) ys → AreThere f ps
 there f ps ys e = e ∙ ap (map (λ y. Some y)) (sym (is f ps ys e))
 
--- what is at each of these places is there still where more is found
+-- what is at each of these places is there still if more is found
 pub still : {A B : Type 0} (f g : A → Option B) → ((p : A) (x : B) → f p ≡ Some x → g p ≡ Some x) → (ps : List A) (ys : List B)
     → map f ps ≡ map (λ y. Some y) ys → map g ps ≡ map (λ y. Some y) ys
 still f g more [] ys e = e

@@ -28,7 +28,7 @@ use Rattle.rb_auditor.proofs.Takings
 
 -- ---- whole histories
 
--- where each entry has a step, the site records all
+-- if each entry has a step, the site records all
 pub replays : (s : Settings) (i : ℕ) (n : Notes) (ms : List Message) → IsJudged s i n ms → length n.steps.items ≡ length (entries_noted n)
     → IsReplay s i (entries_noted n)
 replays s i n ms j whole = subst (IsReplay s i) (take_all (length n.steps.items) (entries_noted n) (omega arith)) j.replays
@@ -60,7 +60,7 @@ whole_more ns k n old at whole i m less there = elim (same_number k i) [
   | inr ne ↦ old i m (let q : i < k + 1 = less in omega (arith, ne)) there
 ]
 
--- where an entry has no step, and all have one below, it is the first that its site doesn't record
+-- if an entry has no step, and all have one below, it is the first that its site doesn't record
 pub wrong_found : (s : Settings) (ns : List Notes) (ms : List Message) (k : ℕ) (n : Notes) → AreJudged s ns ms → WholeBelow ns k
     → slice_get ns k ≡ Some n → ¬ (length n.steps.items ≡ length (entries_noted n))
     → IsFirstWrong s (histories_in ns) k (length n.steps.items + 1)
@@ -126,7 +126,7 @@ pub has_taken : (p : Progress) (ns : List Notes) (i len : ℕ) → IsTaking p �
 has_taken p ns i len v is e less =
     subst (λ n. i < n) (sym (length-map ns entries_noted) ∙ ap length (sym is) ∙ sym v.counts ∙ sym e) less
 
--- the same, where the place is one of the notes
+-- the same if the place is one of the notes
 pub read_here : (p : Progress) (ns : List Notes) (ms : List Message) (i t : ℕ) (n : Notes) → p.histories ≡ histories_in ns
     → IsTaking p → AreJudged p.settings ns ms → AreWhole ns → i < length ns → t ≡ get_or p.taken i t → n ≡ get_or ns i n
     → IsReadAt p ms i t n
@@ -169,7 +169,7 @@ own_comes before _ h = tt
 received : (before : List Message) (e : Event) (m : Message) → e ≡ Receive m → IsAmong m before → IsFrom before e
 received before e m is among = subst (IsFrom before) (sym is) among
 
--- where the step says nothing that is sent, the entry can't come
+-- if the step says nothing that is sent, the entry can't come
 pub held : (before ms : List Message) (e : Event) (sent : List Message) (step : Step) → IsStep ms e sent step
     → IsTakenAs before ms step None
     → ¬ IsFrom before e
@@ -181,7 +181,7 @@ held before ms e sent (Receives at) ((m, is, there), none) (n, here, not) come =
     the h = h
 held before ms e sent (Sends count at) h k come = cc
 
--- where it says what is sent, the entry may come, and sends that
+-- if it says what is sent, the entry may come, and sends that
 pub comes : (before ms : List Message) (e : Event) (sent : List Message) (step : Step) (posted : List Message) → IsStep ms e sent step
     → IsTakenAs before ms step (Some posted) → IsFrom before e × (posted ≡ sent)
 comes before ms e sent Alone posted (own, none) k = (own_comes before e own, (let q : posted ≡ [] = cc in q) ∙ sym none)

@@ -1,4 +1,4 @@
--- What is kept of histories, as entries are read.
+-- Notes of histories, as entries are read.
 use Rattle.std.proofs.Common.{◌≡◌, ℕ, ◌+◌, ◌<◌, ◌≤◌, List, [], ◌∷◌, ◌++◌, length, take, refl, ap, sym, subst, ◌∙◌, inl, inr, arith}
 use Rattle.std.proofs.Common.{Option, Some, None, length-append}
 use Rattle.std.proofs.Common.{zero, suc, get_or, append_assoc, append-nil}
@@ -63,7 +63,7 @@ Judged s i h steps ms =
     (length steps ≤ length h) × IsReplay s i (take (length steps) h)
     × (length steps < length h → ¬ IsReplay s i (take (length steps + 1) h)) × HaveSteps s i h ms steps
 
--- where nothing is added, what is kept stays
+-- if nothing is added, what is kept stays
 pub unchanged : (s : Settings) (i : ℕ) (x later : SeenSite) (old new : Notes) (ms all : List Message) → IsMore ms all → later ≡ x
     → new.entries.items ≡ old.entries.items → new.steps.items ≡ old.steps.items → AreNotes s i x old ms → AreNotes s i later new all
 unchanged s i x later old new ms all m same entries steps a =
@@ -249,7 +249,7 @@ set_same [] i x h = cc
 set_same (y ∷ xs) zero x h = let e : y ≡ x = cc in ap (λ z. z ∷ xs) (sym e)
 set_same (y ∷ xs) (suc i) x h = ap (λ zs. y ∷ zs) (set_same xs i x h)
 
--- the histories go on where the notes at a place do
+-- the histories go on if the notes at a place do
 pub histories_set : (ns : List Notes) (i : ℕ) (m : Notes) (h : List Entry) → entries_noted m ≡ h
     → histories_in (slice_set ns i m) ≡ slice_set (histories_in ns) i h
 histories_set ns i m h e = map-set entries_noted ns i m ∙ ap (slice_set (histories_in ns) i) e
@@ -270,7 +270,7 @@ has_more old s ns i n m xs seen count less f grown = subst P seen (record {
     there : slice_get ns i ≡ Some n
     there = slice_get_read ns s.sites i n (sym count) less f
 
--- a client sees nothing where no entry is added
+-- a client sees nothing if no entry is added
 pub has_same : (old : Audited) (s : Settings) (ns : List Notes) (i : ℕ) (n m : Notes)
     → record { settings = s; histories = histories_in ns } ≡ old → length ns ≡ s.sites → i < s.sites → n ≡ get_or ns i n
     → entries_noted m ≡ entries_noted n → record { settings = s; histories = histories_in (slice_set ns i m) } ≡ old

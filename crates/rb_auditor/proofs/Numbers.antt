@@ -1,4 +1,4 @@
--- Where messages are listed, as the code reads it.
+-- The row and the slot of a message, as the code reads them.
 use Rattle.std.proofs.Common.{◌≡◌, ◌∙◌, ℕ, Option, Some, None, ap, sym}
 use Rattle.std.specs.Prelude.{option_map}
 use Rattle.rb_site.specs.declared.message.Message.{Message}

@@ -1,4 +1,4 @@
--- What an audit finds shows that no world has the histories.
+-- The findings of an audit show that no world has the histories.
 use Rattle.std.proofs.Common.{◌≡◌, ℕ, ◌+◌, ◌<◌, List, [], ◌∷◌, ◌++◌, length, refl, ap, sym, subst, ◌∙◌, inl, inr, arith, Option, Some}
 use Rattle.std.proofs.Common.{None, false}
 use Rattle.std.specs.Prelude.{slice_get, slice_set}

@@ -105,7 +105,7 @@ histories_after s a (h ∷ hs) (k ∷ ks) all =
 
 -- ---- one entry more
 
--- where the history is full, one more is wrong
+-- if the history is full, one more is wrong
 pub full_is_wrong : (x : SeenSite) (y : Entry) → IsReplayed x → is_full x.settings (state_of x) ≡ true →
     ¬ IsReplayed (seen_at x.settings x.me (x.entries ++ y ∷ []))
 full_is_wrong x y old full new =

@@ -28,14 +28,14 @@ use Rattle.rb_auditor.proofs.Runs.{Brings}
 
 -- ---- the start
 
--- before any entry is taken the world is the first one, where there is a history for each site
+-- before any entry is taken the world is the first one, if there is a history for each site
 pub first_is : (s : Settings) (hs : List (List Entry)) → length hs ≡ s.sites → world_of (first_progress s hs) ≡ first_world s
 first_is s hs n = ap (λ ts. as_world ts) (Lists.first_sites s 0 hs ∙ ap (λ k. map first_site (range_with_len 0 k)) n)
   where
     as_world : List ModelSite → World
     as_world ts = record { sites = ts; messages = [] }
 
--- before any entry is taken all is as a world could have it, where each site has a history and each replays
+-- before any entry is taken all is as a world could have it, if each site has a history and each replays
 pub first_taken : (s : Settings) (hs : List (List Entry)) → length hs ≡ s.sites →
     ((i : ℕ) (h : List Entry) → slice_get hs i ≡ Some h → IsReplay s i h) → IsTaking (first_progress s hs)
 first_taken s hs n replays = record {
@@ -184,16 +184,16 @@ certified p g = record {
       (λ i h at. subst (λ j. IsReplay p.settings j h) (let q : i ≡ 0 + i = omega arith in q) (g.replays i h at));
 }
 
--- where all entries were taken, what was taken of the histories is the whole of them
+-- if all entries were taken, what was taken of the histories is the whole of them
 pub whole : (p : Progress) → IsTaking p → IsDone p → fronts_of p.histories p.taken ≡ p.histories
 whole p g done = Lists.whole_fronts p.histories p.taken g.counts (λ i k h there place. take_all k h (let e : k
     ≡ length h = done i k h there place in omega arith))
 
--- where all entries were taken, their order certifies the histories
+-- if all entries were taken, their order certifies the histories
 pub all_certified : (p : Progress) → IsTaking p → IsDone p → Certifies p.settings p.histories p.order
 all_certified p g done = subst (λ hs. Certifies p.settings hs p.order) (whole p g done) (certified p g)
 
--- where an entry is left and every history rests, the audit is stuck at the entries after those taken
+-- if an entry is left and every history rests, the audit is stuck at the entries after those taken
 pub stuck : (p : Progress) → IsTaking p → ((i : ℕ) (h : List Entry) → slice_get p.histories i ≡ Some h → Rests p i) → IsLeft p →
     IsStuckAt p.settings p.histories (map (λ (k : ℕ). k + 1) p.taken)
 stuck p g rests left = record {
@@ -249,7 +249,7 @@ took_further p q i t = record {
       (Lists.split_at t.history t.taken t.entry t.next.next).within);
 }
 
--- what is further than q is further than p, where q is further than p or the same
+-- what is further than q is further than p, if q is further than p or the same
 pub further_more : (b : Bool) (p q r : Progress) → MatchBool b (IsFurther p q) (q ≡ p) → IsFurther q r → IsFurther p r
 further_more true p q r f g = record {
   settings = g.settings ∙ f.settings;
@@ -261,13 +261,13 @@ further_more false p q r e g = subst (λ o. IsFurther o r) e g
 
 -- ---- what is said of the histories
 
--- histories and an order that are those of a progress are certified where its own are
+-- histories and an order that are those of a progress are certified if its own are
 pub certified_as : (p : Progress) (s : Settings) (hs : List (List Entry)) (order : List ℕ) → p.settings ≡ s → p.histories ≡ hs →
     order ≡ p.order → Certifies p.settings p.histories p.order → Certifies s hs order
 certified_as p s hs order e f g c = subst (Certifies s hs) (sym g) (subst (λ gs. Certifies s gs p.order) f
     (subst (λ r. Certifies r p.histories p.order) e c))
 
--- histories that are those of a progress are stuck where an entry of it is left and none can be taken now
+-- histories that are those of a progress are stuck if an entry of it is left and none can be taken now
 pub stuck_as : (p : Progress) (s : Settings) (hs : List (List Entry)) (next : List ℕ) → p.settings ≡ s → p.histories ≡ hs →
     next ≡ map (λ (k : ℕ). k + 1) p.taken → IsTaking p → AllRest p → IsLeft p → IsStuckAt s hs next
 stuck_as p s hs next e f g v rests left = subst (IsStuckAt s hs) (sym g)

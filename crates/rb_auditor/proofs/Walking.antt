@@ -65,12 +65,12 @@ nothing_taken s hs xs ms is n none =
 
 -- ---- a site's next entry
 
--- what holds where there is something
+-- what holds if there is something
 pub if_some : {A : Type 0} (L P : Type 0) (M : A → Type 0) (o : Option A) → MatchOption o L M → ((a : A) → M a → P) → IfSome o (λ a. P)
 if_some L P M None m g = tt
 if_some L P M (Some a) m g = g a m
 
--- where an entry is left, the site's history isn't full
+-- if an entry is left, the site's history isn't full
 pub room_left : (x : SeenSite) (h : List Entry) → IsAlong x h → IsReplay x.settings x.me h → length x.entries < length h
     → is_full x.settings (state_of x) ≡ false
 room_left x h along r less =
@@ -88,14 +88,14 @@ next_along x h y along r at =
     ∙ Recorded.step_on x.settings x.me (take (length x.entries) h) sp.rest y (subst (IsReplay x.settings x.me) sp.whole r)
     ∙ ap (seen_at x.settings x.me) (sym sp.more)
 
--- where none is left, nothing is taken
+-- if none is left, nothing is taken
 pub none_left : (ms : List Message) (h : List Entry) (k : ℕ) → slice_get h k ≡ None → IsHeldUp ms (drop k h)
 none_left ms [] zero at = tt
 none_left ms [] (suc k) at = tt
 none_left ms (x ∷ h) zero at = cc
 none_left ms (x ∷ h) (suc k) at = none_left ms h k at
 
--- nor where it can't come yet
+-- nor if it can't come yet
 pub held_here : (ms : List Message) (h : List Entry) (k : ℕ) (y : Entry) → slice_get h k ≡ Some y → ¬ IsFrom ms y.event
     → IsHeldUp ms (drop k h)
 held_here ms h k y at not = subst (IsHeldUp ms) (sym (Lists.split_at h k y at).dropped) (Resting.unsent ms y.event not)
@@ -171,7 +171,7 @@ rests s hs order xs ms i h x there at held =
 
 -- ---- the end
 
--- where each site is at its end, all is taken
+-- if each site is at its end, all is taken
 pub done : (s : Settings) (hs : List (List Entry)) (order : List ℕ) (xs : List SeenSite) (ms : List Message)
     → IsTaking (progress_of s hs order xs ms) → AreAtEnd hs xs → IsDone (progress_of s hs order xs ms)
 done s hs order xs ms taking end i k h there at =

@@ -1,4 +1,4 @@
--- What is kept of histories that are read entry by entry.
+-- Notes of histories that are read entry by entry.
 use Rattle.std.specs.Prelude.{◌≡◌, ℕ, ◌+◌, ◌<◌, ◌≤◌, List, [], ◌∷◌, ◌++◌, length, map, take, drop, Option, Some, None, slice_get}
 use Rattle.rb_money.specs.Settings.{Settings}
 use Rattle.rb_site.specs.declared.entry.Entry.{Entry}
@@ -38,7 +38,7 @@ abbrev pub IsNoReceipt : Event → Type 0
 IsNoReceipt (Receive m) = ⊥
 IsNoReceipt _ = Unit {0}
 
--- the place among these messages of the one that the event receives, or none where it is no receipt
+-- the place among these messages of the one that the event receives, or none if it is no receipt
 abbrev pub IsPlaced : List Message → Event → Option ℕ → Type 0
 IsPlaced ms e None = IsNoReceipt e
 IsPlaced ms e (Some at) = (m : Message) × (e ≡ Receive m) × (slice_get ms at ≡ Some m)
@@ -100,7 +100,7 @@ HasPlaces ms Alone = Unit {0}
 HasPlaces ms (Receives at) = at < length ms
 HasPlaces ms (Sends count at) = at + count ≤ length ms
 
--- what a step sends, or none where it is the receipt of a message that isn't among those sent
+-- what a step sends, or none if it is the receipt of a message that isn't among those sent
 abbrev pub IsTakenAs : List Message → List Message → Step → Option (List Message) → Type 0
 IsTakenAs sent ms Alone posted = posted ≡ Some []
 IsTakenAs sent ms (Receives at) None = (m : Message) × (slice_get ms at ≡ Some m) × ¬ IsAmong m sent

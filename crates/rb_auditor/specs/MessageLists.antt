@@ -1,4 +1,4 @@
--- What lists of messages are.
+-- Lists of messages.
 use Rattle.std.specs.Prelude.{◌≡◌, false, ℕ, ◌+◌, List, Option, Some, map, option_map, slice_get}
 use Rattle.std.specs.List.{filter_map}
 use Rattle.rb_shadow.specs.declared.shadow.Shadow.{Shadow}
@@ -10,8 +10,8 @@ use Rattle.rb_site.specs.declared.message.Message.TheVariants.{Shadow as ShadowM
 use Rattle.rb_auditor.specs.declared.kept_at.KeptAt.{KeptAt}
 use Rattle.rb_auditor.specs.declared.kept_at.KeptAt.TheVariants.{Compact, Other}
 
--- messages, how many of them are operations that are kept in little memory, of how many sites the entries of the clock of
--- such a one are kept, and for how many messages there is memory
+-- messages, how many of them are operations that are kept in little memory, of how many sites the entries of the clock
+-- of such a one are kept, and for how many messages there is memory
 pub record MessageTable : Type 0 where
   pub items : List Message
   pub compact : ℕ
@@ -23,7 +23,8 @@ pub record SentTable : Type 0 where
   pub all : List Message
   pub items : List Message
 
--- the operation's clock has entries for these sites alone, its own entry counts all before it, and a blue name is its home's
+-- the operation's clock has entries for these sites alone, its own entry counts all before it, and a blue name is its
+-- home's
 pub record HasCompactForm (sites : ℕ) (v : Shadow) : Type 0 where
   pub entries : IsOfSites sites v.deps
   pub home : is_foreign v.name v.home ≡ false

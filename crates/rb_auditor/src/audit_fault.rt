@@ -1,4 +1,4 @@
-//! What an audit finds.
+//! The faults that an audit finds.
 
 use thiserror::Error;
 
@@ -9,7 +9,7 @@ pub enum AuditFault {
     /// before are recorded.
     #[error("site {site} doesn't record entry {event}")]
     WrongReply { site: u8, event: u32 },
-    /// For each site the number of its next entry: one more than its history has where none is left. The
+    /// For each site the number of its next entry: one more than its history has if none is left. The
     /// others wait for messages that no entry before them sent.
     #[error("entries wait for messages that were not sent")]
     Stuck { next: Vec<u32> },

@@ -1,4 +1,6 @@
-//! The search for an order.
+//! The search for an order. Entries are taken in rounds, from each site as many as can be, and none is ever given back:
+//! to take one only adds messages that were sent, so what could be taken before still can. So once no entry can be
+//! taken, no order has those that are left, and nothing has to be tried a second way.
 ghost use Rattle.std.specs.Prelude.{◌≡◌, ◌<◌, IfOk, IfErr, OnOk, MatchBool, length};
 ghost use Rattle.rb_auditor.specs.Certificates.{Certifies};
 ghost use Rattle.rb_auditor.specs.Findings.{IsFound, Refutes, lists_of};
@@ -18,7 +20,7 @@ use std::alloc::{AllocError, Global};
 /// An order in which a world could have recorded these histories, one for each site: what an `Auditor` of their entries
 /// finds.
 ///
-/// Errors: `WrongReply` or `Stuck` where no world has them, `OutOfMemory` where there was no memory to find out.
+/// Errors: `WrongReply` or `Stuck` if no world has them, `OutOfMemory` if there was no memory to find out.
 pub fn audit(
     alloc: Global,
     config: &Config,

@@ -1,4 +1,5 @@
-//! An auditor, which reads histories entry by entry.
+//! An auditor, which reads histories entry by entry. Each entry is replayed by its site as it is read, so that little
+//! of it has to be kept (store.rt).
 ghost use Rattle.std.specs.Prelude.{◌≡◌, ◌<◌, ◌↔◌, ◌∷◌, [], IsTrue, IfOk, IfErr, OnOk, OnErr, length, replicate};
 ghost use Rattle.rb_auditor.specs.Audits.{HasMore};
 ghost use Rattle.rb_auditor.specs.Certificates.{Certifies};
@@ -16,8 +17,8 @@ use rb_site::{Entry, ErasedEntry, Site};
 use std::alloc::{AllocError, Global};
 use std::marker::Model;
 
-/// Histories that are read entry by entry, those of the sites in any order. Each entry is replayed by its site as it is
-/// read. Clients see the configuration and each site's entries. It can't be dropped: it finishes or is closed.
+/// Histories that are read entry by entry, those of the sites in any order. Clients see the configuration and each
+/// site's entries. It can't be dropped: it finishes or is closed.
 pub struct Auditor {
     alloc: Global,
     config: Config,
@@ -75,10 +76,10 @@ impl Auditor {
     }
 
     /// An order in which a world could have recorded the histories. Entries are taken in rounds from site 0, from each
-    /// site as many as possible; where a site doesn't record an entry, or no entry can be taken any more, no world has
-    /// the histories.
+    /// site as many as possible; if a site doesn't record an entry, or no entry can be taken any more, no world has the
+    /// histories.
     ///
-    /// Errors: `WrongReply` or `Stuck` where no world has them, `OutOfMemory` where there was no memory to find out.
+    /// Errors: `WrongReply` or `Stuck` if no world has them, `OutOfMemory` if there was no memory to find out.
     pub fn finish(self) -> Result<Certificate, AuditFault>
         ensures certified { IfOk result (Certifies self.settings self.histories) }
         ensures found { IfErr result (IsFound self.settings self.histories) }

@@ -1,4 +1,4 @@
-//! Certificates.
+//! Certificates. One is only a list of sites until `check` takes it.
 ghost use Rattle.std.specs.Prelude.{◌≡◌};
 
 use std::marker::Model;

@@ -1,6 +1,6 @@
-//! Where a message is kept.
+//! The place at which a message is kept.
 
-/// Where a list keeps a message, by positions from 0.
+/// The place at which a list keeps a message, by positions from 0.
 #[derive(Clone, Copy)]
 pub enum KeptAt {
     /// Among the operations that are kept in little memory.

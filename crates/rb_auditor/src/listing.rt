@@ -1,4 +1,6 @@
-//! Where messages are listed, by their numbers.
+//! Messages, listed by their numbers: the positions of those whose number was the next are in a row, and the others are
+//! apart. So one look in a row finds a message, and only the others, of which a run of a world has none, are looked
+//! through.
 ghost use Rattle.std.specs.Prelude.{◌≡◌, ℕ, List, Some, IsTrue, OnOk, slice_get};
 ghost use Rattle.rb_site.specs.declared.message.Message.{Message as TheMessage};
 ghost use Rattle.rb_site.specs.Histories.{IsAmong};
@@ -46,7 +48,7 @@ pub fn is_at_one(posted: &Posted<'_>, positions: &[usize], place: usize) -> bool
     false
 }
 
-/// Lists the position of a message, of this row and slot: in its row where its number is the next there, and else among
+/// Lists the position of a message, of this row and slot: in its row if its number is the next there, and else among
 /// the others. `Err` means out of memory, and lists nothing more.
 pub fn list(
     rows: &mut Vec<Vec<usize>>,

@@ -1,4 +1,4 @@
-//! Where messages are listed: a row and a position in it.
+//! The numbers by which messages are listed: a row and a position in it.
 ghost use Rattle.std.specs.Prelude.{◌≡◌, ◌+◌, ◌-◌, ◌↔◌, IsTrue};
 ghost use Rattle.rb_shadow.specs.Operations.{number_of, row_of};
 ghost use Rattle.rb_site.specs.declared.message.Message.TheVariants.{Shadow as ShadowMessage};

@@ -1,4 +1,6 @@
-//! A list of messages.
+//! A list of messages, in less memory than one of them whole: of the clock of an operation it keeps the entries of the
+//! bank's sites alone, if all others are 0. Memory is taken for all its parts at once, so that to add a message can't
+//! fail.
 ghost use Rattle.std.specs.Prelude.{◌≡◌, ◌↔◌, ◌<◌, ◌≤◌, ◌+◌, ◌^◌, ◌++◌, ◌∷◌, [], IsTrue, OnOk, Some, length};
 ghost use Rattle.std.specs.Prelude.{option_map, slice_get};
 ghost use Rattle.rb_money.specs.declared.limits.TheConstants.{MOST_OPERATIONS as THE_MOST_OPERATIONS, MOST_SITES};
@@ -17,14 +19,13 @@ use rb_site::Message;
 use std::alloc::{AllocError, Global};
 use std::marker::Model;
 
-/// Messages in their order, in less memory than a list of them: of the clock of an operation it keeps the entries of
-/// the bank's sites alone, where all others are 0. Clients see the messages, and for how many there is memory.
+/// Messages in their order. Clients see the messages, and for how many there is memory.
 #[derive(Drop)]
 pub struct MessageList {
     compact: OperationList,
     // Tokens, and operations with other clocks, which no site of the bank makes.
     others: Vec<Message>,
-    // Where each message is.
+    // The place of each message.
     positions: Vec<KeptAt>,
     limit: usize,
 }
@@ -152,7 +153,7 @@ impl MessageList {
         self.grow(least)
     }
 
-    /// Takes memory for at least this number of messages in all, and for twice as many as before where that isn't more
+    /// Takes memory for at least this number of messages in all, and for twice as many as before if that isn't more
     /// than there may be.
     fn grow(&mut self, least: usize) -> Result<(), AllocError>
         requires { self.old.limit < least }

@@ -1,4 +1,5 @@
-//! What is kept of one site's history.
+//! Notes of one site's history. Of an entry only its step is kept: the search for an order needs no more of it, as its
+//! reply was tested when it was read.
 ghost use Rattle.std.specs.Prelude.{◌≡◌, ◌<◌, ◌↔◌, ◌++◌, ◌∷◌, [], IsTrue, IfOk, OnOk, length, vec_capacity};
 ghost use Rattle.rb_auditor.specs.Kept.{HaveNoEntries, entries_noted, one_step_more};
 

@@ -1,4 +1,5 @@
-//! The messages that were sent, in order.
+//! The messages that were sent, in order. Of each only its place in the list of all is kept, so that to send one copies
+//! no message.
 ghost use Rattle.std.specs.Prelude.{◌≡◌, ◌↔◌, ◌<◌, ◌≤◌, ◌+◌, ◌^◌, ◌++◌, [], IsTrue, OnOk, OnErr, Some};
 ghost use Rattle.std.specs.Prelude.{length, take, drop, option_map};
 ghost use Rattle.std.specs.Prelude.{slice_get};
@@ -13,7 +14,7 @@ use std::marker::Model;
 #[derive(Drop)]
 pub struct Posted<'a> {
     all: &'a MessageList,
-    // Where each is among all.
+    // The place of each among all.
     places: Vec<usize>,
 }
 

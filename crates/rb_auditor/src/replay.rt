@@ -34,8 +34,8 @@ pub fn take_entry(
     Ok(())
 }
 
-/// What the entry does with messages, if the site records it. Those that it sends come to the end of the store. `Err`
-/// means out of memory: the site is then as before.
+/// The step of the entry, if the site records it. The messages that it sends come to the end of the store. `Err` means
+/// out of memory: the site is then as before.
 fn step_of(
     site: &mut Site<ErasedEntry>,
     entry: &Entry,
@@ -75,8 +75,8 @@ fn place_of(event: &Event, store: &mut Store) -> Result<Option<u32>, AllocError>
     }
 }
 
-/// Whether the site records the entry. What it sends goes to the end of the messages. `Err` means out of memory: the
-/// site is then as before.
+/// Whether the site records the entry. The messages that it sends go to the end of the others. `Err` means out of
+/// memory: the site is then as before.
 fn note(
     site: &mut Site<ErasedEntry>,
     entry: &Entry,

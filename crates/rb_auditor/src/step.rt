@@ -1,7 +1,7 @@
-//! What an entry does with messages.
+//! The step of an entry: what it does with messages.
 
-/// What an entry of a history does with messages, each of which is kept in one list for all histories. Places are
-/// counted from 0.
+/// The messages that an entry of a history receives or sends, each of which is kept in one list for all histories.
+/// Places are counted from 0.
 #[derive(Clone, Copy)]
 pub enum Step {
     /// It neither receives nor sends one.

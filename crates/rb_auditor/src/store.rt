@@ -23,10 +23,10 @@ const FIRST_MESSAGES: usize = 16_500;
 #[derive(Drop)]
 pub struct Store {
     pub messages: MessageList,
-    /// What the last entry sent.
+    /// The messages that the last entry sent.
     pub posted: Vec<Message>,
-    // Where messages are listed by their numbers: a row of tokens by epoch, one of red operations by number, and one of
-    // each home's blue operations by number. A row has those whose number was the next there.
+    // Places of messages, listed by their numbers: a row of tokens by epoch, one of red operations by number, and one
+    // of each home's blue operations by number. A row has those whose number was the next there.
     rows: Vec<Vec<u32>>,
 }
 
@@ -64,8 +64,8 @@ impl Store {
         Ok(self.messages.len() as u32)
     }
 
-    /// The place of a message that was received: where it is listed, or at the end, where it is put then. `Err` means
-    /// out of memory.
+    /// The place of a message that was received: the one that is listed, or the end, at which it is put then. `Err`
+    /// means out of memory.
     pub fn place(&mut self, message: &Message) -> Result<u32, AllocError>
         ensures more { IsMore self.old.messages.items self.new.messages.items }
         ensures there { IfOk result (λ at. slice_get self.new.messages.items at ≡ Some message.now) }
@@ -79,7 +79,7 @@ impl Store {
         Ok(at)
     }
 
-    /// Where the message is listed. One that isn't found may still be there.
+    /// The listed place of the message. One that isn't found may still be there.
     fn find(&self, message: &Message) -> Option<u32>
         ensures { IfSome result (λ at. slice_get self.now.messages.items at ≡ Some message.now) }
     {
@@ -111,7 +111,7 @@ fn add_all(messages: &mut MessageList, rows: &mut Vec<Vec<u32>>, posted: &[Messa
     }
 }
 
-/// Lists the place of a message whose number is the next of its row. Where there is no memory for that, it isn't found.
+/// Lists the place of a message whose number is the next of its row. If there is no memory for that, it isn't found.
 fn list(rows: &mut Vec<Vec<u32>>, at: u32, message: &Message) {
     if let Some(places) = rows.get_mut(row(message)) {
         if places.len() == slot(message) {

@@ -1,4 +1,5 @@
-//! Entries of histories, taken one after another.
+//! Entries of histories, taken one after another. Each was replayed as it was read, so its step is enough here: a
+//! receipt can be taken once its message was sent, and any other entry at once.
 ghost use Rattle.std.specs.Prelude.{◌≡◌, ◌+◌, ◌<◌, ◌≤◌, IfOk, IfSome, OnErr, MatchBool, length, map};
 ghost use Rattle.std.specs.Prelude.{option_map, take, drop};
 ghost use Rattle.rb_auditor.specs.Kept.{AreJudged, AreWhole, IsTakenAs, HasPlaces, histories_in};
@@ -22,7 +23,7 @@ pub struct Taking<'a> {
     order: Vec<u8>,
     // How many entries of each history were taken.
     taken: Vec<usize>,
-    // What these sent, among the messages that the steps of the notes speak of.
+    // The messages that these sent, among those that the steps of the notes speak of.
     sent: Sent<'a>,
 }
 
@@ -54,7 +55,7 @@ impl<'a> Model for Taking<'a> {
 }
 
 impl<'a> Taking<'a> {
-    /// What is kept of histories, one for each site, all of whose entries their sites record. No entry is taken yet.
+    /// The notes of histories, one for each site, all of whose entries their sites record. No entry is taken yet.
     pub fn open(
         alloc: Global,
         config: &'a Config,
@@ -147,8 +148,8 @@ impl<'a> Taking<'a> {
     }
 }
 
-/// Where among all messages those begin that an entry sends, by its step, and how many they are, where it isn't the
-/// receipt of a message that wasn't sent.
+/// The place among all messages of the first that an entry sends, by its step, and how many it sends. `None` if it is
+/// the receipt of a message that wasn't sent.
 fn moved(sent: &Sent<'_>, step: Step) -> Option<(usize, usize)>
     requires { HasPlaces sent.now.all step }
     ensures taken { IsTakenAs sent.now.items sent.now.all step

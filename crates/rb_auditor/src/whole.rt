@@ -1,4 +1,4 @@
-//! Histories that are there as a whole.
+//! Histories that are there as a whole. An `Auditor` reads them entry by entry, so that there is one audit of both.
 ghost use Rattle.std.specs.Prelude.{◌≡◌, ◌<◌, IfOk, OnOk, length};
 ghost use Rattle.rb_auditor.specs.Audits.{HasMore};
 ghost use Rattle.rb_auditor.specs.Findings.{lists_of};

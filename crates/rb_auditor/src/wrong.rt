@@ -1,4 +1,5 @@
-//! The first entry that its site doesn't record.
+//! The first entry that its site doesn't record: first by site, so that it doesn't depend on the order in which the
+//! histories were read.
 ghost use Rattle.std.specs.Prelude.{List, IfNone, IfSome};
 ghost use Rattle.rb_site.specs.declared.message.Message.{Message};
 ghost use Rattle.rb_auditor.specs.Findings.{IsFirstWrong};

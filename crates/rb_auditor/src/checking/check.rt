@@ -1,4 +1,5 @@
-//! Whether an order is right.
+//! Whether an order is right. Replies and order are tested anew, without the search's code: each history is replayed by
+//! its site, and then the order is followed by sites of its own, for what they send.
 ghost use Rattle.std.specs.Prelude.{◌≡◌, ◌↔◌, IsTrue, IfOk};
 ghost use Rattle.rb_auditor.specs.Certificates.{Certifies};
 ghost use Rattle.rb_auditor.specs.Findings.{lists_of};

@@ -1,4 +1,5 @@
-//! An order, followed through histories that their sites record.
+//! An order, followed through histories that their sites record. Histories don't say what was sent, so sites take their
+//! entries again in the order, and a receipt has to come after its message.
 ghost use Rattle.std.specs.Prelude.{◌≡◌, ◌↔◌, [], IsTrue, IfOk, IfSome, MatchBool, false, length, map, drop};
 ghost use Rattle.std.specs.Prelude.{option_map, slice_get};
 ghost use Rattle.std.specs.List.{range_with_len};
@@ -61,7 +62,7 @@ fn lead(
 }
 
 /// Takes the site's next entry of its history, if one is left and it isn't the receipt of a message that wasn't sent.
-/// What it sends goes to the end of the messages. `Err` means out of memory.
+/// The messages that it sends go to the end of those before. `Err` means out of memory.
 fn take_next(site: &mut Site, history: &[Entry], sent: &mut SentBefore) -> Result<bool, AllocError>
     requires along { IsAlong site.old history.now }
     requires replays { IsReplay site.old.settings site.old.me history.now }

@@ -1,4 +1,5 @@
-//! Whether a site records a history.
+//! Whether a site records a history. A new site replays its events, and the two histories are compared: so the site
+//! itself gives each reply anew, at the cost of a copy of the events and of a second history.
 ghost use Rattle.std.specs.Prelude.{◌≡◌, ◌↔◌, ◌<◌, IsTrue, IfOk};
 ghost use Rattle.rb_site.specs.Histories.{events_of as the_events_of};
 ghost use Rattle.rb_auditor.specs.Findings.{IsReplay};

@@ -1,4 +1,5 @@
-//! The messages that were sent before.
+//! The messages that were sent before. One is found by its row and number, which no two messages share in a run of a
+//! world. If that finds another one, all are looked through, so that the answer is right for any messages.
 ghost use Rattle.std.specs.Prelude.{◌≡◌, ◌↔◌, [], IsTrue};
 ghost use Rattle.rb_site.specs.Histories.{IsAmong, IsFrom};
 
@@ -10,7 +11,7 @@ use std::collections::HashMap;
 #[derive(Drop)]
 pub struct SentBefore {
     pub messages: Vec<Message>,
-    // Where the last message of each row and number is. In a run of a world no two messages share both.
+    // The place of the last message of each row and number.
     places: HashMap<(usize, u32), usize>,
 }
 
@@ -35,7 +36,7 @@ impl SentBefore {
         }
     }
 
-    /// Notes where the messages are, from an index on. `Err` means out of memory.
+    /// Notes the places of the messages, from an index on. `Err` means out of memory.
     pub fn note_from(&mut self, first: usize) -> Result<(), AllocError>
         ensures { self.new.messages.items ≡ self.old.messages.items }
     {

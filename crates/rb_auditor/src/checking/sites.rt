@@ -1,4 +1,5 @@
-//! The sites that an order leads through their histories.
+//! The sites that an order leads through their histories. A site can't be dropped, so each is closed, even if there is
+//! no memory for the next.
 ghost use Rattle.std.specs.Prelude.{◌≡◌, IfOk, map};
 ghost use Rattle.std.specs.List.{range_with_len};
 ghost use Rattle.rb_site.specs.Seen.{first_seen};

@@ -1,4 +1,4 @@
--- What was looked at and what is left to look at decide.
+-- The entries that were looked at and those that are left to look at decide.
 use Rattle.std.proofs.Common.{◌≡◌, ◌&&◌, drop}
 use Rattle.rb_shadow.specs.Sound.{are_entries}
 use Rattle.rb_auditor.proofs.compact_operations.are_none.Given as goal

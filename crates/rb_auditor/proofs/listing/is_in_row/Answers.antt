@@ -1,4 +1,4 @@
--- What is listed for the number is the only position to look at.
+-- The position that is listed for the number is the only one to look at.
 use Rattle.std.proofs.Common.{◌≡◌, ◌∙◌, ℕ, ap, sym, slice_get, Some, None, length, refl, Global, Vec}
 use Rattle.std.specs.Option.{option_map}
 use Rattle.std.proofs.lemmas.Option.{slice_get-map, slice_get_past, slice_get_read}

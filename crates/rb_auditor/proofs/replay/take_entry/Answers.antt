@@ -1,4 +1,4 @@
--- What is kept is right with the entry.
+-- The notes are right with the entry.
 use Rattle.std.proofs.Common.{◌≡◌, ◌∙◌, ◌<◌, ◌++◌, ◌∷◌, [], map, length, ap, refl, subst, sym, vec_capacity}
 use Rattle.std.proofs.lemmas.Bool.{false≢true}
 use Rattle.rb_auditor.specs.declared.notes.Notes.{Notes}

@@ -1,4 +1,4 @@
--- What the step says.
+-- The messages that a step says are sent.
 use Rattle.std.proofs.Common.{◌∙◌, [], Some, None, drop, refl, subst, sym, take}
 use Rattle.std.proofs.lemmas.Bool.{false≢true}
 use Rattle.rb_auditor.specs.Kept.{HasPlaces, IsTakenAs}

@@ -1,4 +1,4 @@
--- What is kept is right, and the sites are at the end of their histories.
+-- The notes are right, and the sites are at the end of their histories.
 use Rattle.std.proofs.Common.{◌∙◌, ap, sym, subst}
 use Rattle.rb_auditor.specs.Audits.{Audited}
 use Rattle.rb_auditor.specs.Certificates.{Certifies}

@@ -1,4 +1,4 @@
--- What isn't one history for each site, or isn't recorded by its site, isn't certified.
+-- Histories that aren't one for each site, or that their sites don't record, aren't certified.
 use Rattle.std.proofs.Common.{◌≡◌, ◌∙◌, ◌<◌, Some, ap, sym, subst, length, arith, inl, inr}
 use Rattle.std.specs.Prelude.{slice_get}
 use Rattle.std.proofs.lemmas.Bool.{false≢true}

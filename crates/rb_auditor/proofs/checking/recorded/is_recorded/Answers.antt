@@ -1,4 +1,4 @@
--- A history is recorded where the run of its events leaves it.
+-- A history is recorded if the run of its events leaves it.
 use Rattle.std.proofs.Common.{◌≡◌, ◌∙◌, ap, sym}
 use Rattle.rb_site.specs.Seen.{first_seen, next_sites}
 use Rattle.rb_auditor.proofs.Recorded

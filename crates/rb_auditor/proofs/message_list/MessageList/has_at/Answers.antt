@@ -11,8 +11,9 @@ use Rattle.rb_auditor.proofs.message_list.MessageList.has_at.Goals as goal
 
 pub returns-in_default : goal.returns-in_default
 returns-in_default c =
-    let at = Positions.past_positions c.self.inside.compact.items c.self.inside.others.items c.self.inside.positions.items c.deref.result.now
-    c.args.self.now _ _ _ c.args.index c.self.view_is c.self.invariant.each c.deref.ensures.value c.in_default.ensures.lookup.3 in (
+    let at = Positions.past_positions c.self.inside.compact.items c.self.inside.others.items c.self.inside.positions.items
+    c.deref.result.now c.args.self.now _ _ _ c.args.index c.self.view_is c.self.invariant.each c.deref.ensures.value
+    c.in_default.ensures.lookup.3 in (
       λ yes. absurd (false≢true yes),
       λ there. cc,
     )

@@ -1,4 +1,4 @@
--- What is at a position is at its place among all.
+-- The message at a position is at its place among all.
 use Rattle.std.proofs.Common.{◌∙◌, ap, slice_get, sym}
 use Rattle.std.proofs.lemmas.Bool.{eq-eqb, false≢true}
 use Rattle.rb_auditor.specs.MessageLists.{SentTable}

@@ -1,4 +1,4 @@
--- Where nothing is listed, or another message, none is found.
+-- If nothing is listed, or another message, none is found.
 use Rattle.rb_auditor.proofs.Results.{none_found}
 use Rattle.rb_auditor.proofs.store.Store.find.Goals as goal
 

@@ -1,4 +1,4 @@
--- Where the message is.
+-- The place of the message.
 use Rattle.std.proofs.Common.{◌∙◌, ◌++◌, ◌∷◌, [], ap, arith, length, refl, slice_get}
 use Rattle.rb_auditor.proofs.Kept.{no_more}
 use Rattle.rb_auditor.proofs.Lists

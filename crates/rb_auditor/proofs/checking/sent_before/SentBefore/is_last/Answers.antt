@@ -1,4 +1,4 @@
--- What is at a place is one of the messages.
+-- A message at a place is one of the messages.
 use Rattle.std.proofs.Common.{◌∙◌, ap, length, refl, subst, Some}
 use Rattle.std.proofs.lemmas.Option.{slice_get_read}
 use Rattle.rb_site.specs.Histories.{IsAmong}
