@@ -131,7 +131,7 @@ follows_read answers input begin lines output first p q rest rest' e e' f r was 
 
 -- ---- a run from where turns ended
 
--- what is still to be read, or nothing where that isn't known
+-- what is still to be read, or nothing if that isn't known
 abbrev pub rest_of : Option (List ℕ) → List ℕ
 rest_of None = []
 rest_of (Some r) = r

@@ -1,4 +1,6 @@
-//! The bytes between a reader and a writer: no read while a whole line waits or a reply is buffered.
+//! The bytes between a reader and a writer: no read while a whole line waits or a reply is buffered, so that no answer
+//! waits for more input. Until then replies are buffered, so that those to the lines of one read take one write if they
+//! fit.
 ghost use Rattle.std.specs.Prelude.{◌≡◌, ◌≢◌, ◌↔◌, ◌+◌, ◌<◌, ◌≤◌, ◌⊎◌, [], true, false, Err, length, drop, MatchResult};
 ghost use Rattle.std.specs.Prelude.{IfOk, OnOk};
 ghost use Rattle.std.specs.Io.KnownBytes.{IsAtEnd};

@@ -1,6 +1,6 @@
 //! Bytes that were read and not yet answered. They are one slice, so a line is answered where it was read, without a
 //! copy. The queue knows how far it was searched for a line feed, so a line that comes in many reads isn't searched
-//! from its start at each of them. Space for a read comes from moving what waits to the front, each byte once at most.
+//! from its start at each of them. Before a read, what waits is moved to the front, each byte once at most.
 ghost use Rattle.std.specs.Prelude.{◌≡◌, ◌+◌, ◌-◌, ◌^◌, ◌≤◌, ◌||◌, [], Ok, length, take, drop, min, is_err};
 ghost use Rattle.std.specs.Prelude.{MatchResult, IfOk, OnOk, OnErr};
 ghost use Rattle.std.specs.Io.KnownBytes.{IsAtEnd, Keeps};

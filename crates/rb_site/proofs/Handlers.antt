@@ -267,7 +267,7 @@ applies s me ops held more less token x v a found eligible sound refusal grown t
     answers_as _ _ _ _ a (comes_to_check s (site_as me ops held token) x v None found eligible sound refusal)
     (ap (λ us. state_as s me us less token) grown ∙ ap (λ vs. state_as s me (ops ++ v ∷ []) vs token) taken, is, refl)
 
--- the same where the check refuses it, but not as not ready: it is let go with that refusal
+-- the same if the check refuses it, but not as not ready: it is let go with that refusal
 pub drops : (s : Settings) (me : ℕ) (ops held less : List Shadow) (token : Token) (x : OpName) (v : Shadow) (why : Refusal)
     (a : NotedReply) →
     find_in held x ≡ Some v → is_eligible ops v ≡ true → IsSound s v → refusal_of s ops v ≡ Some why → (why ≡ NotReady → ⊥)
@@ -277,7 +277,7 @@ drops s me ops held less token x v why a found eligible sound refusal other take
     answers_as _ _ _ _ a (comes_to_check s (site_as me ops held token) x v (Some why) found eligible sound refusal ∙ dropped v why other)
     (ap (λ vs. state_as s me ops vs token) taken, is, refl)
 
--- the same where the check refuses it as not ready: it stays held, and nothing changes
+-- the same if the check refuses it as not ready: it stays held, and nothing changes
 pub waits : (s : Settings) (me : ℕ) (ops held : List Shadow) (token : Token) (x : OpName) (v : Shadow) (a : NotedReply) →
     find_in held x ≡ Some v → is_eligible ops v ≡ true → IsSound s v → refusal_of s ops v ≡ Some NotReady → Says true a (Refused NotReady)
     → AnswersAlone (state_as s me ops held token) (state_as s me ops held token) (outcome_of s (site_as me ops held token) (Apply x)) a

@@ -63,7 +63,7 @@ two first second f g x y = (
 pub apart : {A : Type 0} (x y : A) → (x ≡ y → ⊥) → Decides false (x ≡ y)
 apart x y other = (λ e. absurd (false≢true e), λ e. absurd (other e))
 
--- two values of one variant are equal just where what they hold is
+-- two values of one variant are equal exactly if what they hold is
 pub same_variant : {A K : Type 0} (V : A → K) → ((a b : A) → V a ≡ V b → a ≡ b) → (x y : K) (a b : A) (r : Bool) → x ≡ V a → y ≡ V b →
     Decides r (a ≡ b) → Decides r (x ≡ y)
 same_variant V alone x y a b r first second test = (

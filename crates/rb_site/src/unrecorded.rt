@@ -1,4 +1,5 @@
-//! Events that are recorded only if they change the site.
+//! Events that are recorded only if they change the site. The others can be left out of a history by a law,
+//! `unchanging_events_left_out`.
 ghost use Rattle.std.specs.Prelude.{◌≡◌, ◌++◌, ◌&&◌, false, not, IfOk, OnErr, OnOk};
 ghost use Rattle.rb_site.specs.Events.{is_full, reply_to, sent_at};
 ghost use Rattle.rb_site.specs.Seen.{next_site, state_of};
