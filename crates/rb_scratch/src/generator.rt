@@ -1,4 +1,7 @@
-//! The generator: what a request makes at a site.
+//! The generator: the operation that a request makes at a site.
+//!
+//! It decides on an effect, and then makes the effect's operation. A batch stops between the two if the effect is
+//! declined, before a number is looked at.
 ghost use Rattle.std.specs.Prelude.{◌≡◌, ◌+◌, ◌<◌, ◌≤◌, ◌∷◌, ◌++◌, [], if◌then◌else◌, Some, None, Ok, Err, MatchResult};
 ghost use Rattle.std.specs.Prelude.{IfOk};
 ghost use Rattle.rb_money.specs.declared.limits.TheConstants.{MOST_SITES};

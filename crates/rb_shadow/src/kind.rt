@@ -1,4 +1,6 @@
 //! Kinds of operations.
+//!
+//! Each table has a line for each kind, so a new kind without its line is refused.
 ghost use Rattle.std.specs.Prelude.{◌≡◌, ◌≤◌, ◌⊎◌, pos, ◌+ℤ◌};
 ghost use Rattle.rb_shadow.specs.Operations.{target_of, receiver_of, colour_of, moved, may_be_cancelled};
 ghost use Rattle.rb_shadow.specs.Labels.{label_of};
