@@ -1,5 +1,6 @@
--- What closing books answers.
-use Rattle.std.proofs.Common.{◌≡◌, ◌≤◌, ◌<◌, ℕ, ◌+◌, List, [], ◌∷◌, length, Bool, true, false, None, Some, Ok, Err, IfOk, Result, Vec, get_or, ap, sym, subst, refl, ◌∙◌, map, arith, inr}
+-- Answers of closing the books.
+use Rattle.std.proofs.Common.{◌≡◌, ◌≤◌, ◌<◌, ℕ, ◌+◌, List, [], ◌∷◌, length, Bool, true, false, None, Some, Ok, Err, IfOk, Result, Vec}
+use Rattle.std.proofs.Common.{get_or, ap, sym, subst, refl, ◌∙◌, map, arith, inr}
 use Rattle.std.specs.Prelude.{slice_get}
 use Rattle.std.specs.List.{range_with_len}
 use Rattle.std.specs.declared.alloc.Global.{Global}
@@ -22,8 +23,8 @@ use Rattle.rb_site.proofs.Public.Lists.{map_at, map_back}
 use Rattle.rb_auditor.specs.Certificates.{Certifies}
 use Rattle.rb_auditor.specs.Replays.{ended_sites}
 use Rattle.rb_runs.specs.BookLaws.{ClosedBalancesAgree, OpenListsAreLacking}
-use Rattle.rb_runs.specs.Books.{MayBeClosed, IsFirstAbove, NextBank, StartsNext, ReportsBalances, ReportsClosing, ReportsOpen, applied_by, applied_from, applied_in, input_at}
-use Rattle.rb_runs.specs.Books.{lacked, next_accounts, sites_of_next, next_with}
+use Rattle.rb_runs.specs.Books.{MayBeClosed, IsFirstAbove, NextBank, StartsNext, ReportsBalances, ReportsClosing, ReportsOpen, applied_by}
+use Rattle.rb_runs.specs.Books.{applied_from, applied_in, input_at, lacked, next_accounts, sites_of_next, next_with}
 use Rattle.rb_runs.specs.Texts.{config_line}
 use Rattle.rb_runs.specs.Inputs.{Input}
 
@@ -219,6 +220,7 @@ pub on_found : (ask : NextBank) (x : Input) (t : Settings) (vs us : List Shadow)
     → IfOk r (λ found. ReportsBalances ask found.0 t vs found.1.items)
     → IfOk r (λ found. ReportsClosing ask found.0 x found.1.items)
 on_found ask x t vs us (Ok found) law c one closed at e f r =
-    balances_reported law x ask found.0 us found.1.items c one closed at (subst (λ ws. ReportsBalances ask found.0 x.settings ws found.1.items) f
+    balances_reported law x ask found.0 us found.1.items c one closed at
+    (subst (λ ws. ReportsBalances ask found.0 x.settings ws found.1.items) f
     (subst (λ u. ReportsBalances ask found.0 u vs found.1.items) e r))
 on_found ask x t vs us (Err refused) law c one closed at e f r = tt

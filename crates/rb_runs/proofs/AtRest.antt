@@ -45,7 +45,8 @@ sites_agree clocks agreement s hs c one closed i j us vs at there =
     let h : IsSiteWith (world_of_run s one.events) i us = site_with s hs one i us at in
     let k : IsSiteWith (world_of_run s one.events) j vs = site_with s hs one j vs there in
     let same : AreSame (names us) (names vs) = same_names clocks s hs c one closed i j us vs at there in
-    let same' : AreSame (names h.site.ops) (names k.site.ops) = λ x. ap (λ ws. names ws x) h.ops ∙ same x ∙ ap (λ ws. names ws x) (sym k.ops) in
+    let same' : AreSame (names h.site.ops) (names k.site.ops) =
+    λ x. ap (λ ws. names ws x) h.ops ∙ same x ∙ ap (λ ws. names ws x) (sym k.ops) in
     subst (λ ws. Agree s ws vs) h.ops
     (subst (Agree s h.site.ops) k.ops (of_world Agreement agreement s hs c one i h.site h.at j k.site k.at same'))
 
@@ -63,7 +64,8 @@ every : Always Clocks → Always RedBlue → (s : Settings) (hs : List (List Ent
     Among v (made_in (world_of_run s one.events)) → Among v us
 every clocks law s hs c one closed i us at v made =
     let (j, t, there, k) = (run_of s one.events).made v made in
-    let same : names us v.name ≡ names t.ops v.name = same_names clocks s hs c one closed i j us t.ops at (list_of s hs one j t there) v.name in
+    let same : names us v.name ≡ names t.ops v.name =
+    same_names clocks s hs c one closed i j us t.ops at (list_of s hs one j t there) v.name in
     let (u, among, named) = Members.find_named us v.name (same ∙ Members.named t.ops v k) in
     let is : u ≡ v = Members.same_named (made_in (world_of_run s one.events)) u v (of_world RedBlue law s hs c one).lawful.unique
     (was_made law s hs c one i us at u among) made named in

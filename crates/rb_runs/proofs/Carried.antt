@@ -41,7 +41,8 @@ nothing_arrives n own a (Some to) amount h k =
 -- a sound operation moves nothing there
 moves_nothing : (s : Settings) (u : Shadow) (a : Place) → SoundFacts s u → length s.starts ≤ a.0 → delta u a ≡ pos 0
 moves_nothing s u a f h =
-    ap (λ b. cond b (moved u.kind u.amount) (arrived (receiver_of u.kind) u.amount a)) (elsewhere (length s.starts) a.0 u.account.0 f.account h)
+    ap (λ b. cond b (moved u.kind u.amount) (arrived (receiver_of u.kind) u.amount a))
+        (elsewhere (length s.starts) a.0 u.account.0 f.account h)
     ∙ nothing_arrives (length s.starts) u.account a (receiver_of u.kind) u.amount f.receiver h
 
 -- so nothing is there
@@ -69,7 +70,8 @@ zeros (suc m) zero = refl
 zeros (suc m) (suc i) = zeros m i
 
 -- what is at a place of the numbers of some places, with zeros behind them
-there : (f : ℕ → ℕ) (a n m i : ℕ) → ((k : ℕ) → n ≤ k → f (a + k) ≡ 0) → slice_index (map f (range_with_len a n) ++ replicate m 0) i ≡ f (a + i)
+there : (f : ℕ → ℕ) (a n m i : ℕ) → ((k : ℕ) → n ≤ k → f (a + k) ≡ 0) →
+    slice_index (map f (range_with_len a n) ++ replicate m 0) i ≡ f (a + i)
 there f a zero m i h = zeros m i ∙ sym (h i (omega arith))
 there f a (suc n) m zero h = ap f (let q : a ≡ a + 0 = omega arith in q)
 there f a (suc n) m (suc i) h =

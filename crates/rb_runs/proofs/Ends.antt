@@ -1,4 +1,4 @@
--- What one line does.
+-- The effect of one line.
 use Rattle.std.proofs.Common.{◌≡◌, ◌+◌, ◌-◌, ℕ, false, List, Some, None, refl, sym, ap, subst, arith}
 use Rattle.rb_money.specs.Settings.{Settings}
 use Rattle.rb_history.specs.Configurations.{config_on}
@@ -27,7 +27,8 @@ opens s s' l k none short some is e =
     })
 
 -- the line of an entry is answered by its line in version 2
-pub answers : (s s' : Session) (l : List ℕ) (k : Settings) (x : ℕ × AskedEntry) → s.versions ≡ Some k → is_long l ≡ false → is_blank l ≡ false
+pub answers : (s s' : Session) (l : List ℕ) (k : Settings) (x : ℕ × AskedEntry) → s.versions ≡ Some k
+    → is_long l ≡ false → is_blank l ≡ false
     → asked_entry_on k l ≡ Some x
     → s' ≡ record { versions = s.versions; number = s.number + 1; count = s.count + 1 }
     → AnswersLine (migration_state s) (migration_state s') l (migrated_entry_line k x)

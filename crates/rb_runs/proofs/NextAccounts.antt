@@ -1,5 +1,6 @@
 -- The accounts of the next bank, one after another, and its settings.
-use Rattle.std.proofs.Common.{◌≡◌, ◌<◌, ◌≤◌, ℕ, ◌+◌, List, [], ◌∷◌, ◌++◌, length, get_or, drop, map, refl, ap, sym, ◌∙◌, arith, add-one, append_assoc, drop-cons, eq-eqb, ne_eqb, slice_get, Some, suc}
+use Rattle.std.proofs.Common.{◌≡◌, ◌<◌, ◌≤◌, ℕ, ◌+◌, List, [], ◌∷◌, ◌++◌, length, get_or, drop, map, refl, ap, sym, ◌∙◌, arith, add-one}
+use Rattle.std.proofs.Common.{append_assoc, drop-cons, eq-eqb, ne_eqb, slice_get, Some, suc}
 use Rattle.std.specs.Prelude.{Bool, true, false, not, ◌&&◌, nat_le, nat_lt, IfSome, Option, None, zero, replicate, zip, if◌then◌else◌}
 use Rattle.std.proofs.lemmas.List.{get_or-map, length-map, length-replicate}
 use Rattle.std.proofs.lemmas.Option.{get_or_from_slice_get}
@@ -198,7 +199,8 @@ may_be_next s ask c fit h =
     let many : length zeros ≡ length s.names = length-replicate (length s.names) 0 in
     let m = sites_of_next s ask.sites in
     without_sites (not (nat_le 2 s.sites && nat_le s.sites MOST_SITES)) (not (nat_le 2 m && nat_le m MOST_SITES)) _
-    (account_fault [] 0 (next_accounts s s.starts ask)) (if are_limits s.limits then None else Some Limit) (next_sites_fit s ask.sites c fit)
+    (account_fault [] 0 (next_accounts s s.starts ask)) (if are_limits s.limits then None else Some Limit)
+    (next_sites_fit s ask.sites c fit)
     (of_parts_fault (not (nat_le 2 s.sites && nat_le s.sites MOST_SITES)) _ _
     (account_fault [] 0 (zip s.names zeros ++ added_from ask.added)) (account_fault [] 0 (next_accounts s s.starts ask))
     (if are_limits s.limits then None else Some Limit)

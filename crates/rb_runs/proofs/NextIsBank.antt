@@ -86,11 +86,13 @@ next_configured : (s : Settings) (balances : List ℕ) (ask : NextBank) → leng
 next_configured s balances ask same none =
     let sites : ℕ = sites_of_next s ask.sites in
     let accounts : List Account = next_accounts s balances ask in
-    let c : IsConfigured (parts sites (map (λ (a : Account). a.0) accounts) (map (λ (a : Account). a.1) accounts) s.limits (version_of sites)) =
+    let c : IsConfigured (parts sites (map (λ (a : Account). a.0) accounts)
+        (map (λ (a : Account). a.1) accounts) s.limits (version_of sites)) =
     parts_configured sites accounts s.limits none in
     in_version sites (s.names ++ ask.added) (balances ++ replicate (length ask.added) 0) s.limits (version_of sites)
     (next_version s sites)
-    (subst (λ bs. IsConfigured (parts sites (s.names ++ ask.added) bs s.limits (version_of sites))) (starts_are s.names balances ask.added same)
+    (subst (λ bs. IsConfigured (parts sites (s.names ++ ask.added) bs s.limits (version_of sites)))
+    (starts_are s.names balances ask.added same)
     (subst (λ ns. IsConfigured (parts sites ns (map (λ (a : Account). a.1) accounts) s.limits (version_of sites)))
     (names_are s.names balances ask.added same) c))
     (next_may s.version sites c.version)

@@ -81,7 +81,8 @@ grows_event s t e v h = by (is_full s t)
     by true = h
     by false = grows t (outcome_of s t e) v h
 
-sent_event : (s : Settings) (t : ModelSite) (e : Event) (v : Shadow) → Among v (shadows_in (sent_at s t e)) → Among v (after_event s t e).ops
+sent_event : (s : Settings) (t : ModelSite) (e : Event) (v : Shadow) → Among v (shadows_in (sent_at s t e)) →
+    Among v (after_event s t e).ops
 sent_event s t e v h = by (is_full s t) h
   where
     by : (b : Bool) → Among v (shadows_in (cond b [] (sent_by (outcome_of s t e)))) → Among v (cond b t (noted s t e)).ops
@@ -107,7 +108,8 @@ still : (s : Settings) (w : World) (i : ℕ) (e : Event) (t : ModelSite) → sli
 still s w i e t at v (j, u, there, h) = elim (same_number i j) [
   | inl same ↦
       (let is : u ≡ t = some_same u t (sym there ∙ ap (slice_get w.sites) same ∙ at) in
-      (i, after_event s t e, get_set_same w.sites i t (after_event s t e) at, grows_event s t e v (subst (λ (x : ModelSite). Among v x.ops) is h)))
+      (i, after_event s t e, get_set_same w.sites i t (after_event s t e) at,
+          grows_event s t e v (subst (λ (x : ModelSite). Among v x.ops) is h)))
   | inr other ↦ (j, u, get_set_other w.sites i j (after_event s t e) other ∙ there, h)
 ]
 

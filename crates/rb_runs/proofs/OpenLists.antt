@@ -1,6 +1,6 @@
 -- The lists of an `open` line are what the sites lack.
-use Rattle.std.proofs.Common.{◌≡◌, ◌<◌, ◌≤◌, ℕ, zero, suc, ◌+◌, Bool, true, false, cond, List, [], ◌∷◌, ◌++◌, length, Some, refl, sym, ap, ◌∙◌}
-use Rattle.std.proofs.Common.{subst, arith, inl, inr, map, ◌⊎◌}
+use Rattle.std.proofs.Common.{◌≡◌, ◌<◌, ◌≤◌, ℕ, zero, suc, ◌+◌, Bool, true, false, cond, List, [], ◌∷◌, ◌++◌, length, Some, refl, sym, ap}
+use Rattle.std.proofs.Common.{◌∙◌, subst, arith, inl, inr, map, ◌⊎◌}
 use Rattle.std.specs.Prelude.{◌&&◌, ◌||◌, not, nat_le, filter, slice_get}
 use Rattle.std.specs.List.{list_any, range_with_len}
 use Rattle.std.proofs.lemmas.Bool.{and_from, and_parts}
@@ -128,10 +128,12 @@ has_up_to s uss us vs j (Blue i n) valid valid' there has none =
     let within : (1 ≤ n) × (n ≤ blue_count vs i) = in_range-true n (blue_count vs i) (sym (valid_counted s vs valid' (Blue i n)) ∙ has) in
     let above : blue_count us i < n = in_range-false n (blue_count us i) (sym (valid_counted s us valid (Blue i n)) ∙ none) within.0 in
     let x : OpName = Blue i (blue_count us i + 1) in
-    let has' : names vs x ≡ true = valid_counted s vs valid' x ∙ in_range (blue_count us i + 1) (blue_count vs i) (omega arith) (omega arith) in
+    let has' : names vs x ≡ true =
+    valid_counted s vs valid' x ∙ in_range (blue_count us i + 1) (blue_count vs i) (omega arith) (omega arith) in
     let none' : names us x ≡ false = valid_counted s us valid x ∙ past_count (blue_count us i) in
     let here : i < s.sites = near (Members.bool_cases (nat_le s.sites i)) within in
-    let (k, at) = left (lacks uss us) (next_names s.sites us) i x (next_blue s.sites us i here) (is_lacking uss us vs j x there has' none') in
+    let (k, at) = left (lacks uss us) (next_names s.sites us) i x (next_blue s.sites us i here)
+    (is_lacking uss us vs j x there has' none') in
     (k, x, at, refl, (omega arith))
   where
     near : (nat_le s.sites i ≡ true) ⊎ (nat_le s.sites i ≡ false) → (1 ≤ n) × (n ≤ blue_count vs i) → i < s.sites
@@ -195,7 +197,8 @@ first_listed law s hs c one i us at y made none =
 nothing_open : Always Clocks → (s : Settings) (hs : List (List Entry)) → IsConfigured s → (one : AreOneWorlds s hs) →
     MayBeClosed (applied_from s 0 hs) → (i : ℕ) (us : List Shadow) → slice_get (applied_from s 0 hs) i ≡ Some us →
     lacked s.sites (applied_from s 0 hs) us ≡ []
-nothing_open law s hs c one closed i us at = none_left (lacks uss us) (next_names s.sites us) (λ x. by x (Members.bool_cases (lacks uss us x)))
+nothing_open law s hs c one closed i us at =
+    none_left (lacks uss us) (next_names s.sites us) (λ x. by x (Members.bool_cases (lacks uss us x)))
   where
     uss : List (List Shadow)
     uss = applied_from s 0 hs
@@ -248,7 +251,8 @@ deps_same a b m n h k = cc
 -- equal counts make equal clocks
 same_clock : (us vs : List Shadow) → ((k : ℕ) → blue_count us k ≡ blue_count vs k) → red_count us ≡ red_count vs → clock_of us ≡ clock_of vs
 unfolding clock_of
-same_clock us vs blue red = deps_same (map (blue_count us) (range_with_len 0 MOST_SITES)) (map (blue_count vs) (range_with_len 0 MOST_SITES))
+same_clock us vs blue red = deps_same (map (blue_count us) (range_with_len 0 MOST_SITES))
+    (map (blue_count vs) (range_with_len 0 MOST_SITES))
     (red_count us) (red_count vs) (map_same (blue_count us) (blue_count vs) (range_with_len 0 MOST_SITES) blue) red
 
 -- if no site lacks anything the books may be closed
@@ -260,7 +264,8 @@ nothing_lacked law s hs c one none i j us vs at there =
     let valid : IsValid s us = valid_list law s hs c one i us at in
     let valid' : IsValid s vs = valid_list law s hs c one j vs there in
     same_clock us vs
-    (λ k. both _ _ (blue_most s uss vs us i k valid' valid at (none j vs there)) (blue_most s uss us vs j k valid valid' there (none i us at)))
+    (λ k. both _ _ (blue_most s uss vs us i k valid' valid at (none j vs there))
+        (blue_most s uss us vs j k valid valid' there (none i us at)))
     (both _ _ (red_most s uss vs us i valid' valid at (none j vs there)) (red_most s uss us vs j valid valid' there (none i us at)))
 
 -- each list is empty, or one isn't

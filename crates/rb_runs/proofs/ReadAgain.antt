@@ -1,4 +1,4 @@
--- What a migration writes is taken by an audit as what it read, in version 2.
+-- The text that a migration writes is taken by an audit as what it read, in version 2.
 use Rattle.std.proofs.Common.{◌≡◌, ◌+◌, ℕ, Bool, true, false, List, [], ◌∷◌, ◌++◌, Option, Some, None, Ok, refl, sym, ap, map, subst, ◌∙◌}
 use Rattle.std.specs.Prelude.{if◌then◌else◌, option_map}
 use Rattle.std.specs.Str.{is_utf8}

@@ -1,4 +1,4 @@
--- What is written for an input is read as it.
+-- The text written for an input is read as it.
 use Rattle.std.proofs.Common.{◌≡◌, ◌+◌, ◌==◌, ℕ, Bool, true, false, List, [], ◌∷◌, ◌++◌, Some, Ok, codes, refl, sym, ap, ◌∙◌, append_assoc}
 use Rattle.std.proofs.Common.{inl, inr, map}
 use Rattle.std.specs.Prelude.{not, option_map, replicate}

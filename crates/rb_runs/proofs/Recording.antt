@@ -67,7 +67,8 @@ recorded (Some input) b r new w u first there h made =
 -- the run took all lines, and there was no configuration
 pub unopened : (a b : Option (List ℕ)) (r new : Recorder) (u : Unit {0}) → r ≡ first_recorder → new.world ≡ None
     → IfSome a (λ input. EndsSilently (recorder_state r).rest (Ok u) input b)
-    → IfSome a (λ input. recorder_rest r (lines_of input) ≡ recorder_rest new []) → IfSome a (λ input. HistoriesEndAs (Err NoConfig) input b [])
+    → IfSome a (λ input. recorder_rest r (lines_of input) ≡ recorder_rest new [])
+    → IfSome a (λ input. HistoriesEndAs (Err NoConfig) input b [])
 unopened None b r new u first none h made = tt
 unopened (Some input) b r new u first none h made =
     (ap (λ (q : Recorder). recorder_rest q (lines_of input)) (sym first) ∙ made ∙ ap (λ o. recorder_rest_from o new.number []) none, refl)

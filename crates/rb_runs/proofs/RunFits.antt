@@ -45,7 +45,8 @@ pub record IsFittingWorld (s : Settings) (w : World) : Type 0 where
 
 -- ---- one event at a site
 
-noted_fits : (s : Settings) (t : ModelSite) (e : Event) → IsEvent s e → Each (IsEvent s) t.history → Each (IsEvent s) (after_event s t e).history
+noted_fits : (s : Settings) (t : ModelSite) (e : Event) → IsEvent s e → Each (IsEvent s) t.history
+    → Each (IsEvent s) (after_event s t e).history
 noted_fits s t e fits old = by (is_full s t)
   where
     by : (b : Bool) → Each (IsEvent s) (cond b t (noted s t e)).history

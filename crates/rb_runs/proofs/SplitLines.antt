@@ -1,6 +1,6 @@
 -- The first of some lines, and those behind it.
-use Rattle.std.proofs.Common.{◌≡◌, ◌<◌, ◌≤◌, ◌+◌, ◌==◌, ◌⊎◌, ℕ, Bool, true, false, cond, List, [], ◌∷◌, length, take, drop, inl, inr, refl, sym}
-use Rattle.std.proofs.Common.{ap, ◌∙◌, append-nil, arith, position, Some, None}
+use Rattle.std.proofs.Common.{◌≡◌, ◌<◌, ◌≤◌, ◌+◌, ◌==◌, ◌⊎◌, ℕ, Bool, true, false, cond, List, [], ◌∷◌, length, take, drop, inl, inr}
+use Rattle.std.proofs.Common.{refl, sym, ap, ◌∙◌, append-nil, arith, position, Some, None}
 use Rattle.std.specs.Prelude.{nat_lt, not}
 use Rattle.std.proofs.lemmas.Bool.{ltb-true, ltb-false}
 use Rattle.std.proofs.lemmas.List.Sums.{prefix_len-le-length}

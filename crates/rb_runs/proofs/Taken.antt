@@ -1,4 +1,4 @@
--- What one line does.
+-- The effect of one line.
 use Rattle.std.proofs.Common.{◌≡◌, ◌+◌, ℕ, false, List, [], ◌∷◌, Some, Result, Ok, Err, refl, sym, ap, ◌∙◌, subst}
 use Rattle.std.proofs.Common.{◌⊎◌, inl, inr, None}
 use Rattle.std.specs.Prelude.{MatchResult}

@@ -1,7 +1,8 @@
 -- Journals that are taken one after another, and what closing the books says where it stops.
 use Rattle.std.proofs.Common.{◌≡◌, ◌∙◌, ◌⊎◌, ◌<◌, ◌≤◌, ℕ, ◌+◌, List, [], ◌∷◌, ◌++◌, length, refl, ap, sym, subst, arith, inl, inr}
 use Rattle.std.specs.Option.{option_map_or}
-use Rattle.std.specs.Prelude.{Bool, true, false, if◌then◌else◌, ◌==◌, IfSome, MatchOption, None, Option, Some, Result, Ok, Err, option_map, suc}
+use Rattle.std.specs.Prelude.{Bool, true, false, if◌then◌else◌, ◌==◌, IfSome, MatchOption, None, Option, Some, Result, Ok, Err}
+use Rattle.std.specs.Prelude.{option_map, suc}
 use Rattle.std.proofs.lemmas.List.{length-append}
 use Rattle.rb_auditor.specs.Audits.{Audited}
 use Rattle.rb_runs.specs.AddedAccounts.{IsAddedFault, added_fault}
@@ -9,8 +10,8 @@ use Rattle.rb_runs.specs.Books.{NextBank}
 use Rattle.rb_money.specs.Settings.{Settings}
 use Rattle.rb_site.specs.declared.entry.Entry.{Entry}
 use Rattle.rb_runs.specs.Inputs.{with_entry}
-use Rattle.rb_runs.specs.JournalFiles.{EndsAtFile, TakesFile, counted, entry_of_site, is_head, is_sealed, journal_lines, next, with_files, with_journal}
-use Rattle.rb_runs.specs.JournalFiles.{with_journal_lines, with_lines, with_next}
+use Rattle.rb_runs.specs.JournalFiles.{EndsAtFile, TakesFile, counted, entry_of_site, is_head, is_sealed, journal_lines, next, with_files}
+use Rattle.rb_runs.specs.JournalFiles.{with_journal, with_journal_lines, with_lines, with_next}
 use Rattle.rb_runs.specs.Closes.{ClosesAs, HasTaken}
 use Rattle.rb_runs.specs.declared.books.added_fault.AddedFault.{AddedFault}
 use Rattle.rb_runs.specs.declared.books.close_fault.CloseFault.TheVariants.{Added, Journal, Unread}
@@ -24,19 +25,23 @@ pub with-one-more : (journals site : ℕ) (before : Option Audited) (files : Lis
     ≡ next (with_files journals site before files) (λ b. next (with_next journals (site + length files) b file) (λ a. Ok (Some a)))
 with-one-more journals site before [] file =
     let same : site ≡ site + 0 = omega arith in ap (λ n. next (with_next journals n before file) (λ a. Ok (Some a))) same
-with-one-more journals site before (f ∷ files) file = by (λ a. with-one-more journals (site + 1) (Some a) files file) (with_next journals site before f)
+with-one-more journals site before (f ∷ files) file =
+    by (λ a. with-one-more journals (site + 1) (Some a) files file) (with_next journals site before f)
   where
     by : ((a : Audited) → with_files journals (site + 1) (Some a) (files ++ file ∷ [])
-        ≡ next (with_files journals (site + 1) (Some a) files) (λ b. next (with_next journals (site + 1 + length files) b file) (λ x. Ok (Some x))))
+        ≡ next (with_files journals (site + 1) (Some a) files)
+        (λ b. next (with_next journals (site + 1 + length files) b file) (λ x. Ok (Some x))))
         → (r : Result Audited JournalFault) → next r (λ a. with_files journals (site + 1) (Some a) (files ++ file ∷ []))
         ≡ next (next r (λ a. with_files journals (site + 1) (Some a) files))
         (λ b. next (with_next journals (site + suc (length files)) b file) (λ a. Ok (Some a)))
     by more (Err why) = refl
     by more (Ok a) = let same : site + 1 + length files ≡ site + suc (length files) = omega arith in
-        more a ∙ ap (λ n. next (with_files journals (site + 1) (Some a) files) (λ b. next (with_next journals n b file) (λ x. Ok (Some x)))) same
+        more a ∙ ap (λ n. next (with_files journals (site + 1) (Some a) files)
+            (λ b. next (with_next journals n b file) (λ x. Ok (Some x)))) same
 
 -- before any file
-pub nothing-taken : (c : Closing) (ask : NextBank) (files : List (List ℕ)) → c.taken ≡ 0 → c.auditor ≡ None → files ≡ [] → HasTaken c ask files
+pub nothing-taken : (c : Closing) (ask : NextBank) (files : List (List ℕ))
+    → c.taken ≡ 0 → c.auditor ≡ None → files ≡ [] → HasTaken c ask files
 nothing-taken c ask files none empty unread = record {
   count = none ∙ ap length (sym unread);
   said = subst (λ fs. with_files c.journals 0 None fs ≡ Ok c.auditor) (sym unread) (ap Ok (sym empty));
@@ -82,7 +87,8 @@ lines-keep s site hs n (l ∷ ls) = by (λ x. lines-keep s site (with_entry site
     by keep (Ok x) = keep x
     by keep (Err why) = refl
 
-journal-lines-keep : (a : Audited) (site : ℕ) (ls : List (List ℕ)) → settings-or a.settings (with_journal_lines site (Some a) ls) ≡ a.settings
+journal-lines-keep : (a : Audited) (site : ℕ) (ls : List (List ℕ))
+    → settings-or a.settings (with_journal_lines site (Some a) ls) ≡ a.settings
 journal-lines-keep a site [] = refl
 journal-lines-keep a site (l ∷ ls) = by (is_head a.settings l)
   where
@@ -94,11 +100,13 @@ journal-lines-keep a site (l ∷ ls) = by (is_head a.settings l)
 journal-keeps : (a : Audited) (site : ℕ) (file : List ℕ) → settings-or a.settings (with_journal site (Some a) file) ≡ a.settings
 journal-keeps a site file = by (is_sealed file)
   where
-    by : (b : Bool) → settings-or a.settings (if b then with_journal_lines site (Some a) (journal_lines file) else Err NotSealed) ≡ a.settings
+    by : (b : Bool)
+        → settings-or a.settings (if b then with_journal_lines site (Some a) (journal_lines file) else Err NotSealed) ≡ a.settings
     by true = journal-lines-keep a site (journal_lines file)
     by false = refl
 
-count-keeps : (s : Settings) (journals : ℕ) (r : Result Audited JournalFault) → settings-or s r ≡ s → settings-or s (next r (counted journals)) ≡ s
+count-keeps : (s : Settings) (journals : ℕ) (r : Result Audited JournalFault) → settings-or s r ≡ s
+    → settings-or s (next r (counted journals)) ≡ s
 count-keeps s journals (Err why) e = refl
 count-keeps s journals (Ok a) e = by (journals == a.settings.sites)
   where
@@ -122,7 +130,8 @@ some-after journals site a (f ∷ fs) e = by (λ b. some-after journals (site + 
     by later (Err why) e = cc
 
 -- some file was taken, so there is a bank
-some-bank : (journals site : ℕ) (before : Option Audited) (f : List ℕ) (fs : List (List ℕ)) → ¬ (with_files journals site before (f ∷ fs) ≡ Ok None)
+some-bank : (journals site : ℕ) (before : Option Audited) (f : List ℕ) (fs : List (List ℕ))
+    → ¬ (with_files journals site before (f ∷ fs) ≡ Ok None)
 some-bank journals site before f fs e = by (with_next journals site before f) e
   where
     by : (r : Result Audited JournalFault) → ¬ (next r (λ a. with_files journals (site + 1) (Some a) fs) ≡ Ok None)
@@ -154,7 +163,8 @@ unread c ask files all site taken e at more = subst (λ fs. ClosesAs ask c.journ
     (refl, at ∙ taken.count, omega (arith, at, more), (c.auditor, taken.said))
 
 -- the next file is at fault
-pub fault-of : (c : Closing) (ask : NextBank) (files all : List (List ℕ)) (file : List ℕ) (site : ℕ) (why : JournalFault) → HasTaken c ask files
+pub fault-of : (c : Closing) (ask : NextBank) (files all : List (List ℕ)) (file : List ℕ) (site : ℕ) (why : JournalFault)
+    → HasTaken c ask files
     → all ≡ files ++ file ∷ [] → site ≡ c.taken → EndsAtFile c file why → ClosesAs ask c.journals all (Err (Journal site why)) []
 fault-of c ask files all file site why taken e at ends =
     let n : length all ≡ length files + 1 = ap length e ∙ length-append files (file ∷ []) in
@@ -174,7 +184,8 @@ fault-of c ask files all file site why taken e at ends =
 pub not-added : (old new : Closing) (ask : NextBank) (files all : List (List ℕ)) (file : List ℕ) (why : AddedFault) → HasTaken old ask files
     → all ≡ files ++ file ∷ [] → old.taken ≡ 0 → (took : TakesFile old new file)
     → IsAddedFault (Some took.bank.settings) ask.added why → ClosesAs ask old.journals all (Err (Added why)) []
-not-added old new ask files all file why taken e first took fault = subst (λ fs. ClosesAs ask old.journals fs (Err (Added why)) []) (sym e) (by files refl)
+not-added old new ask files all file why taken e first took fault =
+    subst (λ fs. ClosesAs ask old.journals fs (Err (Added why)) []) (sym e) (by files refl)
   where
     by : (fs : List (List ℕ)) → files ≡ fs → ClosesAs ask old.journals (fs ++ file ∷ []) (Err (Added why)) []
     by [] same = (
@@ -194,7 +205,8 @@ settings-of s None = s
 settings-of s (Some a) = a.settings
 
 pub config-is : {C : Type 0} (now : C → Settings) (o : Option C) (auditor : Option Audited) (bank : Audited) → auditor ≡ Some bank
-    → MatchOption o (auditor ≡ None) (λ c. (b : Audited) × (auditor ≡ Some b) × (now c ≡ b.settings)) → option_map now o ≡ Some bank.settings
+    → MatchOption o (auditor ≡ None) (λ c. (b : Audited) × (auditor ≡ Some b) × (now c ≡ b.settings))
+    → option_map now o ≡ Some bank.settings
 unfolding settings-of
 config-is now None auditor bank is empty = let wrong : Some bank ≡ None = sym is ∙ empty in cc
 config-is now (Some c) auditor bank is (b, same, e) = ap Some (e ∙ ap (settings-of bank.settings) (sym same ∙ is))

@@ -1,4 +1,4 @@
--- What is wrong with accounts that are to be added.
+-- Faults of accounts that are to be added.
 use Rattle.std.specs.Prelude.{◌≡◌, ◌⊎◌, ℕ, ◌-◌, List, [], ◌∷◌, ◌++◌, codes, get_or, length, map, replicate, Option, None, Some}
 use Rattle.rb_money.specs.Faults.{config_fault}
 use Rattle.rb_money.specs.Settings.{Settings}
@@ -14,7 +14,7 @@ use Rattle.rb_runs.specs.declared.books.added_fault.AddedFault.TheVariants.{Ther
 abbrev pub largest : Limits
 largest = record { blue = MOST_BLUE; red = MOST_RED; inbox = MOST_INBOX; history = MOST_HISTORY; epoch = MOST_EPOCH }
 
--- what is wrong with a bank that has these accounts behind those of another, which start with nothing; where no other is
+-- what is wrong with a bank that has these accounts behind those of another, which start with nothing; if no other is
 -- known, with a bank of two sites that has these alone
 abbrev pub added_fault : Option Settings → List (List ℕ) → Option ConfigFault
 added_fault (Some s) names = config_fault s.sites
@@ -27,7 +27,8 @@ abbrev pub before_added : Option Settings → ℕ
 before_added None = 0
 before_added (Some s) = length s.names
 
--- it is of the added ones, which are counted from 0: the sites, the limits, and what the accounts start with, are proper
+-- it is of the added ones, which are counted from 0: the sites, the limits, and what the accounts start with, are
+-- proper
 abbrev pub as_added : ℕ → ConfigFault → AddedFault
 as_added before (Name i) = NoName (i - before)
 as_added before (Twice i) = There (i - before)

@@ -44,7 +44,7 @@ abbrev pub ReportsVerdict : Bool → Input → List ℕ → Type 0
 ReportsVerdict true x line = ReportsOrder x line
 ReportsVerdict false x line = (¬ AreOneWorlds x.settings x.histories) × (ReportsWrongReply x line ⊎ ReportsStuck x line)
 
--- the result of an audit of this input, of which the second part is left, where the text was written
+-- the result of an audit of this input that left the second part of it and wrote the text
 abbrev pub AuditEndsAs : Result Bool ScriptFault → List ℕ → Option (List ℕ) → List ℕ → Type 0
 AuditEndsAs (Ok found) input left text = (x : Input) × (input_of (lines_of input) ≡ Ok x)
     × ReportsVerdict found x text × (left ≡ Some [])

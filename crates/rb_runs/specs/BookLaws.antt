@@ -15,7 +15,8 @@ use Rattle.rb_site.specs.Reports.{balances_of}
 use Rattle.rb_site.specs.Worlds.{made_in, world_of_run}
 use Rattle.rb_history.specs.ConfigLines.{config_json}
 use Rattle.rb_history.specs.Configurations.{config_on}
-use Rattle.rb_runs.specs.Books.{MayBeClosed, NextBank, ReportsNext, applied_from, applied_in, lacked, next_accounts, next_settings, sites_of_next}
+use Rattle.rb_runs.specs.Books.{MayBeClosed, NextBank, ReportsNext, applied_from, applied_in, lacked, next_accounts, next_settings}
+use Rattle.rb_runs.specs.Books.{sites_of_next}
 use Rattle.rb_runs.specs.InputLaws.{HasShortLines}
 use Rattle.rb_runs.specs.Inputs.{Input, input_of}
 use Rattle.rb_runs.specs.Texts.{config_line}

@@ -65,7 +65,7 @@ abbrev pub sites_of_next : Settings → Option ℕ → ℕ
 sites_of_next s None = s.sites
 sites_of_next s (Some n) = n
 
--- the version of its lines: 2 where it was 2, or where there are too many sites for version 1
+-- the version of its lines: 2 if it was 2, or if there are too many sites for version 1
 abbrev pub next_version : Settings → ℕ → ℕ
 next_version s n = if s.version == 2 then 2 else version_of n
 
@@ -73,7 +73,7 @@ next_version s n = if s.version == 2 then 2 else version_of n
 abbrev pub next_accounts : Settings → List ℕ → NextBank → List Account
 next_accounts s balances ask = zip s.names balances ++ map (λ name. (name, 0)) ask.added
 
--- its configuration, where the accounts have these balances
+-- its configuration, if the accounts have these balances
 abbrev pub next_with : Settings → List ℕ → NextBank → Settings
 next_with s balances ask = record {
   sites = sites_of_next s ask.sites;

@@ -1,4 +1,4 @@
--- What is written for a configuration and for entries of its sites is what an audit takes.
+-- The text written for a configuration and for entries of its sites is what an audit takes.
 use Rattle.std.specs.Prelude.{◌≡◌, ◌<◌, ℕ, List, [], ◌∷◌, ◌++◌, Ok, true, codes, not, replicate}
 use Rattle.std.specs.List.{list_all}
 use Rattle.serde_json.specs.Written.{compact_text}

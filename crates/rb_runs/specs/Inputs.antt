@@ -1,4 +1,4 @@
--- What the lines of an audit say: a configuration and the histories of its sites, or the first line that is bad.
+-- The input of an audit by its lines: a configuration and the histories of its sites, or the first line that is bad.
 use Rattle.std.specs.Prelude.{ℕ, zero, suc, ◌+◌, List, [], ◌∷◌, ◌++◌, Result, Ok, Err, replicate, if◌then◌else◌}
 use Rattle.std.specs.Option.{option_map_or}
 use Rattle.rb_money.specs.Settings.{Settings}
@@ -20,7 +20,7 @@ with_entry site x [] = []
 with_entry zero x (h ∷ hs) = (h ++ x ∷ []) ∷ hs
 with_entry (suc n) x (h ∷ hs) = h ∷ with_entry n x hs
 
--- the input, where these lines, the first of which is line n, come after those of these histories
+-- the input, if these lines, the first of which is line n, come after those of these histories
 abbrev pub input_after : Settings → List (List Entry) → ℕ → List (List ℕ) → Result Input ScriptFault
 input_after s hs n [] = Ok (record { settings = s; histories = hs })
 input_after s hs n (l ∷ ls) = if is_long l then Err (LongLine n) else (if is_blank l then input_after s hs (n + 1) ls

@@ -15,7 +15,8 @@ use Rattle.rb_site.specs.declared.entry.Entry.{Entry}
 use Rattle.rb_runs.specs.Inputs.{with_entry}
 use Rattle.rb_runs.specs.declared.books.closing.Closing.{Closing}
 use Rattle.rb_runs.specs.declared.books.journal_fault.JournalFault.{JournalFault}
-use Rattle.rb_runs.specs.declared.books.journal_fault.JournalFault.TheVariants.{NotSealed, AnotherBank, BadLine, AnotherSite, Count, OutOfMemory}
+use Rattle.rb_runs.specs.declared.books.journal_fault.JournalFault.TheVariants.{NotSealed, AnotherBank, BadLine, AnotherSite, Count}
+use Rattle.rb_runs.specs.declared.books.journal_fault.JournalFault.TheVariants.{OutOfMemory}
 
 -- ---- one journal
 
@@ -91,7 +92,7 @@ pub record TakesFile (old new : Closing) (file : List ℕ) : Type 0 where
   pub journals : new.journals ≡ old.journals
   pub taken : new.taken ≡ old.taken + 1
 
--- the file has the fault; nothing is said of running out of memory
+-- the fault is the file's; nothing is said of running out of memory
 abbrev pub EndsAtFile : Closing → List ℕ → JournalFault → Type 0
 EndsAtFile c file fault = (fault ≡ OutOfMemory) ⊎ (with_next c.journals c.taken c.auditor file ≡ Err fault)
 
@@ -106,7 +107,7 @@ journal_reason_of (AnotherSite n) = codes "line " ++ decimal n ++ codes ": anoth
 journal_reason_of (Count n m) = decimal n ++ (codes " journals for " ++ (decimal m ++ codes " sites"))
 journal_reason_of OutOfMemory = codes "out of memory"
 
--- the file comes first, where the fault is of one file
+-- the file comes first, if the fault is of one file
 abbrev pub journal_message_of : List ℕ → JournalFault → List ℕ
 journal_message_of file (Count n m) = codes "rbbank: " ++ journal_reason_of (Count n m)
 journal_message_of file OutOfMemory = codes "rbbank: " ++ journal_reason_of OutOfMemory

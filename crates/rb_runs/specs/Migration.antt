@@ -37,6 +37,6 @@ migration_from n (l ∷ ls) = if is_long l then no_outcome (LongLine n) else (if
 abbrev pub migration_of : List (List ℕ) → LinesOutcome
 migration_of ls = migration_from 1 ls
 
--- the result of a run over this input, of which the second part is left, where the text was written
+-- the result of a run over this input that left the second part of it and wrote the text
 abbrev pub MigrationEndsAs : Result ℕ ScriptFault → List ℕ → Option (List ℕ) → List ℕ → Type 0
 MigrationEndsAs r input left text = RunEndsAs migration_of r input left text

@@ -1,4 +1,4 @@
--- What a migration keeps.
+-- The laws of what a migration keeps.
 use Rattle.std.specs.Prelude.{◌≡◌, ℕ, List, Some, None, Ok}
 use Rattle.serde_json.specs.Written.{compact_text}
 use Rattle.rb_money.specs.Settings.{Settings, in_version_2}

@@ -37,8 +37,8 @@ recording_of ls = recording_from 1 ls
 abbrev pub BeginsHistories : List ℕ → List ℕ → Type 0
 BeginsHistories input text = (x : Input) × (recording_of (lines_of input) ≡ Ok x) × IsFront text (text_of x.settings x.histories)
 
--- the result of a run over the script in this input, of which the second part is left, where the text was written: all
--- lines of the histories, or at a fault of the script nothing
+-- the result of a run over the script in this input that left the second part of it and wrote the text: all lines of
+-- the histories, or at a fault of the script nothing
 abbrev pub HistoriesEndAs : Result Unit ScriptFault → List ℕ → Option (List ℕ) → List ℕ → Type 0
 HistoriesEndAs (Ok u) input left text = (x : Input) × (recording_of (lines_of input) ≡ Ok x)
     × (text ≡ text_of x.settings x.histories) × (left ≡ Some [])

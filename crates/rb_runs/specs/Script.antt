@@ -1,4 +1,4 @@
--- What a script's lines say: its configuration and its commands, up to the first line that is bad.
+-- A script by its lines: its configuration and its commands, up to the first line that is bad.
 use Rattle.std.specs.Prelude.{ℕ, ◌+◌, List, [], ◌∷◌, length, Option, Some, None, Result, if◌then◌else◌, flat_map}
 use Rattle.std.specs.Option.{option_map_or}
 use Rattle.rb_money.specs.Settings.{Settings}
@@ -45,6 +45,6 @@ script_from n (l ∷ ls) = if is_long l then no_outcome (LongLine n) else (if is
 abbrev pub script_of : List (List ℕ) → LinesOutcome
 script_of ls = script_from 1 ls
 
--- the result of a run over this input, of which the second part is left, where the text was written
+-- the result of a run over this input that left the second part of it and wrote the text
 abbrev pub ScriptEndsAs : Result ℕ ScriptFault → List ℕ → Option (List ℕ) → List ℕ → Type 0
 ScriptEndsAs r input left text = RunEndsAs script_of r input left text

@@ -16,7 +16,7 @@ abbrev pub EndsSilently : (List (List ℕ) → LinesOutcome) → Result Unit Scr
 EndsSilently of (Ok u) input left = ((of (lines_of input)).fault ≡ None) × (left ≡ Some [])
 EndsSilently of (Err f) input left = (text : List ℕ) × RunEndsAs of (Err f) input left text
 
--- ---- an input, where `of` is what its lines say
+-- ---- an input; `of` is what its lines say
 
 -- no line so far is bad
 abbrev pub IsUnfinishedInput : Result Input ScriptFault → Type 0

@@ -1,4 +1,6 @@
 //! The lines of an audit, one at a time.
+//!
+//! The auditor reads each entry as its line comes, so no line is kept. Nothing is answered before the end.
 ghost use Rattle.std.specs.Prelude.{◌≡◌, ◌^◌, ◌<◌, ◌≤◌, ◌⊎◌, ℕ, [], ◌∷◌, None, Some, length, replicate, MatchResult};
 ghost use Rattle.rb_money.specs.Settings.{Settings};
 ghost use Rattle.rb_auditor.specs.Audits.{Audited, HasMore};
@@ -16,7 +18,7 @@ use rb_lines::{Responder, ScriptFault, is_blank};
 use rb_site::{Entry, Event, Reply};
 use std::alloc::Global;
 
-/// What was collected of an audit's lines: once there is a configuration its auditor, which has read each entry so far,
+/// The state of an audit over its lines: once there is a configuration its auditor, which has read each entry so far,
 /// and the number of the next line, from 1. It can't be dropped: it is closed, or gives its auditor.
 pub struct Collected {
     pub auditor: Option<Auditor>,

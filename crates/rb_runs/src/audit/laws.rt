@@ -1,4 +1,4 @@
-//! What an audit takes back, as a law.
+//! The law that an audit takes back what is written for its input.
 ghost use Rattle.rb_runs.specs.InputLaws.{InputsAreReadBack};
 
 use rb_history::{configs_are_read, entries_are_read, lines_are_single};

@@ -23,7 +23,7 @@ pub fn run_audit<S: Source, W: Sink>(
 ) -> Result<bool, ScriptFault>
     requires unread { S.calls reader.old ≡ 0 }
     requires fresh { W.failed writer.old ≡ false }
-    // What is written is what the audit of all histories of the input finds.
+    // The text written is what the audit of all histories of the input finds.
     ensures written { (text : List ℕ) × Appends (W.contents writer.old) (W.contents writer.new) text
         × IfSome (S.remaining reader.old) (λ input. AuditEndsAs result input (S.remaining reader.new) text) }
     ensures read { result ≡ Err Read → (S.failed reader.new ≡ true) ⊎ (S.calls reader.new ≡ MOST_READS) }

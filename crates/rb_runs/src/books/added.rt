@@ -1,4 +1,7 @@
 //! Accounts that are to be added.
+//!
+//! Their faults are those that `Config::new` finds, so the rules of accounts are in one place. They are checked alone
+//! before a journal is read, and behind the bank's own accounts once its configuration is known.
 ghost use Rattle.std.specs.Prelude.{◌≡◌, ◌∷◌, ◌≢◌, [], IfErr, IfOk, MatchResult, None, OnOk, Some, length, map};
 ghost use Rattle.std.specs.Prelude.{option_map, replicate};
 ghost use Rattle.rb_money.specs.Faults.{account_of, config_fault};
@@ -58,7 +61,7 @@ fn nothing(alloc: Global, accounts: usize) -> Result<Vec<u64>, AllocError>
     vec![in alloc; 0u64; accounts]
 }
 
-/// Whether accounts with these names may be added behind those of the bank, or, where none is known yet, be accounts at
+/// Whether accounts with these names may be added behind those of the bank, or, if none is known yet, be accounts at
 /// all: the first thing that is wrong.
 pub fn check_added(alloc: Global, added: &[&str], config: Option<&Config>) -> Result<(), AddedFault>
     ensures { MatchResult result

@@ -27,7 +27,7 @@ fn name_of<'a>(added: &[&'a str], index: u64) -> &'a str
     }
 }
 
-/// What a program says on standard error, without the line feed. An `Err` means out of memory.
+/// The text that a program writes on standard error, without the line feed. An `Err` means out of memory.
 pub fn added_message(alloc: Global, added: &[&str], fault: AddedFault) -> Result<String, AllocError>
     ensures { IfOk result (λ text. string_bytes text ≡ added_message_of (map (λ name. name.now) added.now) fault) }
 {

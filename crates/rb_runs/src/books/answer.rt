@@ -1,4 +1,6 @@
 //! The line that closing a bank's books answers.
+//!
+//! Once no site lacks an operation the balances of all sites agree, so the next bank starts with those of the first.
 ghost use Rattle.std.specs.Prelude.{◌≡◌, ◌<◌, ℕ, List, IfOk, None, Some, length, slice_get};
 ghost use Rattle.rb_money.specs.Faults.{config_fault};
 ghost use Rattle.rb_money.specs.Settings.{IsConfigured};

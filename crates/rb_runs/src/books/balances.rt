@@ -1,4 +1,7 @@
 //! The balances that a bank ends with.
+//!
+//! A balance may be above what an account may start with, and then there is no next bank: the first such account is
+//! looked for before one is made.
 ghost use Rattle.std.specs.Prelude.{◌≡◌, ◌≤◌, ℕ, IfOk, MatchOption, Some, slice_get};
 ghost use Rattle.rb_money.specs.declared.cents.TheConstants.{MOST_CENTS};
 ghost use Rattle.rb_site.specs.Reports.{balances_of};

@@ -1,4 +1,7 @@
 //! The journals of a bank that is closed, one file at a time.
+//!
+//! The auditor reads each entry as its line comes, so no file is needed once it was taken. The seal is checked first,
+//! and then each line has to be an entry, since other bytes may end as a sealed file does.
 ghost use Rattle.std.specs.Prelude.{◌≡◌, ◌+◌, ◌<◌, ◌⊎◌, ◌∷◌, [], Err, None, Ok, Some, false, length, true};
 ghost use Rattle.std.specs.Prelude.{IfOk, MatchOption, MatchResult};
 ghost use Rattle.rb_auditor.specs.Audits.{Audited, HasMore};
@@ -17,8 +20,8 @@ use rb_money::Config;
 use rb_site::{Entry, Event, Reply};
 use std::alloc::{AllocError, Global};
 
-/// What was taken of a bank's journals: once there is one, the auditor, which has read their entries so far. It can't
-/// be dropped: it is closed, or gives its auditor.
+/// The journals of a bank that were taken: once there is one, the auditor, which has read their entries so far. It
+/// can't be dropped: it is closed, or gives its auditor.
 pub struct Closing {
     alloc: Global,
     journals: usize,

@@ -54,7 +54,7 @@ impl From<AllocError> for JournalFault {
     }
 }
 
-/// What is said of a file.
+/// The text about a file.
 fn of_file(alloc: Global, file: &str, fault: JournalFault) -> Result<String, AllocError>
     ensures { IfOk result (λ text. string_bytes text
         ≡ codes "rbbank: " ++ (file.now ++ (codes ": " ++ journal_reason_of fault))) }
@@ -62,7 +62,8 @@ fn of_file(alloc: Global, file: &str, fault: JournalFault) -> Result<String, All
     format!(in alloc; "rbbank: {file}: {fault}")
 }
 
-/// What a program says on standard error of a file with the fault, without the line feed. An `Err` means out of
+/// The text that a program writes on standard error about a file with the fault, without the line feed. An `Err` means
+/// out of memory.
 /// memory.
 pub fn journal_message(alloc: Global, file: &str, fault: JournalFault) -> Result<String, AllocError>
     ensures { IfOk result (λ text. string_bytes text ≡ journal_message_of file.now fault) }

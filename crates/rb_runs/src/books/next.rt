@@ -1,4 +1,7 @@
 //! The configuration of the next bank.
+//!
+//! It is made by `Config::new`, which finds what is wrong with it. Added accounts come behind the others, so that each
+//! account of the bank keeps its place.
 ghost use Rattle.std.specs.Prelude.{◌≡◌, ◌≢◌, ◌≤◌, ◌++◌, ◌∷◌, ℕ, [], IfErr, IfOk, None, OnOk, Some, length};
 ghost use Rattle.std.specs.Prelude.{map, slice_get};
 ghost use Rattle.rb_money.specs.Faults.{account_of, config_fault};
@@ -9,8 +12,8 @@ use rb_money::{Config, ConfigFault, Place};
 use std::alloc::{AllocError, Global};
 use std::marker::Model;
 
-/// What is asked of the next bank: a number of sites, else it has as many as before; and the names of accounts behind
-/// the others.
+/// The settings asked of the next bank: a number of sites, else it has as many as before; and the names of accounts
+/// behind the others.
 #[derive(Drop)]
 pub struct NextBank<'a> {
     sites: Option<u8>,

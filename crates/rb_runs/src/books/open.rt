@@ -1,4 +1,7 @@
-//! What is open: of each site the operations that it lacks.
+//! Open operations: of each site the first of each home, and of the red ones, that it lacks.
+//!
+//! A site applies the operations of a home, and the red ones, in order of their numbers. So only the next number of
+//! each is looked up at the sites, and the lists of operations aren't compared.
 ghost use Rattle.std.specs.Prelude.{◌≡◌, ◌∷◌, ◌++◌, ◌↔◌, [], IfOk, IsTrue, OnOk, Some, filter, map, slice_get, List, ℕ};
 ghost use Rattle.std.specs.List.{list_any};
 ghost use Rattle.rb_shadow.specs.Operations.{names};
@@ -29,7 +32,7 @@ fn any_applied(sites: &[Site<ErasedEntry>], name: &OpName) -> bool
     false
 }
 
-/// Adds the name to the list where the site lacks the operation. `Err` means out of memory.
+/// Adds the name to the list if the site lacks the operation. `Err` means out of memory.
 fn add_lacked(
     list: &mut Vec<OpName>,
     sites: &[Site<ErasedEntry>],
@@ -66,7 +69,7 @@ fn lacked_at(
     Ok(list)
 }
 
-/// What each site lacks. `Err` means out of memory.
+/// For each site the list of what it lacks. `Err` means out of memory.
 pub fn open_lists(
     alloc: Global,
     sites: &[Site<ErasedEntry>],

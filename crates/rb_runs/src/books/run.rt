@@ -1,4 +1,7 @@
 //! A whole closing of the books, from the bytes of journals to those of a line.
+//!
+//! Files are read one after another, and none behind one that is at fault. The line is written once all is known, so
+//! after a fault nothing was written, unless it is the write that failed.
 ghost use Rattle.std.specs.Prelude.{◌≡◌, ◌↔◌, ◌+◌, ◌<◌, ◌≤◌, [], List, ℕ, Err, IfSome, MatchResult, None, false, true};
 ghost use Rattle.std.specs.Io.KnownBytes.{Appends};
 ghost use Rattle.rb_money.specs.declared.limits.TheConstants.{MOST_SITES};

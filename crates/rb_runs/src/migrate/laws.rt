@@ -1,4 +1,4 @@
-//! What a migration keeps, as laws.
+//! The laws of what a migration keeps.
 ghost use Rattle.rb_runs.specs.MigrationLaws.{MigratedConfigsAreRead, MigratedEntriesAreRead, MigratedReplaysAreEqual};
 ghost use Rattle.rb_runs.specs.MigrationLaws.{MigrationsAreRead};
 
@@ -7,7 +7,7 @@ use rb_history::{
     read_entries_fit,
 };
 
-/// What is written in version 2 for lines that were read is read, under the configuration in version 2, as what
+/// The text written in version 2 for lines that were read is read, under the configuration in version 2, as what
 /// they were read as, an entry with its id.
 pub fn migrated_lines_are_read()
     ensures configs { MigratedConfigsAreRead }
@@ -24,7 +24,7 @@ pub fn migrated_replays_are_equal()
     ensures { MigratedReplaysAreEqual }
 {}
 
-/// Where a migration of some bytes has no fault, an audit takes the text that it writes as what it takes the bytes
+/// If a migration of some bytes has no fault, an audit takes the text that it writes as what it takes the bytes
 /// as, in version 2, unless a line of the text is too long. It takes both with the ids left out.
 pub fn migrations_are_read()
     ensures { MigrationsAreRead }

@@ -13,8 +13,8 @@ use std::alloc::Global;
 /// written.
 ///
 /// The first line that isn't to be skipped is the configuration, and each later one an entry of a site's history, both
-/// of either version. The lines of one read go out before the next read, in one write where they fit. What was written
-/// before a fault goes out before the fault is reported; if that write fails, the fault is `Write`.
+/// of either version. The lines of one read go out before the next read, in one write if they fit. Lines written before
+/// a fault go out before the fault is reported; if that write fails, the fault is `Write`.
 pub fn run_migrate<S: Source, W: Sink>(
     alloc: Global,
     reader: &mut S,
@@ -22,7 +22,7 @@ pub fn run_migrate<S: Source, W: Sink>(
 ) -> Result<u64, ScriptFault>
     requires unread { S.calls reader.old ≡ 0 }
     requires fresh { W.failed writer.old ≡ false }
-    // What is written is the lines of the input in version 2, and nothing else.
+    // The text written is the lines of the input in version 2, and nothing else.
     ensures written { (text : List ℕ) × Appends (W.contents writer.old) (W.contents writer.new) text
         × IfSome (S.remaining reader.old) (λ input. MigrationEndsAs result input (S.remaining reader.new) text) }
     ensures read { result ≡ Err Read → (S.failed reader.new ≡ true) ⊎ (S.calls reader.new ≡ MOST_READS) }

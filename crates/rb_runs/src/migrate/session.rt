@@ -1,4 +1,7 @@
 //! The lines of a migration, one at a time.
+//!
+//! Each line is answered by itself, as a script's lines are, so no history is kept: the configuration and the entries
+//! before a bad line go out.
 ghost use Rattle.std.specs.Prelude.{◌≡◌, ◌++◌, ℕ, None, Some, MatchResult, OnErr};
 ghost use Rattle.rb_history.specs.declared.fault.LineFault.TheVariants.{Bad};
 ghost use Rattle.rb_history.specs.Configurations.{config_on};

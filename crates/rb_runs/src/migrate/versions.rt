@@ -1,4 +1,6 @@
 //! A configuration as its line has it, and in version 2 of the format.
+//!
+//! Both are kept, since each entry is read under the one and written under the other.
 ghost use Rattle.std.specs.Prelude.{◌≡◌, ◌≤◌, ◌++◌, ℕ, None, Some, codes, length, take, IfOk, MatchResult, OnErr, OnOk};
 ghost use Rattle.rb_history.specs.declared.fault.LineFault.TheVariants.{Bad};
 ghost use Rattle.rb_history.specs.Entries.{asked_entry_of_line};

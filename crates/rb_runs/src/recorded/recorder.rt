@@ -1,4 +1,6 @@
 //! The lines of a script whose histories are asked for, one at a time.
+//!
+//! Only the histories are put out, so commands aren't answered, and the world keeps histories and no list of events.
 ghost use Rattle.std.specs.Prelude.{◌≡◌, None, Some, MatchResult};
 ghost use Rattle.rb_money.specs.Settings.{Settings};
 ghost use Rattle.rb_world.specs.Laws.{opened};

@@ -47,7 +47,7 @@ pub fn run_histories<S: Source, W: Sink>(
 ) -> Result<(), ScriptFault>
     requires unread { S.calls reader.old ≡ 0 }
     requires fresh { W.failed writer.old ≡ false }
-    // What is written is the histories of the script's run, and nothing else.
+    // The text written is the histories of the script's run, and nothing else.
     ensures written { (text : List ℕ) × Appends (W.contents writer.old) (W.contents writer.new) text
         × IfSome (S.remaining reader.old) (λ input. HistoriesEndAs result input (S.remaining reader.new) text) }
     ensures read { result ≡ Err Read → (S.failed reader.new ≡ true) ⊎ (S.calls reader.new ≡ MOST_READS) }

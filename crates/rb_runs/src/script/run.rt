@@ -12,8 +12,8 @@ use std::alloc::Global;
 /// Answers each line of the reader's bytes by a line, and says how many replies were written.
 ///
 /// The first line that isn't to be skipped is the configuration, and each later one a command. The replies to the whole
-/// lines of one read go out before the next read, in one write where they fit. What was answered before a fault goes
-/// out before the fault is reported; if that write fails, the fault is `Write`.
+/// lines of one read go out before the next read, in one write if they fit. Replies made before a fault go out before
+/// the fault is reported; if that write fails, the fault is `Write`.
 pub fn run_script<S: Source, W: Sink>(
     alloc: Global,
     reader: &mut S,
@@ -21,7 +21,7 @@ pub fn run_script<S: Source, W: Sink>(
 ) -> Result<u64, ScriptFault>
     requires unread { S.calls reader.old ≡ 0 }
     requires fresh { W.failed writer.old ≡ false }
-    // What is written is what the script asks for, and nothing else.
+    // The text written is what the script asks for, and nothing else.
     ensures written { (text : List ℕ) × Appends (W.contents writer.old) (W.contents writer.new) text
         × IfSome (S.remaining reader.old) (λ input. ScriptEndsAs result input (S.remaining reader.new) text) }
     ensures read { result ≡ Err Read → (S.failed reader.new ≡ true) ⊎ (S.calls reader.new ≡ MOST_READS) }

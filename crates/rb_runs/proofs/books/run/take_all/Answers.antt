@@ -23,7 +23,8 @@ pub take_next-requires-clause-taken : goal.take_next-requires-clause-taken
 take_next-requires-clause-taken g c = c.loop-site.invariant.taken
 
 pub returns-in-Err-clause-taken : goal.returns-in-Err-clause-taken
-returns-in-Err-clause-taken g c = subst (λ n. ClosesAs c.args.ask.now n (g.F.JournalFiles.read c.take_next.new.files) (Err c.in-Err.fault) [])
+returns-in-Err-clause-taken g c =
+    subst (λ n. ClosesAs c.args.ask.now n (g.F.JournalFiles.read c.take_next.new.files) (Err c.in-Err.fault) [])
     c.loop-site.invariant.journals c.in-Err.ensures.taken
 
 pub loop-site-preserved : goal.loop-site-preserved
