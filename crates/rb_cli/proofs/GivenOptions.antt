@@ -230,7 +230,8 @@ takes_walked s words rows walks defaults checks =
     let again = s.args_override_self in
     let after = ap (λ (r : List Row). fold with_default r s.rules) walks.rows_are in
     let last = both_none _ _ walks.settled
-    (both_none _ _ (ap (λ (r : List Row). defaults_fault r s.rules) walks.rows_are ∙ defaults) (ap (λ r. check_fault s r false) after ∙ checks)) in (
+    (both_none _ _ (ap (λ (r : List Row). defaults_fault r s.rules) walks.rows_are ∙ defaults)
+    (ap (λ r. check_fault s r false) after ∙ checks)) in (
       both_none _ _ walks.none
           (subst (λ (w : Walk). or_else (settle_fault s.rules again w.held) (or_else (defaults_fault (settled s.rules w.held).rows s.rules)
           (check_fault s (finished s.rules w.held) false)) ≡ []) (sym walks.ends) last),

@@ -1,4 +1,4 @@
--- What a command's options are after a parse that fails nowhere.
+-- A command's options after a parse that fails nowhere.
 use Rattle.std.proofs.Common.{◌≡◌, ◌∙◌, ◌&&◌, ◌⊎◌, ◌==◌, ℕ, Bool, cond, true, false, not, refl, sym, ap, subst, arith}
 use Rattle.std.proofs.Common.{List, [], ◌∷◌, drop, Option, Some, None, inl, inr, pos}
 use Rattle.std.specs.Prelude.{IfSome, find, option_and_then, option_map, slice_get, unwrap_or}

@@ -1,4 +1,4 @@
--- What a parse that fails nowhere leaves of a command's options: each that is given has a first value that its parser takes.
+-- A command's options after a parse that fails nowhere: each that is given has a first value that its parser takes.
 use Rattle.std.proofs.Common.{◌≡◌, ◌≤◌, ◌&&◌, ◌⊎◌, ℕ, Bool, cond, true, false, not, zero, suc, refl, sym, ap, subst}
 use Rattle.std.proofs.Common.{List, [], ◌∷◌, ◌++◌, length, drop, Option, Some, None, inl, inr, is_some, rules}
 use Rattle.std.specs.Prelude.{IfSome, encode_utf8, find, nat_lt, fold, slice_get}
@@ -185,7 +185,9 @@ use_passes c again a values rows is none e =
     switched vs words word set has fault =
         let as_set : set_fault again a (values_or_missing a vs) rows ≡ [] =
         subst (λ x. action_fault x again a (values_or_missing a vs) rows ≡ []) set fault in
-        let as_word : values_fault a (word ∷ words) ≡ [] = subst (λ xs. values_fault a xs ≡ []) has (none_of (repeat_fault again a.id rows) (values_fault a (values_or_missing a vs)) as_set).1 in
+        let as_word : values_fault a (word ∷ words) ≡ [] =
+        subst (λ xs. values_fault a xs ≡ []) has
+        (none_of (repeat_fault again a.id rows) (values_fault a (values_or_missing a vs)) as_set).1 in
         subst (λ x. Each (Passes c) (used_as x a.id (reading_by a) (values_or_missing a vs) rows)) (sym set)
         (subst (λ xs. Each (Passes c) (with_values a.id (reading_by a) CommandLine xs (without a.id rows))) (sym has)
         (set_passes c a word words rows is as_word e))

@@ -1,5 +1,6 @@
--- What the command line reads the words as, and why it refuses them.
-use Rattle.std.proofs.Common.{◌≡◌, ◌∙◌, ◌≤◌, arith, length, true, refl, ap, sym, subst, List, [], ◌∷◌, Option, Some, None, map, inl, inr, IfSome, option_map, rules}
+-- The words as the command line reads them, and why it refuses them.
+use Rattle.std.proofs.Common.{◌≡◌, ◌∙◌, ◌≤◌, arith, length, true, refl, ap, sym, subst, List, [], ◌∷◌, Option, Some, None, map, inl, inr}
+use Rattle.std.proofs.Common.{IfSome, option_map, rules}
 use Rattle.std.proofs.lemmas.List.{length-map}
 use Rattle.std.proofs.lemmas.Result.{err_from_is_err_and}
 use Rattle.clap.specs.Lexer.{usize_max}
@@ -113,7 +114,8 @@ returns-in_err-matches-clause-kinds c =
     let words = map (λ word. word.now) c.args.words.now in
     let line = c.in_ok-command.ensures in
     let read = err_from_is_err_and c.from_residual-in_err-matches.result c.from_residual-in_err-matches.ensures.1 in
-    let has = first_kind _ _ c.in_err-matches.field-0.0 (kind_by line.0 _ words c.in_err-matches.field-0.0 line.2 c.in_err-matches.ensures.kinds) in
+    let has = first_kind _ _ c.in_err-matches.field-0.0
+    (kind_by line.0 _ words c.in_err-matches.field-0.0 line.2 c.in_err-matches.ensures.kinds) in
     rw read.1 (
       command_line line.0,
       (line.0, line.1, refl),
@@ -127,7 +129,8 @@ returns-in_err-matches-clause-err c =
     let line = c.in_ok-command.ensures in
     let read = err_from_is_err_and c.from_residual-in_err-matches.result c.from_residual-in_err-matches.ensures.1 in
     let few : length words ≤ usize_max = omega (arith, length-map c.args.words.now (λ word. word.now), c.well_formed) in
-    let has = first_kind _ _ c.in_err-matches.field-0.0 (kind_by line.0 _ words c.in_err-matches.field-0.0 line.2 c.in_err-matches.ensures.kinds) in
+    let has = first_kind _ _ c.in_err-matches.field-0.0
+    (kind_by line.0 _ words c.in_err-matches.field-0.0 line.2 c.in_err-matches.ensures.kinds) in
     rw read.1 (λ asked ask. by_memory line.0 words read.0 (usual_words line.0 line.1 words asked few ask).0
     (subst (HasKind (kinds_of (command_line line.0) words)) (sym read.2) has))
 
