@@ -1,4 +1,4 @@
--- What was done ends as it does by what it came to.
+-- Each run that was done ends as it does by what it came to.
 use Rattle.std.proofs.Common.{◌≡◌, ℕ, Bool, List, [], Option, None, Some, Result, append-nil, refl, subst, sym}
 use Rattle.std.specs.Io.KnownBytes.{Appends}
 use Rattle.rb_cli.specs.declared.recorded.Record.{Record}

@@ -73,8 +73,8 @@ module _ {R P : Type 0} where
   abbrev pub crash_left_of : Disk R P → ℕ → List ℕ → List ℕ → Type 0
   crash_left_of disk = left_since (disk_log disk)
 
-  -- the file of this name is just opened: no call failed, nothing was put out, and what it has is on the disk; a new one
-  -- has nothing
+  -- the file of this name is just opened: no call failed, nothing was put out, and what it has is on the disk; a new
+  -- one has nothing
   pub record IsOpened (name : List ℕ) (is_new : Bool) (disk : Disk R P) : Type 0 where
     pub path : string_bytes disk.path ≡ name
     pub new : is_new ≡ true → file_of disk ≡ []
@@ -82,8 +82,8 @@ module _ {R P : Type 0} where
     pub output : output_of (disk_log disk) ≡ []
     pub durable : Only (file_of disk) (leaves (disk_log disk))
 
-  -- site `me` of this bank, which records all events or those that change it, ran over the file of this name: it answered
-  -- the lines behind the configuration, or stopped in the opening, as the promises of a site's run have it
+  -- site `me` of this bank, which records all events or those that change it, ran over the file of this name: it
+  -- answered the lines behind the configuration, or stopped in the opening, as the promises of a site's run have it
   pub record HasRunOn (all : Bool) (me : ℕ) (bank : List ℕ) (most : ℕ) (name : List ℕ) (is_new : Bool)
       (input left : Option (List ℕ)) (disk : Disk R P) (ended : Result ℕ SiteFault) : Type 0 where
     pub start : Disk R P
@@ -121,8 +121,8 @@ module _ {R P : Type 0} where
   IsSealOn me name None ended = IsUnopened false ended
   IsSealOn me name (Some disk) ended = HasSealedOn me name disk ended
 
--- what is said of a journal that failed: it begins with the fault and the file's name, and the system's reason is behind
--- them
+-- what is said of a journal that failed: it begins with the fault and the file's name, and the system's reason is
+-- behind them
 abbrev pub IsJournalMessage : List ℕ → List ℕ → Type 0
 IsJournalMessage name text =
     (reason : List ℕ) × (text ≡ site_message_of Journal ++ codes ": " ++ name ++ codes ": " ++ reason)

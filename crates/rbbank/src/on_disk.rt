@@ -189,8 +189,8 @@ fn run_recording<S: Source, M: Records>(
 }
 
 /// Runs a site from this reader to standard output, over its journal on the disk, which is made if it is a new one.
-/// What the last `resend` entries of it sent is put out again, or what all of them sent. All events are recorded, or
-/// those that change the site. If its bank has a name, each message has it.
+/// The messages that its last `resend` entries sent are put out again, or those that all of them sent. All events are
+/// recorded, or those that change the site. If its bank has a name, each message has it.
 pub fn run_on_disk<S: Source>(
     rt: &HostRuntime,
     reader: &mut S,

@@ -1,11 +1,13 @@
 -- Nothing more is written, but by closing the books.
 use Rattle.std.proofs.Common.{[], ap, refl}
 use Rattle.std.specs.Process.{exit_status}
-use Rattle.rbbank.proofs.Done.{appends_nothing, audit_done, bad_bank_done, histories_done, migration_done, script_done, seal_done, site_done, threads_done}
+use Rattle.rbbank.proofs.Done.{appends_nothing, audit_done, bad_bank_done, histories_done, migration_done, script_done, seal_done}
+use Rattle.rbbank.proofs.Done.{site_done, threads_done}
 use Rattle.rbbank.proofs.end.Goals as goal
 
 pub returns-in-Script : goal.returns-in-Script
-returns-in-Script g c = ([], appends_nothing _, script_done _ _ _ _ _ _ c.in-Script.ran c.in-Script.is c.without_files.ensures c.end_of_script.ensures)
+returns-in-Script g c = ([], appends_nothing _,
+    script_done _ _ _ _ _ _ c.in-Script.ran c.in-Script.is c.without_files.ensures c.end_of_script.ensures)
 
 pub returns-in-Histories : goal.returns-in-Histories
 returns-in-Histories g c = (
@@ -16,7 +18,8 @@ returns-in-Histories g c = (
 )
 
 pub returns-in-Audit : goal.returns-in-Audit
-returns-in-Audit g c = ([], appends_nothing _, audit_done _ _ _ _ _ _ c.in-Audit.ran c.in-Audit.is c.without_files-in-Audit.ensures c.end_of_audit.ensures)
+returns-in-Audit g c = ([], appends_nothing _,
+    audit_done _ _ _ _ _ _ c.in-Audit.ran c.in-Audit.is c.without_files-in-Audit.ensures c.end_of_audit.ensures)
 
 pub returns-in-Migrate : goal.returns-in-Migrate
 returns-in-Migrate g c = (

@@ -80,7 +80,9 @@ module _ {M : Type 1} {𝓤 : Ura M} (𝓛 : Logic 𝓤) (at_mem : Memory → SP
       feq_i ! (List Val) (vunit ∷ []) (vunit ∷ []) refl $ move ! (1 ∷ 0 ∷ []) $ done !
 
   module _ (C : Calls 𝓤 H) (Λ : Loops 𝓤 H) where
-    walk : length s.now < 2 ^ 64 → ent 𝓤 (on_entry 𝓛 it.signature (κ, (κ', tt)) (q, (q', tt)) x at) (WpFn 𝓤 H C Λ code.function (vptr b o ∷ slice_val s.ref_ptr (length s.now) ∷ []) Post)
+    walk : length s.now < 2 ^ 64 →
+        ent 𝓤 (on_entry 𝓛 it.signature (κ, (κ', tt)) (q, (q', tt)) x at)
+        (WpFn 𝓤 H C Λ code.function (vptr b o ∷ slice_val s.ref_ptr (length s.now) ∷ []) Post)
     walk fs =
         qed 𝓛 ((‵ (flft κ q) ⊛ (‵ (flft κ' q') ⊛ ‵ ftrue))
         ∷ ‵ (owns (MutRef (named 0) κ T.the_row ∷ ShrSlice (named 1) κ' u8 ∷ []) x at) ∷ []) ∵ split !
