@@ -5,18 +5,22 @@ use Rattle.rb_runs.specs.Books.{NextBank}
 use Rattle.rb_runs.specs.Closes.{ClosesAs}
 use Rattle.rb_runs.specs.declared.books.close_fault.CloseFault.{CloseFault}
 use Rattle.rb_runs.specs.declared.books.close_fault.CloseFault.TheVariants.{Added, Unread, Journal, Write, OutOfMemory}
-use Rattle.rb_capi.specs.Close.{CloseCall, IsClosedInMemory, MayBeAsked, RunsClose, closed_in_memory, closed_text, name_on, next_asked, pieces_of, sites_asked}
+use Rattle.rb_capi.specs.Close.{CloseCall, IsClosedInMemory, MayBeAsked, RunsClose, closed_in_memory, closed_text, name_on, next_asked}
+use Rattle.rb_capi.specs.Close.{pieces_of, sites_asked}
 
 -- a fault of reading or writing is one of memory
 pub ends_in_memory : (ask : NextBank) (n : ℕ) (files : List (List ℕ)) (ran : Result Bool CloseFault) (text : List ℕ)
     → ClosesAs ask n files ran text
     → ClosesAs ask n files (closed_in_memory ran) (closed_text ran text) × IsClosedInMemory (closed_in_memory ran)
 ends_in_memory ask n files (Ok closed) text ended = (ended, record { no_read = λ site e. absurd (cc e); no_write = λ e. absurd (cc e) })
-ends_in_memory ask n files (Err (Added why)) text ended = (ended, record { no_read = λ site e. absurd (cc e); no_write = λ e. absurd (cc e) })
+ends_in_memory ask n files (Err (Added why)) text ended =
+    (ended, record { no_read = λ site e. absurd (cc e); no_write = λ e. absurd (cc e) })
 ends_in_memory ask n files (Err (Unread i)) text ended = (refl, record { no_read = λ site e. absurd (cc e); no_write = λ e. absurd (cc e) })
-ends_in_memory ask n files (Err (Journal i why)) text ended = (ended, record { no_read = λ site e. absurd (cc e); no_write = λ e. absurd (cc e) })
+ends_in_memory ask n files (Err (Journal i why)) text ended =
+    (ended, record { no_read = λ site e. absurd (cc e); no_write = λ e. absurd (cc e) })
 ends_in_memory ask n files (Err Write) text ended = (refl, record { no_read = λ site e. absurd (cc e); no_write = λ e. absurd (cc e) })
-ends_in_memory ask n files (Err OutOfMemory) text ended = (ended, record { no_read = λ site e. absurd (cc e); no_write = λ e. absurd (cc e) })
+ends_in_memory ask n files (Err OutOfMemory) text ended =
+    (ended, record { no_read = λ site e. absurd (cc e); no_write = λ e. absurd (cc e) })
 
 -- the run is that of the call, whose files were known
 pub runs_close : (c : CloseCall) (ask : NextBank) (read : ℕ) (ls bytes : List ℕ) (ran r : Result Bool CloseFault)

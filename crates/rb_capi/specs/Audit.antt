@@ -1,4 +1,4 @@
--- What an audit comes to for C.
+-- The result of an audit for C.
 use Rattle.std.specs.Prelude.{◌≡◌, ℕ, ℤ, Bool, true, false, List, [], Some, Result, Ok, Err}
 use Rattle.rb_lines.specs.declared.fault.ScriptFault.{ScriptFault}
 use Rattle.rb_runs.specs.Audit.{AuditEndsAs}

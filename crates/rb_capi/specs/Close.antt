@@ -1,4 +1,4 @@
--- What closing the books comes to for C.
+-- The result of closing the books for C.
 use Rattle.std.specs.Prelude.{◌≡◌, ◌≢◌, ◌⊎◌, ◌≤◌, ℕ, ℤ, ◌==◌, Bool, true, false, List, [], ◌∷◌, length, map, take, drop, sum}
 use Rattle.std.specs.Prelude.{Option, None, Some, Result, Ok, Err, if◌then◌else◌}
 use Rattle.std.specs.Str.{is_utf8}

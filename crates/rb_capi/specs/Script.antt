@@ -1,4 +1,4 @@
--- What a script comes to for C.
+-- The result of a script for C.
 use Rattle.std.specs.Prelude.{ℕ, ℤ, List, [], Some, Result}
 use Rattle.rb_lines.specs.declared.fault.ScriptFault.{ScriptFault}
 use Rattle.rb_runs.specs.Script.{ScriptEndsAs}

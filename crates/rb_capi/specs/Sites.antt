@@ -15,7 +15,8 @@ pub record SeenKept : Type 0 where
   pub answer : List ℕ
   pub entries : List ℕ
 
--- before any event, of a bank without a name: nothing was answered, and the journal begins with the line of the configuration
+-- before any event, of a bank without a name: nothing was answered, and the journal begins with the line of the
+-- configuration
 abbrev pub first_kept : Settings → ℕ → SeenKept
 first_kept s me = record { site = first_asked s me []; answer = []; entries = line_of (config_json s) }
 

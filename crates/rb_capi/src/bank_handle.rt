@@ -1,4 +1,7 @@
-//! What C keeps of a bank.
+//! The handle of a bank that C keeps.
+//!
+//! An exported type has no type parameter, so a bank and a site have a handle each, made of a slot's pointer. C's types
+//! keep the two apart.
 ghost use Rattle.std.specs.Prelude.{◌≡◌, MatchOption};
 ghost use Rattle.std.specs.declared.option.Option.{Option};
 ghost use Rattle.std.specs.declared.option.Option.TheVariants.{None, Some};
@@ -13,7 +16,7 @@ use std::alloc::Global;
 use std::marker::Model;
 use std::mem::replace;
 
-/// What C keeps of a bank, its `struct rbbank`: a pointer that C never follows, or null. All its bytes are zero to
+/// The handle of a bank, C's `struct rbbank`: a pointer that C never follows, or null. All its bytes are zero to
 /// begin with.
 #[repr(C)]
 pub struct BankHandle {

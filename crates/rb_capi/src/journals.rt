@@ -1,4 +1,7 @@
 //! Journals in memory, one behind another.
+//!
+//! An export takes no slice of slices, so the journals are one slice of bytes, and their lengths another. That the two
+//! fit is checked before a journal is read.
 ghost use Rattle.std.specs.Prelude.{◌≡◌, ◌==◌, Some, drop, sum, take};
 ghost use Rattle.rb_capi.specs.Close.{pieces_of};
 

@@ -1,4 +1,7 @@
 //! A site with the texts of its last answer.
+//!
+//! An answer is written beside the last one and takes its place only once it is whole: after a bad line the last one
+//! stays, so that nothing has changed.
 ghost use Rattle.std.specs.Prelude.{◌≡◌, ◌<◌, ◌≤◌, [], Some, None, false, IfOk, Err, MatchResult, OnOk};
 ghost use Rattle.rb_money.specs.Settings.{Settings};
 ghost use Rattle.rb_history.specs.Configurations.{config_on};
@@ -17,7 +20,7 @@ pub struct KeptSite {
     node: Node,
     pub(crate) answer: Vec<u8>,
     pub(crate) entries: Vec<u8>,
-    /// Where the next answer is written, so that a bad line leaves the last one as it is. Empty between two calls.
+    /// The next answer while it is written, so that a bad line leaves the last one as it is. Empty between two calls.
     next_answer: Vec<u8>,
     next_entries: Vec<u8>,
 }

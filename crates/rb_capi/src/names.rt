@@ -1,4 +1,6 @@
 //! Names of accounts, a line each.
+//!
+//! A name that isn't UTF-8 is read as an empty one, which no account may have: so it is refused as such a name is.
 ghost use Rattle.std.specs.Prelude.{◌≡◌, IfOk, map};
 ghost use Rattle.rb_lines.specs.Lines.{lines_of};
 ghost use Rattle.rb_capi.specs.Close.{name_on};

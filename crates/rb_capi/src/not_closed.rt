@@ -12,7 +12,7 @@ pub enum NotClosed {
     Sites,
     /// There is no journal, or the lengths aren't those of the bytes.
     Lengths,
-    /// What the run finds wrong.
+    /// The fault that the run finds.
     Fault(CloseFault),
 }
 

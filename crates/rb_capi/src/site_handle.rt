@@ -1,4 +1,4 @@
-//! What C keeps of a site.
+//! The handle of a site that C keeps. bank_handle.rt says why a site has one of its own.
 ghost use Rattle.std.specs.Prelude.{◌≡◌, MatchOption};
 ghost use Rattle.std.specs.declared.option.Option.{Option};
 ghost use Rattle.std.specs.declared.option.Option.TheVariants.{None, Some};
@@ -13,7 +13,7 @@ use std::alloc::Global;
 use std::marker::Model;
 use std::mem::replace;
 
-/// What C keeps of a site, its `struct rbbank_site`: a pointer that C never follows, or null. All its bytes are zero to
+/// The handle of a site, C's `struct rbbank_site`: a pointer that C never follows, or null. All its bytes are zero to
 /// begin with.
 #[repr(C)]
 pub struct SiteHandle {

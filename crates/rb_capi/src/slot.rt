@@ -1,4 +1,6 @@
 //! A box that C may keep, or nothing.
+//!
+//! The pointer is null exactly if nothing is there, so a slot whose bytes are zero is an empty one.
 ghost use Rattle.std.specs.Prelude.{◌≡◌};
 ghost use Rattle.std.specs.declared.option.Option.{Option};
 ghost use Rattle.std.specs.declared.option.Option.TheVariants.{None, Some};

@@ -1,4 +1,4 @@
--- `into_raw_box` looks whether the pointer is null.
+-- `into_raw_box` checks whether the pointer is null.
 use Rattle.std.proofs.Common.{◌≡◌, List, [], ◌∷◌, ◌++◌, refl, sym, ap, ◌∙◌, subst, lit<}
 use mir.Syntax.{a_type}
 use mir.Val.{Val, vptr, vcons, vnil, has_ty}
