@@ -31,10 +31,10 @@ const WITHDRAW_80: Request = Request::Withdraw {
     amount: 80,
 };
 
-/// What a deposit and a second request answered, and how many shadows were made or kept.
+/// The answers to a deposit and a second request, and how many shadows were made or kept.
 type Tried = (Result<OpName, RunFault>, Result<OpName, RunFault>, usize);
 
-/// What was tried before it was taken back.
+/// A trial that is taken back.
 fn aborted(alloc: Global, ledger: &mut Ledger) -> Tried {
     let sites = ledger.config().sites();
     prove!(0 < sites);
@@ -46,7 +46,7 @@ fn aborted(alloc: Global, ledger: &mut Ledger) -> Tried {
     (first, second, made)
 }
 
-/// What was tried and then committed.
+/// A trial that is committed.
 fn committed(alloc: Global, ledger: &mut Ledger, log: &mut UndoLog) -> Tried {
     let sites = ledger.config().sites();
     prove!(0 < sites);
@@ -76,7 +76,7 @@ fn left_in(ledger: &Ledger) -> Left {
     (ledger.len(), made, ledger.balance(ANN))
 }
 
-/// What is tried and taken back, and what the ledger has then.
+/// A trial that is taken back, and what the ledger has then.
 fn after_abort(alloc: Global) -> Result<(Tried, Left), Fail> {
     let mut ledger = ledger_of(alloc, &[("ann", 0)], Limits::largest())?;
     let tried = aborted(alloc, &mut ledger);
@@ -91,7 +91,7 @@ fn none_are_kept(rt: HostRuntime) -> Result<(), Fail> {
     Ok(())
 }
 
-/// What is tried and committed behind a deposit, how many records are kept, and what the ledger has then.
+/// A trial that is committed behind a deposit, how many records are kept, and what the ledger has then.
 fn after_commit(alloc: Global) -> Result<(Tried, usize, Left), Fail> {
     let mut ledger = ledger_after(alloc, &[("ann", 0)], &DEPOSIT_7)?;
     let mut log = UndoLog::new(alloc);
@@ -109,7 +109,7 @@ fn all_are_kept(rt: HostRuntime) -> Result<(), Fail> {
     Ok(())
 }
 
-/// What the request behind the last that a batch may have is answered, and how many were made.
+/// The answer to the request behind the last that a batch may have, and how many were made.
 fn one_more(alloc: Global, ledger: &mut Ledger) -> (Result<OpName, RunFault>, usize) {
     let sites = ledger.config().sites();
     prove!(0 < sites);

@@ -1,4 +1,4 @@
-//! What was found is compared with what is wanted. Each is one function, proved once: `assert_eq!` in its place is
+//! Comparisons of what was found with what is wanted. Each is one function, proved once: `assert_eq!` in its place is
 //! proved anew wherever it is written.
 use std::fmt::Debug;
 use std::process::Abort;

@@ -14,7 +14,7 @@ const OF_NO_SITE: OpName = OpName::Blue {
     n: 1,
 };
 
-/// What counts the first name alone.
+/// The counts of a clock that counted the first name alone.
 fn one() -> Deps {
     let mut blue = [0; MOST_SITES];
     blue[1] = 1;

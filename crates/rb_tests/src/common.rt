@@ -1,4 +1,4 @@
-//! What several modules of tests open.
+//! The names, configurations and ledgers of several modules of tests.
 ghost use Rattle.std.specs.Prelude.{◌≡◌, [], IfOk};
 
 use rb_ledger::Ledger;
@@ -81,7 +81,7 @@ pub fn shadow_of(operation: Operation) -> Shadow {
     }
 }
 
-/// Applies an operation. Its position, where it was eligible and isn't refused.
+/// Applies an operation. Its position, if it was eligible and isn't refused.
 fn applied(ledger: &mut Ledger, shadow: Shadow) -> Option<u32> {
     let eligible = ledger.is_eligible(&shadow);
     let Ok(undo) = ledger.apply(shadow) else {

@@ -92,14 +92,14 @@ fn take_next(rt: &impl Abort, inbox: &mut Inbox, clock: &mut Clock, shadow: Shad
     clock.advance(&shadow.name);
 }
 
-/// What a shadow is answered that isn't ready, unless it is the first of site 0.
+/// The answer to a shadow that isn't ready, unless it is the first of site 0.
 fn answer_to(inbox: &mut Inbox, shadow: Shadow) -> Result<PutAnswer, Refusal>
     requires { IsNumbered shadow }
 {
     inbox.put(shadow, &Clock::zero())
 }
 
-/// What is asked for before anything is applied.
+/// The answer if a shadow is taken before anything is applied.
 fn answer_at_taking(inbox: &mut Inbox, name: OpName) -> Result<Shadow, Refusal>
     requires { HasEntry name }
 {

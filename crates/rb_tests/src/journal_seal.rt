@@ -37,7 +37,7 @@ fn a_sealed_file_is_damaged_for_those_that_know_no_seal(rt: HostRuntime) -> Resu
 }
 
 /// Seals the journal of a file with these bytes, which has a line, over a host of which a number of calls succeed once
-/// the journal is open. What came of it, and the host.
+/// the journal is open. The outcome, and the host.
 fn sealed_over(
     alloc: Global,
     bytes: &[u8],

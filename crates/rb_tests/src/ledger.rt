@@ -124,8 +124,8 @@ fn cancellations_are_counted(rt: HostRuntime) -> Result<(), Fail> {
 /// The rows of sites after the withdrawal and its two cancellations. There are two sites.
 const ROWS: [(u8, &[u32]); 4] = [(0, &[2]), (1, &[3]), (2, &[]), (255, &[])];
 
-/// What the ledger finds of the withdrawal and its two cancellations: where names are, where each entry is first
-/// cancelled and how often, and what the rows have.
+/// The ledger's findings about the withdrawal and its two cancellations: the positions of names, each entry's first
+/// cancellation and number of cancellations, and what the rows have.
 fn finds(rt: &impl Abort, ledger: &Ledger) {
     let found = [
         ledger.find(&RED_1),
@@ -158,7 +158,7 @@ fn finds(rt: &impl Abort, ledger: &Ledger) {
     equal(rt, entries, (ledger.entry(2), None, 1));
 }
 
-/// What the ledger lends of the three operations: how many there are, and the name and the whole of the third.
+/// The parts that the ledger lends of the three operations: their number, and the name and the whole of the third.
 fn lends(rt: &impl Abort, ledger: &Ledger) {
     let entries = ledger.entries();
     equal(rt, (entries.len(), entries.is_empty()), (3, false));
@@ -183,7 +183,7 @@ fn looks_up(rt: HostRuntime) -> Result<(), Fail> {
 /// A deposit of 100 cents, made first of all.
 const KNOWN: Operation = (BLUE_1, 0, (0, 0), ANN, 100, Kind::Deposit);
 
-/// What is refused after it.
+/// The operations that are refused after it.
 const REFUSED: [(Operation, Refusal); 7] = [
     (
         (BLUE_1, 2, (0, 0), ANN, 100, Kind::Deposit),
@@ -243,7 +243,7 @@ fn is_refused(ledger: &mut Ledger, operation: Operation, refusal: Refusal) -> bo
     }
 }
 
-/// What is refused is handed back, and nothing moves.
+/// An operation that is refused is handed back, and nothing moves.
 #[test]
 fn refuses(rt: HostRuntime) -> Result<(), Fail> {
     for (operations, refused, balances) in REFUSALS {

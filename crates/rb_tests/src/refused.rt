@@ -1,6 +1,6 @@
-//! What holds after running out of memory. `refuse_each` and `reserved` pass whether or not an allocation is refused,
-//! and at most one of their process is: tests/refuse.py runs them with each refused in turn. `whole_run` and
-//! `other_runs` pass only where none is refused, and no world stops.
+//! Tests of running out of memory. `refuse_each` and `reserved` pass whether or not an allocation is refused, and at
+//! most one of their process is: tests/refuse.py runs them with each refused in turn. `whole_run` and `other_runs`
+//! pass only if none is refused, and no world stops.
 ghost use Rattle.std.specs.Prelude.{◌≡◌, [], All, IfOk};
 ghost use Rattle.rb_ledger.specs.Records.{records_of};
 ghost use Rattle.rb_site.specs.Worlds.{IsCommand};
@@ -21,7 +21,7 @@ use std::alloc::{AllocError, Global};
 use std::process::Abort;
 use std::test::Fail;
 
-/// What is asked for, or, where that is refused memory, what is given when it is asked for again.
+/// The result of a call or, if that is refused memory, of the same call once more.
 macro_rules! twice {
     ($call:expr) => {
         match $call {

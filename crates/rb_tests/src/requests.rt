@@ -1,4 +1,4 @@
-//! Tests of requests, each by itself. What each makes and why it is refused is in tests/cases, scripts.cases.
+//! Tests of requests, each by itself. Their operations and refusals in scripts are in tests/cases, scripts.cases.
 use crate::checks::equal;
 use crate::common::{
     ANN, BLUE_1, BLUE_2, BLUE_3, BOB, Operation, RED_1, RED_2, RED_3, ledger_after, ledger_of,
@@ -103,7 +103,7 @@ const BLUE_4: OpName = OpName::Blue { site: 0, n: 4 };
 /// Ann starts with 100 cents and bob with the most, and a site makes at most four blue operations.
 const ACCOUNTS: [(&str, u64); 2] = [("ann", 100), ("bob", MOST_CENTS)];
 
-/// What requests make.
+/// Requests, and the operations that they make.
 const EACH: [(TokenView, Request, Answer); 6] = [
     (HOLDER, ask!(deposit ANN, 5), Ok((BLUE_1, Kind::Deposit, 5))),
     (
@@ -133,7 +133,7 @@ const EACH: [(TokenView, Request, Answer); 6] = [
     ),
 ];
 
-/// What transfers make.
+/// Transfers, and the operations that they make.
 const TRANSFERS: [(TokenView, Request, Answer); 3] = [
     (
         HOLDER,
@@ -152,7 +152,7 @@ const TRANSFERS: [(TokenView, Request, Answer); 3] = [
     ),
 ];
 
-/// What is refused once the numbers of blue operations are used up.
+/// Requests until the numbers of blue operations are used up, and those that are refused then.
 const USED_UP: [(TokenView, Request, Answer); 17] = [
     (HOLDER, ask!(deposit ANN, 5), Ok((BLUE_1, Kind::Deposit, 5))),
     (
@@ -205,7 +205,7 @@ const USED_UP: [(TokenView, Request, Answer); 17] = [
     (HOLDER, ask!(cancel BLUE_3), Err(Refusal::WouldOverdraw)),
 ];
 
-/// What a request makes at site 0, which then applies it.
+/// The operation that a request makes at site 0, which then applies it.
 fn made(rt: &impl Abort, ledger: &mut Ledger, token: TokenView, request: &Request) -> Answer {
     let sites = ledger.config().sites();
     if token.me >= sites {

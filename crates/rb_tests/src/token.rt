@@ -1,4 +1,4 @@
-//! Tests of the token. What a site refuses of it is in the worked rows and in forged.rt.
+//! Tests of the token. The messages of it that a site refuses are in the worked rows and in forged.rt.
 use crate::checks::equal;
 use crate::common::{RED_1, config_of};
 use rb_money::{Limits, Refusal};

@@ -23,10 +23,10 @@ fn short_bank(alloc: Global) -> Result<Config, Fail> {
     config_of(alloc, 2, &[("ann", 0)], limits)
 }
 
-/// What a site answers to events, each with whether it has an entry, and how many messages it sent.
+/// A site's replies to events, each with whether it has an entry, and how many messages it sent.
 type Answers = (Vec<(Reply, bool)>, usize);
 
-/// What the site answers to these events.
+/// The site's answers to these events.
 fn answers(alloc: Global, site: &mut Site, events: &[Event]) -> Result<Answers, AllocError> {
     let mut found = Vec::new(alloc);
     let mut sent = Vec::new(alloc);

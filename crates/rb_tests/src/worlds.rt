@@ -117,7 +117,7 @@ fn one_event_is_recorded(rt: HostRuntime) -> Result<(), Fail> {
     Ok(())
 }
 
-/// What a site reports of the withdrawal that two sites cancelled.
+/// A site's report of the withdrawal that two sites cancelled.
 fn reports(rt: &impl Abort, place: usize, report: &SiteReport) {
     let numbers = [
         report.me as usize,
@@ -290,7 +290,7 @@ pub fn reports_of(alloc: Global, script: &str) -> Result<Vec<SiteReport>, LineFa
     }
 }
 
-/// What site 0 applied after a script.
+/// The operations that site 0 applied in a script.
 pub fn applied_at_first(alloc: Global, script: &str) -> Result<Vec<Shadow>, LineFault> {
     let reports = reports_of(alloc, script)?;
     let Some(report) = reports.first() else {
