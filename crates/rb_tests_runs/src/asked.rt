@@ -11,7 +11,7 @@ use std::alloc::{AllocError, Global};
 use std::process::Abort;
 use std::test::Fail;
 
-/// What is asked for, or, where that is refused memory, what is given when it is asked for again.
+/// The result of a call or, if that is refused memory, of the same call once more.
 macro_rules! twice {
     ($call:expr) => {
         match $call {
@@ -112,7 +112,7 @@ fn answered(
     stopped
 }
 
-/// A whole row. Where memory is refused, the site is opened again with the entries by then, and the line is asked once
+/// A whole row. If memory is refused, the site is opened again with the entries by then, and the line is asked once
 /// more. How many lines were done then.
 fn stopped_at(rt: &(impl Abort + AllocGlobal), row: &AskedRow) -> Result<Option<usize>, Fail> {
     let mut texts = Texts::none(rt.alloc());

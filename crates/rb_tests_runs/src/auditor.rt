@@ -1,4 +1,4 @@
-//! Certificates that are checked. What audits find is in tests/cases, audits.cases.
+//! Certificates that are checked. The findings of audits are in tests/cases, audits.cases.
 use crate::checks::equal;
 use rb_auditor::{Certificate, check};
 use rb_history::{read_config, read_line};
@@ -9,12 +9,12 @@ use std::test::Fail;
 
 const TWO_SITES: &str = r#"{"accounts":[["ann",0]],"sites":2,"version":1}"#;
 
-/// What site 0 records of one deposit.
+/// The entries of site 0 for one deposit.
 const AT_HOME: &str =
     r#"{"event":{"deposit":["ann",500]},"reply":{"kind":"deposit","name":"B0.1"},"site":0}
 {"event":{"balance":"ann"},"reply":{"balance":500},"site":0}"#;
 
-/// What site 1 records as the deposit comes and is applied.
+/// The entries of site 1 as the deposit comes and is applied.
 const AWAY: &str = r#"{"event":{"balance":"ann"},"reply":{"balance":0},"site":1}
 {"event":{"shadow":{"account":"ann","amount":500,"deps":[[0,0,0,0,0,0,0,0],0],"home":0,"kind":"deposit","name":"B0.1"}},"reply":{"held":"B0.1"},"site":1}
 {"event":{"apply":"B0.1"},"reply":{"applied":"B0.1"},"site":1}

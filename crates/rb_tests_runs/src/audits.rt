@@ -1,4 +1,4 @@
-//! Audits over bytes in memory. What audits answer is in tests/cases.
+//! Audits over bytes in memory. The answers of audits are in tests/cases.
 
 use crate::scripts::{CONFIGURATION, Case, Ends, FAILING, Program, TEN, WHOLE, each_fails};
 use rb_lines::ScriptFault;

@@ -220,7 +220,7 @@ fn file(alloc: Global, parts: Parts<'_>) -> Result<String, AllocError> {
     format!(in alloc; "{head}\n{entries}{end}")
 }
 
-/// What is said of the first of two journals that is wrong, or nothing.
+/// The message about the first of two journals that is wrong, or nothing.
 fn said(alloc: Global, first: Parts<'_>, second: Parts<'_>) -> Result<String, Fail> {
     let first = file(alloc, first)?;
     let second = file(alloc, second)?;
@@ -299,7 +299,7 @@ const ADDED: [(&[&str], bool, &str); 9] = [
     (&[], true, ""),
 ];
 
-/// What is said of accounts that are added to a bank, which may be known; or nothing.
+/// The message about accounts that are added to a bank, which may be known; or nothing.
 fn said_of_added(alloc: Global, added: &[&str], known: bool) -> Result<String, Fail> {
     let config = read_config(alloc, HEAD)?;
     let checked = check_added(alloc, added, if known { Some(&config) } else { None });

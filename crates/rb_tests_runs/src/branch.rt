@@ -17,7 +17,7 @@ use std::sync::Wait;
 use std::sync::ledger::{Blank, Ledger};
 use std::test::Fail;
 
-/// What one thread does at a branch, and the seats that it gives back.
+/// The calls of one thread at a branch, and the seats that it gives back.
 pub trait Case {
     fn calls<E: Entries, R: Ledger, G: Gate + Drop, W: Wait + Abort + Print>(
         &self,
@@ -223,7 +223,7 @@ fn served(rt: HostRuntime) -> Result<(), Fail> {
     Ok(())
 }
 
-/// A seat at a site that there isn't, and one more than there are.
+/// A seat at a site that doesn't exist, and one seat more than a branch gives.
 struct Seats;
 
 impl Case for Seats {
@@ -246,7 +246,7 @@ impl Case for Seats {
     }
 }
 
-/// A second entry where the history takes one.
+/// A second entry if the history takes one.
 struct Full;
 
 impl Case for Full {

@@ -1,4 +1,4 @@
-//! What was found is compared with what is wanted, as in rb_tests, whose own is for its tests alone. Each is one
+//! Comparisons of what was found with what is wanted, as in rb_tests, whose own are for its tests alone. Each is one
 //! function, proved once: `assert_eq!` in its place is proved anew wherever it is written.
 use std::fmt::Debug;
 use std::process::Abort;

@@ -1,5 +1,5 @@
-//! Lines of commands and configurations. What a line is read as is compared as Rust's `Debug` writes it. Bad lines are
-//! in tests/cases, bad_lines.cases.
+//! Lines of commands and configurations. The value of a line is compared as Rust's `Debug` writes it. Bad lines are in
+//! tests/cases, bad_lines.cases.
 
 use crate::checks::{equal, equal_at};
 use rb_history::{LineFault, read_command, read_config, read_line, write_config};

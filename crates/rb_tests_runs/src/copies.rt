@@ -17,7 +17,7 @@ use std::test::Fail;
 const CONFIGURATION: &str =
     r#"{"accounts":[["ann",0]],"blue":1000000,"epoch":4000000000,"history":100000000,"inbox":4096,"red":1000000,"sites":2,"version":1}"#;
 
-/// What two sites record of a deposit that reaches the other site.
+/// The entries of two sites for a deposit that reaches the other site.
 const HISTORIES: &str =
     r#"{"event":{"deposit":["ann",500]},"reply":{"kind":"deposit","name":"B0.1"},"site":0}
 {"event":{"balance":"ann"},"reply":{"balance":500},"site":0}
@@ -86,7 +86,7 @@ fn replayed(alloc: Global, config: &Config, events: &[Event]) -> Result<String, 
     Ok(text)
 }
 
-/// What site 1 records, and its events.
+/// The lines of site 1's entries, and its events.
 fn recorded_at_1(
     rt: &impl Abort,
     alloc: Global,

@@ -1,4 +1,4 @@
-//! Lines of histories. What a line is read as is compared as Rust's `Debug` writes it. Other lines are in tests/cases,
+//! Lines of histories. The value of a line is compared as Rust's `Debug` writes it. Other lines are in tests/cases,
 //! bad_lines.cases and migrations.cases.
 
 use crate::checks::{equal, holds};

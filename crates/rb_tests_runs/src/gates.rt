@@ -1,4 +1,7 @@
 //! Which calls go on while one is inside a gate.
+//!
+//! The gate holds a call at site 0 until another site has answered. With one lock for both sites that answer would be
+//! late. A second call at site 0 has time to come meanwhile: without the site's lock it would be early.
 
 use crate::branch::{asked, some_sites, to_the_second};
 use crate::checks::{equal, holds};
@@ -16,7 +19,7 @@ use std::thread::{Threads, join};
 /// For how many looks the call behind the held one is watched.
 const WATCHED: u32 = 100;
 
-/// What the gate and the calls show one another. The held call is the first at site 0.
+/// The flags that the gate and the calls show one another. The held call is the first at site 0.
 #[derive(Drop)]
 pub struct Signs {
     held: Flag,
@@ -52,7 +55,7 @@ impl Signs {
         }
     }
 
-    /// Waits for a flag, and notes where it doesn't come.
+    /// Waits for a flag, and notes if it doesn't come.
     fn wants<W: Wait + Clock>(&self, rt: &W, flag: &Flag) {
         if !flag.comes(rt) {
             self.late.raise(rt);
@@ -117,7 +120,7 @@ fn asked_and_deposited<E: Entries, R: Ledger, G: Gate + Drop, W: Wait>(
     many_deposits(rt, branch, seat, outbox)
 }
 
-/// Once a call is held at site 0: a question and an application at site 1, where nothing is ready, and then one more
+/// Once a call is held at site 0: a question and an application at site 1, which has nothing ready, and then one more
 /// question at site 0, and deposits.
 fn asked_meanwhile<E: Entries, R: Ledger, G: Gate + Drop, W: Wait + Clock>(
     rt: &W,

@@ -27,7 +27,7 @@ fn histories_are_written(rt: HostRuntime) {
     );
 }
 
-/// At a fault of the script nothing is written; a prefix is where a write failed.
+/// At a fault of the script nothing is written; if a write failed, a prefix is.
 const FAILED: [Case; 3] = [
     (Program::Histories, DEPOSIT, FAILING, ScriptFault::Read, ""),
     (

@@ -1,4 +1,4 @@
-//! What goes by the links between sites, and what is served of it.
+//! The messages that go by the links between sites, and those of them that are served.
 
 use crate::branch::{
     Case, balance_is, deposit, deposited, gathered, served_by, some_sites, to_the_second,
@@ -25,7 +25,7 @@ struct Sent {
     brought: [&'static str; 3],
 }
 
-/// What links 1 and 2 bring.
+/// The messages that links 1 and 2 bring.
 const BLUES: &str = "B0.1 B0.2 B0.3 ";
 
 const ALL: &str = "B0.1 token B0.2 B0.3 ";
@@ -63,7 +63,7 @@ const SENT: [Sent; 5] = [
     },
 ];
 
-/// What a link brings to its end.
+/// The messages that a link brings to its end.
 fn brought<W: Wait>(rt: &W, alloc: Global, inlet: &mut Inlet) -> Result<String, AllocError> {
     let mut text = String::new(alloc);
     // One more than can come.

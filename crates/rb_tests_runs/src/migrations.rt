@@ -1,4 +1,4 @@
-//! Migrations over bytes in memory. What migrations write is in tests/cases.
+//! Migrations over bytes in memory. The lines that migrations write are in tests/cases.
 
 use crate::checks::equal;
 use crate::scripts::{CONFIGURATION, Case, FAILING, Program, TEN, WHOLE, each_fails, ran};

@@ -1,5 +1,5 @@
 //! Scripts over bytes in memory: pieces of each size, reads and writes that fail, and the order of reads and writes.
-//! What scripts answer is in the worked rows and in tests/cases.
+//! The answers to scripts are in the worked rows and in tests/cases.
 ghost use Rattle.std.specs.Prelude.{◌≡◌, false, None};
 
 use crate::checks::{equal, holds};
@@ -55,7 +55,7 @@ const BALANCE: &str = r#"{"balance":"ann","site":0}"#;
 
 const BALANCE_REPLY: &str = "{\"balance\":0}\n";
 
-/// What runs over the input.
+/// The program that runs over the input.
 #[derive(Clone, Copy)]
 pub enum Program {
     Script,
@@ -91,7 +91,7 @@ pub const TEN: Ends = Ends { left: 10, ..WHOLE };
 
 const NONE: Ends = Ends { left: 0, ..WHOLE };
 
-/// What a run over this text answers, and what it writes. An audit answers 1 for an order and 0 for a fault, and
+/// The answer of a run over this text, and what it writes. An audit answers 1 for an order and 0 for a fault, and
 /// histories that are written 0.
 pub fn ran(
     alloc: Global,
@@ -122,7 +122,7 @@ fn answers_in_any_pieces(rt: HostRuntime) {
 /// A program, its input, how it is read and written, and what is answered and written.
 pub type Case = (Program, &'static str, Ends, ScriptFault, &'static str);
 
-/// Reads and writes that fail. A reply that can't be written is why a run ends, also where a bad line comes after it.
+/// Reads and writes that fail. A reply that can't be written is why a run ends, also if a bad line comes after it.
 const FAILED: [Case; 5] = [
     (
         Program::Script,
@@ -330,8 +330,8 @@ fn refuse_script(rt: HostRuntime) -> Result<(), Fail> {
     let row = row_named("deposit_reaches_the_other_site")?;
     let mut reader = FromBytes::new(row.script.as_bytes());
     let mut writer = ToBytes::new(rt.alloc());
-    // Spare capacity for the text, so that no write takes memory. Where it is refused, it is had at once when it is
-    // asked for again.
+    // Spare capacity for the text, so that no write takes memory. If it is refused, it is had at once when it is asked
+    // for again.
     let capacity = row.replies.len().saturating_add(1);
     if writer.taken.reserve(capacity).is_err() {
         writer.taken.reserve(capacity)?;

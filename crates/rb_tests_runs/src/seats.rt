@@ -1,5 +1,5 @@
-//! Worked rows through seats and links. What is delivered is what the links brought, in the order of sending,
-//! and what is applied is what the site has ready.
+//! Worked rows through seats and links. A delivery is of what the links brought, in the order of sending, and an
+//! application is of what the site has ready.
 //!
 //! `refuse_seats` passes whether or not an allocation is refused, and at most one of its process is:
 //! tests/refuse.py runs it with each refused in turn.
@@ -20,7 +20,7 @@ use std::sync::Wait;
 use std::sync::ledger::Ledger;
 use std::test::Fail;
 
-/// What is asked for, or, where that is refused memory, what is given when it is asked for again.
+/// The result of a call or, if that is refused memory, of the same call once more.
 macro_rules! twice {
     ($call:expr) => {
         match $call {
@@ -30,8 +30,8 @@ macro_rules! twice {
     };
 }
 
-/// The seats of two sites, the links between them, and what they brought so far: `None` where a link refused a
-/// message, which it does only where memory may be refused.
+/// The seats of two sites, the links between them, and what they brought so far: `None` if a link refused a
+/// message, which it does only if memory may be refused.
 #[derive(Drop)]
 struct Desks<E: Entries, R: Ledger> {
     seats: Vec<Seat<E, R>>,
@@ -41,7 +41,7 @@ struct Desks<E: Entries, R: Ledger> {
     may_lose: bool,
 }
 
-/// The call that an event is. Its receipt's place in the seat, or `None` where nothing is to be applied.
+/// The call that an event is. Its receipt's place in the seat, or `None` if nothing is to be applied.
 fn called<E: Entries, R: Ledger, G: Gate + Drop, W: Wait>(
     rt: &W,
     branch: &Branch<E, R, G>,
@@ -63,7 +63,7 @@ fn called<E: Entries, R: Ledger, G: Gate + Drop, W: Wait>(
     Ok(Some(number))
 }
 
-/// The same, made again where there was no memory for it: the seat has no receipt more then. Whether it was.
+/// The same, made again if there was no memory for it: the seat has no receipt more then. Whether it was.
 fn called_again<E: Entries, R: Ledger, G: Gate + Drop, W: Wait + Abort>(
     rt: &W,
     alloc: Global,
@@ -93,7 +93,7 @@ fn sent_with(reply: &Reply) -> usize {
     }
 }
 
-/// Takes in what a link brought, `count` messages but those that it refused. Where it refused any, none is known.
+/// Takes in what a link brought, `count` messages but those that it refused. If it refused any, none is known.
 fn take_in<W: Wait>(
     rt: &W,
     inlet: &mut Inlet,
@@ -111,7 +111,7 @@ fn take_in<W: Wait>(
     Ok(())
 }
 
-/// What a command is at a seat.
+/// The step of a seat that a command is.
 #[derive(Drop)]
 enum Step {
     At(u8, Event),
@@ -136,7 +136,7 @@ fn step_of(command: WorldEvent, sent: &[Option<Message>]) -> Step {
     }
 }
 
-/// What a world answers where no such message was sent.
+/// The answer of a world if no such message was sent.
 const NO_MESSAGE: &str = r#"{"refused":19}"#;
 
 impl<E: Entries, R: Ledger> Desks<E, R> {

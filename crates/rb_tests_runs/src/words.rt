@@ -1,5 +1,5 @@
-//! The words of the command line: their limits in the help, and what options are read as. What words are taken is in
-//! tests/cases.
+//! The words of the command line: their limits in the help, and what options are read as. The words that are taken are
+//! in tests/cases.
 
 use crate::checks::{equal, holds};
 use clap::error::ErrorKind;
@@ -156,7 +156,7 @@ fn seals_are_read(rt: HostRuntime) {
     }
 }
 
-/// Accounts and journals are read in order, also where one is among the others, and what is behind two hyphens is a
+/// Accounts and journals are read in order, also if one is among the others, and what is behind two hyphens is a
 /// journal.
 #[test]
 fn books_are_read(rt: HostRuntime) {
