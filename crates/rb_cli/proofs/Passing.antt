@@ -65,7 +65,7 @@ never k ks e = cc e
 
 -- ---- rows
 
--- the rule is a switch: where it is used without a value, it has one
+-- the rule is a switch: if it is used without a value, it has one
 abbrev pub IsSwitchRule : Rule → Type 0
 IsSwitchRule a = (action_of a ≡ SetTrue) × (word : Text) × (words : List Text) × (a.missing ≡ word ∷ words)
 

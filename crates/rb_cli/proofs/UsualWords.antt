@@ -157,13 +157,13 @@ end_fault app end = or_else (entered_fault app end.stopped)
 abbrev stopped_at : Text → List Text → Walk
 stopped_at name words = record (walk_from nothing_held) { stopped = Some (name, words) }
 
--- ---- where the options' names stand
+-- ---- the places of the options' names
 
 -- two texts behind one another
 abbrev Pair : Text → Text → Text → Text → Type 0
 Pair a b name value = (a ≡ name) × (b ≡ value)
 
--- where an option is given among three, or among two
+-- if an option is given among three, or among two
 abbrev InThree : Text → Text → Text → Text → Text → Text → Text → Text → Type 0
 InThree a b d e f g name value = Pair a b name value ⊎ (Pair d e name value ⊎ Pair f g name value)
 

@@ -81,7 +81,7 @@ record_word Changes = codes "changes"
 record_word All = codes "all"
 
 -- the words are these others, with `--record` and the word for what is recorded behind all of them; or without both,
--- where changes are recorded
+-- if changes are recorded
 abbrev pub IsRecordGiven : Record → List (List ℕ) → List (List ℕ) → Type 0
 IsRecordGiven recorded words others =
     (words ≡ others ++ codes "--record" ∷ record_word recorded ∷ []) ⊎ ((recorded ≡ Changes) × (words ≡ others))

@@ -84,7 +84,7 @@ open_reported law x lists line c one is some written = record {
 
 -- ---- closed books
 
--- where no list has a name the books may be closed
+-- if no list has a name the books may be closed
 pub closed_reported : OpenListsAreLacking → (x : Input) (lists : List (List OpName)) → IsConfigured x.settings
     → AreOneWorlds x.settings x.histories → lists ≡ map (lacked x.settings.sites (applied_in x)) (applied_in x)
     → ((i : ℕ) (list : List OpName) → slice_get lists i ≡ Some list → list ≡ []) → MayBeClosed (applied_in x)

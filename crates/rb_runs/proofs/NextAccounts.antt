@@ -161,7 +161,7 @@ count_of (a ∷ names) (x ∷ starts) (b ∷ balances) added e f =
     ap suc (count_of names starts balances added (let k : length starts ≡ length names = omega (arith, e) in k)
     (let k : length balances ≡ length names = omega (arith, f) in k))
 
--- where nothing is wrong but, perhaps, what the accounts start with, nothing is wrong with balances that they may start
+-- if nothing is wrong but, perhaps, what the accounts start with, nothing is wrong with balances that they may start
 -- with
 pub no_fault : (s : Settings) (balances : List ℕ) (ask : NextBank) → IsConfigured s → length balances ≡ length s.names
     → ((k n : ℕ) → slice_get balances k ≡ Some n → n ≤ MOST_CENTS)
@@ -189,7 +189,7 @@ next_sites_fit : (s : Settings) (o : Option ℕ) → IsConfigured s → IfSome o
 next_sites_fit s None c fit = sites_fit s.sites c.some_sites c.few_sites
 next_sites_fit s (Some n) c fit = sites_fit n fit.0 fit.1
 
--- where accounts may be added to a bank whose accounts start with nothing, nothing is wrong with the next bank but,
+-- if accounts may be added to a bank whose accounts start with nothing, nothing is wrong with the next bank but,
 -- perhaps, what the accounts start with
 pub may_be_next : (s : Settings) (ask : NextBank) → IsConfigured s → IfSome ask.sites (λ n. (2 ≤ n) × (n ≤ MOST_SITES))
     → config_fault s.sites (next_accounts s (replicate (length s.names) 0) (record { sites = None; added = ask.added })) s.limits ≡ None

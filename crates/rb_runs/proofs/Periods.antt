@@ -1,4 +1,4 @@
--- Periods, each of which goes on where the one before ends, are one bank.
+-- Periods, each of which goes on if the one before ends, are one bank.
 use Rattle.std.proofs.Common.{◌≡◌, ◌<◌, ℕ, List, [], ◌∷◌, length, Some, ap, ◌∙◌, arith}
 use Rattle.std.specs.Prelude.{pos, ◌+ℤ◌, slice_get}
 use Rattle.std.proofs.lemmas.Int.{ints}

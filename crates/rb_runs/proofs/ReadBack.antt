@@ -37,7 +37,7 @@ unlong : (b : Bool) → not b ≡ true → b ≡ false
 unlong true e = absurd (cc)
 unlong false e = refl
 
--- where no line is long, the first isn't, and none of the rest
+-- if no line is long, the first isn't, and none of the rest
 short_first : (bytes l : List ℕ) (ls : List (List ℕ)) → lines_of bytes ≡ l ∷ ls → HasShortLines bytes
     → (is_long l ≡ false) × (list_all (λ l. not (is_long l)) ls ≡ true)
 short_first bytes l ls e h =

@@ -73,7 +73,7 @@ one-more-taken old new ask files all file e taken took added = record {
 
 -- ---- a later journal is of the same bank
 
--- the settings of a bank, or these where there is a fault
+-- the settings of a bank, or these if there is a fault
 abbrev settings-or : Settings → Result Audited JournalFault → Settings
 settings-or s (Ok a) = a.settings
 settings-or s (Err why) = s
@@ -211,9 +211,9 @@ unfolding settings-of
 config-is now None auditor bank is empty = let wrong : Some bank ≡ None = sym is ∙ empty in cc
 config-is now (Some c) auditor bank is (b, same, e) = ap Some (e ∙ ap (settings-of bank.settings) (sym same ∙ is))
 
--- ---- where all were taken
+-- ---- if all were taken
 
--- there is a bank where all of some journals were taken
+-- there is a bank if all of some journals were taken
 pub bank-there : (c : Closing) (ask : NextBank) (files : List (List ℕ)) (journals : ℕ) → HasTaken c ask files → c.taken ≡ journals
     → 1 ≤ journals → ¬ (c.auditor ≡ None)
 bank-there c ask files journals taken all some none = by files refl

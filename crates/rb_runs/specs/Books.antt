@@ -123,7 +123,7 @@ pub record ReportsLimit (x : Input) (line : List ℕ) : Type 0 where
       → IsFirstAbove (balances_of x.settings us) place
   pub line_is : line ≡ verdict_line (limit_json name)
 
--- where no balance of these operations is above what an account may start with, the line is that of the next
+-- if no balance of these operations is above what an account may start with, the line is that of the next
 -- configuration
 pub record StartsNext (ask : NextBank) (s : Settings) (us : List Shadow) (line : List ℕ) : Type 0 where
   pub few : (j n : ℕ) → slice_get (balances_of s us) j ≡ Some n → n ≤ MOST_CENTS

@@ -36,7 +36,7 @@ pub record HasTaken (c : Closing) (ask : NextBank) (files : List (List ℕ)) : T
   pub said : with_files c.journals 0 None files ≡ Ok c.auditor
   pub added : IfSome c.auditor (λ (bank : Audited). added_fault (Some bank.settings) ask.added ≡ None)
 
--- the result of closing the books where these files were read, of this number of journals, and this was written
+-- the result of closing the books if these files were read, of this number of journals, and this was written
 abbrev pub ClosesAs : NextBank → ℕ → List (List ℕ) → Result Bool CloseFault → List ℕ → Type 0
 ClosesAs ask journals files (Ok closed) text = IsClosing ask journals files closed text
 ClosesAs ask journals files (Err Write) text =

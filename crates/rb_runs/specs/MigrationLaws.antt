@@ -41,7 +41,7 @@ pub record IsSameInput (input text : List ℕ) : Type 0 where
   pub after : HasShortLines text
       → input_of (lines_of text) ≡ Ok (record { settings = in_version_2 taken.settings; histories = taken.histories })
 
--- where a migration of these bytes has no fault, an audit takes the text that it writes as what it takes the bytes as,
+-- if a migration of these bytes has no fault, an audit takes the text that it writes as what it takes the bytes as,
 -- in version 2
 abbrev pub MigrationsAreRead : Type 0
 MigrationsAreRead = (input : List ℕ) → (migration_of (lines_of input)).fault ≡ None → IsSameInput input (migration_of (lines_of input)).text

@@ -23,7 +23,7 @@ use Rattle.rb_cli.specs.declared.recorded.Record.TheVariants.{Changes, All}
 use Rattle.rb_run_site.specs.declared.fault.SiteFault.{SiteFault}
 use Rattle.rb_run_site.specs.declared.fault.SiteFault.TheVariants.{NoJournal, JournalThere, InUse, Journal, OutOfMemory, Write}
 
--- how many last entries have what they sent put out again: where it isn't said, all that a history can have
+-- how many last entries have what they sent put out again: if it isn't said, all that a history can have
 abbrev pub most_of : Option ℕ → ℕ
 most_of (Some n) = n
 most_of None = 2 ^ 64 - 1
