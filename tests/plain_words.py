@@ -1,7 +1,8 @@
 #!/usr/bin/env python3
 """Counts what costs a reader a second look, and prints two tables: words in docs, in doc comments, in comments at
-definitions, in other comments and in names; and of each page its words and the mean length of its sentences. Below them
-are the lines of docs, crates/*/src, scripts in Python, play/ and the Makefile that are too long.
+definitions, in other comments and in names; and of each page its words and the mean length of its sentences, which is
+that of doc comments and of comments at definitions too. Below them are the lines of docs, crates/*/src, scripts in
+Python, play/ and the Makefile that are too long.
 
 usage: plain_words.py              the tables and the lines
        plain_words.py --check      the same, and ends in status 1 if a number is above the one stored here, a page isn't
@@ -71,7 +72,8 @@ PAGES = {
     "docs/DECISIONS.md": (2000, 17),
     "docs/FORMAT.md": (4290, 19),
     "docs/PROVED.md": (3500, 17),
-    "docs/RUNNING.md": (2470, 15),
+    "docs/PERIODS.md": (1010, 15),
+    "docs/RUNNING.md": (1500, 15),
     "docs/TUTORIAL.md": (2100, 15),
     "examples/README.md": (1620, 14),
     "examples/broker/README.md": (260, 17),
@@ -139,6 +141,23 @@ def kinds():
             names]
 
 
+def blocks(mark, text):
+    """The comments of a text whose lines begin with a mark, each a paragraph."""
+    found = re.findall(rf"(?m)(?:^[ \t]*{mark}.*\n)+", text)
+    return "\n\n".join(re.sub(rf"(?m)^[ \t]*{mark} ?", "", block).strip() for block in found)
+
+
+def comment_means():
+    """Prints the mean length of the sentences of doc comments and of comments at definitions, and gives those above
+    the longest that a page may have."""
+    for shown, place, mark in (("doc comments", "crates/*/src/**/*.rt", "//[/!]"),
+                               ("definitions", "crates/*/specs/**/*.antt", "--")):
+        length = mean("\n\n".join(blocks(mark, text) for _, text in files(place)))
+        print(f"{shown:48}{f'{length:.1f} of {LONGEST_MEAN}':>16}")
+        if length > LONGEST_MEAN:
+            yield f"the sentences of {shown} are longer than they may be"
+
+
 def count(pattern, text):
     """How often a wording is in a text; a space may be the end of a line."""
     return len(re.findall(pattern.replace(" ", r"\s+"), text, re.MULTILINE))
@@ -192,7 +211,7 @@ def too_long():
 def main():
     if sys.argv[1:] not in ([], ["--check"]):
         sys.exit(__doc__)
-    wrong = [*wordings(), *lengths(), *too_long()]
+    wrong = [*wordings(), *lengths(), *comment_means(), *too_long()]
     print("\n".join(["", *wrong]) if wrong else "", end="\n" if wrong else "")
     if wrong and sys.argv[1:]:
         sys.exit(1)
