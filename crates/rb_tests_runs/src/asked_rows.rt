@@ -1,5 +1,7 @@
 //! Rows of a site that is asked by lines: what it answers, and the lines of the entries that it records.
 
+use crate::lines::lines;
+
 /// A site, the lines that it is given, and what comes of them.
 pub struct AskedRow {
     pub name: &'static str,
@@ -26,10 +28,12 @@ pub const ROWS: [AskedRow; 7] = [
 {"deposit":["ann",500],"id":"a-1"}
 {"balance":"ann"}
 "#,
-        output: r#"{"id":"a-1","reply":{"kind":"deposit","name":"B0.1"},"sends":[{"shadow":{"account":"ann","amount":500,"deps":[[0,0,0,0,0,0,0,0],0],"home":0,"kind":"deposit","name":"B0.1"}}],"then":[]}
-{"again":true,"id":"a-1","reply":{"kind":"deposit","name":"B0.1"},"sends":[{"shadow":{"account":"ann","amount":500,"deps":[[0,0,0,0,0,0,0,0],0],"home":0,"kind":"deposit","name":"B0.1"}}],"then":[]}
-{"reply":{"balance":500},"sends":[],"then":[]}
-"#,
+        output: lines!(
+            deposit_sent,
+            deposit_sent_again,
+            r#"{"reply":{"balance":500},"sends":[],"then":[]}"#,
+            "",
+        ),
         entries: r#"{"event":{"deposit":["ann",500]},"id":"a-1","reply":{"kind":"deposit","name":"B0.1"},"site":0}
 {"event":{"balance":"ann"},"reply":{"balance":500},"site":0}
 "#,
@@ -45,12 +49,14 @@ pub const ROWS: [AskedRow; 7] = [
 {"pass":1,"id":"a-1"}
 {"deposit":["ann",500],"id":"a-1"}
 "#,
-        output: r#"{"id":"a-1","reply":{"kind":"deposit","name":"B0.1"},"sends":[{"shadow":{"account":"ann","amount":500,"deps":[[0,0,0,0,0,0,0,0],0],"home":0,"kind":"deposit","name":"B0.1"}}],"then":[]}
-{"id":"a-1","reply":{"refused":25},"sends":[],"then":[]}
-{"id":"a-1","reply":{"refused":25},"sends":[],"then":[]}
-{"bad":"line","line":5}
-{"again":true,"id":"a-1","reply":{"kind":"deposit","name":"B0.1"},"sends":[{"shadow":{"account":"ann","amount":500,"deps":[[0,0,0,0,0,0,0,0],0],"home":0,"kind":"deposit","name":"B0.1"}}],"then":[]}
-"#,
+        output: lines!(
+            deposit_sent,
+            r#"{"id":"a-1","reply":{"refused":25},"sends":[],"then":[]}"#,
+            r#"{"id":"a-1","reply":{"refused":25},"sends":[],"then":[]}"#,
+            r#"{"bad":"line","line":5}"#,
+            deposit_sent_again,
+            "",
+        ),
         entries: r#"{"event":{"deposit":["ann",500]},"id":"a-1","reply":{"kind":"deposit","name":"B0.1"},"site":0}
 "#,
     },
@@ -64,11 +70,13 @@ pub const ROWS: [AskedRow; 7] = [
 {"deposit":["ann",1],"id":"b"}
 {"deposit":["ann",500],"id":"a-1"}
 "#,
-        output: r#"{"id":"a-1","reply":{"kind":"deposit","name":"B0.1"},"sends":[{"shadow":{"account":"ann","amount":500,"deps":[[0,0,0,0,0,0,0,0],0],"home":0,"kind":"deposit","name":"B0.1"}}],"then":[]}
-{"id":"b","reply":{"refused":23},"sends":[],"then":[]}
-{"id":"b","reply":{"refused":23},"sends":[],"then":[]}
-{"again":true,"id":"a-1","reply":{"kind":"deposit","name":"B0.1"},"sends":[{"shadow":{"account":"ann","amount":500,"deps":[[0,0,0,0,0,0,0,0],0],"home":0,"kind":"deposit","name":"B0.1"}}],"then":[]}
-"#,
+        output: lines!(
+            deposit_sent,
+            r#"{"id":"b","reply":{"refused":23},"sends":[],"then":[]}"#,
+            r#"{"id":"b","reply":{"refused":23},"sends":[],"then":[]}"#,
+            deposit_sent_again,
+            "",
+        ),
         entries: r#"{"event":{"deposit":["ann",500]},"id":"a-1","reply":{"kind":"deposit","name":"B0.1"},"site":0}
 "#,
     },
@@ -116,9 +124,11 @@ pub const ROWS: [AskedRow; 7] = [
 {"reply":{"refused":20},"sends":[],"then":[]}
 {"reply":{"refused":12},"sends":[],"then":[]}
 "#,
-        entries: r#"{"event":{"shadow":{"account":"ann","amount":500,"deps":[[0,0,0,0,0,0,0,0],0],"home":0,"kind":"deposit","name":"B0.1"}},"reply":{"held":"B0.1"},"site":1}
-{"event":{"apply":"B0.1"},"reply":{"applied":"B0.1"},"site":1}
-"#,
+        entries: lines!(
+            deposit_comes,
+            r#"{"event":{"apply":"B0.1"},"reply":{"applied":"B0.1"},"site":1}"#,
+            "",
+        ),
     },
     AskedRow {
         name: "questions",

@@ -1,5 +1,6 @@
 //! Certificates that are checked. The findings of audits are in tests/cases, audits.cases.
 use crate::checks::equal;
+use crate::lines::lines;
 use rb_auditor::{Certificate, check};
 use rb_history::{read_config, read_line};
 use rb_money::Config;
@@ -15,10 +16,12 @@ const AT_HOME: &str =
 {"event":{"balance":"ann"},"reply":{"balance":500},"site":0}"#;
 
 /// The entries of site 1 as the deposit comes and is applied.
-const AWAY: &str = r#"{"event":{"balance":"ann"},"reply":{"balance":0},"site":1}
-{"event":{"shadow":{"account":"ann","amount":500,"deps":[[0,0,0,0,0,0,0,0],0],"home":0,"kind":"deposit","name":"B0.1"}},"reply":{"held":"B0.1"},"site":1}
-{"event":{"apply":"B0.1"},"reply":{"applied":"B0.1"},"site":1}
-{"event":{"balance":"ann"},"reply":{"balance":500},"site":1}"#;
+const AWAY: &str = lines!(
+    r#"{"event":{"balance":"ann"},"reply":{"balance":0},"site":1}"#,
+    deposit_comes,
+    r#"{"event":{"apply":"B0.1"},"reply":{"applied":"B0.1"},"site":1}"#,
+    r#"{"event":{"balance":"ann"},"reply":{"balance":500},"site":1}"#,
+);
 
 /// Orders, and whether they certify the histories of one deposit.
 const ORDERS: [(&[u8], bool); 4] = [

@@ -2,6 +2,7 @@
 //! are to be added.
 
 use crate::checks::equal_at;
+use crate::lines::lines;
 use rb_history::read_config;
 use rb_runs::{
     AddedFault, Closing, JournalFault, added_message, added_status, check_added, journal_message,
@@ -11,8 +12,7 @@ use std::alloc::{AllocError, Global};
 use std::test::Fail;
 
 /// The first line of a bank with one account.
-const HEAD: &str =
-    r#"{"accounts":[["ann",0]],"blue":1000000,"epoch":4000000000,"history":100000000,"inbox":4096,"red":1000000,"sites":2,"version":1}"#;
+const HEAD: &str = lines!(bank_1);
 
 /// A deposit at site 0.
 const MADE: &str =
@@ -28,11 +28,13 @@ const BANKS: [(&str, [&str; 3]); 11] = [
             r#"{"event":{"deposit":["ann",500]},"reply":{"kind":"deposit","name":"B0.1"},"site":0}
 {"event":{"balance":"ann"},"reply":{"balance":500},"site":0}
 "#,
-            r#"{"event":{"balance":"ann"},"reply":{"balance":0},"site":1}
-{"event":{"shadow":{"account":"ann","amount":500,"deps":[[0,0,0,0,0,0,0,0],0],"home":0,"kind":"deposit","name":"B0.1"}},"reply":{"held":"B0.1"},"site":1}
-{"event":{"apply":"B0.1"},"reply":{"applied":"B0.1"},"site":1}
-{"event":{"balance":"ann"},"reply":{"balance":500},"site":1}
-"#,
+            lines!(
+                r#"{"event":{"balance":"ann"},"reply":{"balance":0},"site":1}"#,
+                deposit_comes,
+                r#"{"event":{"apply":"B0.1"},"reply":{"applied":"B0.1"},"site":1}"#,
+                r#"{"event":{"balance":"ann"},"reply":{"balance":500},"site":1}"#,
+                "",
+            ),
         ],
     ),
     (
@@ -53,9 +55,11 @@ const BANKS: [(&str, [&str; 3]); 11] = [
             r#"{"event":{"deposit":["ann",500]},"reply":{"kind":"deposit","name":"B0.1"},"site":0}
 {"event":{"balance":"ann"},"reply":{"balance":500},"site":0}
 "#,
-            r#"{"event":{"balance":"ann"},"reply":{"balance":0},"site":1}
-{"event":{"shadow":{"account":"ann","amount":500,"deps":[[0,0,0,0,0,0,0,0],0],"home":0,"kind":"deposit","name":"B0.1"}},"reply":{"held":"B0.1"},"site":1}
-"#,
+            lines!(
+                r#"{"event":{"balance":"ann"},"reply":{"balance":0},"site":1}"#,
+                deposit_comes,
+                "",
+            ),
         ],
     ),
     (
@@ -65,11 +69,13 @@ const BANKS: [(&str, [&str; 3]); 11] = [
             r#"{"event":{"deposit":["ann",500]},"reply":{"kind":"deposit","name":"B0.1"},"site":0}
 {"event":{"balance":"ann"},"reply":{"balance":500},"site":0}
 "#,
-            r#"{"event":{"balance":"ann"},"reply":{"balance":0},"site":1}
-{"event":{"shadow":{"account":"ann","amount":500,"deps":[[0,0,0,0,0,0,0,0],0],"home":0,"kind":"deposit","name":"B0.1"}},"reply":{"held":"B0.1"},"site":1}
-{"event":{"apply":"B0.1"},"reply":{"applied":"B0.1"},"site":1}
-{"event":{"balance":"ann"},"reply":{"balance":501},"site":1}
-"#,
+            lines!(
+                r#"{"event":{"balance":"ann"},"reply":{"balance":0},"site":1}"#,
+                deposit_comes,
+                r#"{"event":{"apply":"B0.1"},"reply":{"applied":"B0.1"},"site":1}"#,
+                r#"{"event":{"balance":"ann"},"reply":{"balance":501},"site":1}"#,
+                "",
+            ),
         ],
     ),
     (
@@ -77,11 +83,13 @@ const BANKS: [(&str, [&str; 3]); 11] = [
         [
             HEAD,
             "",
-            r#"{"event":{"balance":"ann"},"reply":{"balance":0},"site":1}
-{"event":{"shadow":{"account":"ann","amount":500,"deps":[[0,0,0,0,0,0,0,0],0],"home":0,"kind":"deposit","name":"B0.1"}},"reply":{"held":"B0.1"},"site":1}
-{"event":{"apply":"B0.1"},"reply":{"applied":"B0.1"},"site":1}
-{"event":{"balance":"ann"},"reply":{"balance":500},"site":1}
-"#,
+            lines!(
+                r#"{"event":{"balance":"ann"},"reply":{"balance":0},"site":1}"#,
+                deposit_comes,
+                r#"{"event":{"apply":"B0.1"},"reply":{"applied":"B0.1"},"site":1}"#,
+                r#"{"event":{"balance":"ann"},"reply":{"balance":500},"site":1}"#,
+                "",
+            ),
         ],
     ),
     (

@@ -2,6 +2,7 @@
 ghost use Rattle.std.specs.Prelude.{◌<◌};
 
 use crate::checks::{equal, equal_at, holds};
+use crate::lines::lines;
 use rb_branch::links;
 use rb_history::{read_command, read_config, read_line, write_config, write_line};
 use rb_money::Config;
@@ -14,17 +15,17 @@ use std::sync::Wait;
 use std::test::Fail;
 
 /// A configuration with all of its keys.
-const CONFIGURATION: &str =
-    r#"{"accounts":[["ann",0]],"blue":1000000,"epoch":4000000000,"history":100000000,"inbox":4096,"red":1000000,"sites":2,"version":1}"#;
+const CONFIGURATION: &str = lines!(bank_1);
 
 /// The entries of two sites for a deposit that reaches the other site.
-const HISTORIES: &str =
-    r#"{"event":{"deposit":["ann",500]},"reply":{"kind":"deposit","name":"B0.1"},"site":0}
-{"event":{"balance":"ann"},"reply":{"balance":500},"site":0}
-{"event":{"balance":"ann"},"reply":{"balance":0},"site":1}
-{"event":{"shadow":{"account":"ann","amount":500,"deps":[[0,0,0,0,0,0,0,0],0],"home":0,"kind":"deposit","name":"B0.1"}},"reply":{"held":"B0.1"},"site":1}
-{"event":{"apply":"B0.1"},"reply":{"applied":"B0.1"},"site":1}
-{"event":{"balance":"ann"},"reply":{"balance":500},"site":1}"#;
+const HISTORIES: &str = lines!(
+    r#"{"event":{"deposit":["ann",500]},"reply":{"kind":"deposit","name":"B0.1"},"site":0}"#,
+    r#"{"event":{"balance":"ann"},"reply":{"balance":500},"site":0}"#,
+    r#"{"event":{"balance":"ann"},"reply":{"balance":0},"site":1}"#,
+    deposit_comes,
+    r#"{"event":{"apply":"B0.1"},"reply":{"applied":"B0.1"},"site":1}"#,
+    r#"{"event":{"balance":"ann"},"reply":{"balance":500},"site":1}"#,
+);
 
 /// Entries whose events or replies have lists.
 const LISTS: &str =

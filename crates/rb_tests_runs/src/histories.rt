@@ -1,21 +1,23 @@
 //! Histories of scripts over bytes in memory. Those of worked scripts are audited by examples/tools/check.py.
 
 use crate::checks::equal;
+use crate::lines::lines;
 use crate::scripts::{
     Case, DEPOSIT, DEPOSIT_AND_BAD, FAILING, Program, TEN, WHOLE, each_fails, ran,
 };
 use rb_lines::ScriptFault;
 
 /// The histories of a deposit that comes to the other site.
-const HISTORIES: &str =
-    r#"{"accounts":[["ann",0]],"blue":1000000,"epoch":4000000000,"history":100000000,"inbox":4096,"red":1000000,"sites":2,"version":1}
-{"event":{"deposit":["ann",500]},"reply":{"kind":"deposit","name":"B0.1"},"site":0}
-{"event":{"balance":"ann"},"reply":{"balance":500},"site":0}
-{"event":{"balance":"ann"},"reply":{"balance":0},"site":1}
-{"event":{"shadow":{"account":"ann","amount":500,"deps":[[0,0,0,0,0,0,0,0],0],"home":0,"kind":"deposit","name":"B0.1"}},"reply":{"held":"B0.1"},"site":1}
-{"event":{"apply":"B0.1"},"reply":{"applied":"B0.1"},"site":1}
-{"event":{"balance":"ann"},"reply":{"balance":500},"site":1}
-"#;
+const HISTORIES: &str = lines!(
+    bank_1,
+    r#"{"event":{"deposit":["ann",500]},"reply":{"kind":"deposit","name":"B0.1"},"site":0}"#,
+    r#"{"event":{"balance":"ann"},"reply":{"balance":500},"site":0}"#,
+    r#"{"event":{"balance":"ann"},"reply":{"balance":0},"site":1}"#,
+    deposit_comes,
+    r#"{"event":{"apply":"B0.1"},"reply":{"applied":"B0.1"},"site":1}"#,
+    r#"{"event":{"balance":"ann"},"reply":{"balance":500},"site":1}"#,
+    "",
+);
 
 #[test]
 fn histories_are_written(rt: HostRuntime) {

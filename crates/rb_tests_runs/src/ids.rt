@@ -3,6 +3,7 @@
 
 use crate::checks::{equal, equal_at, holds};
 use crate::entries::TWO_ACCOUNTS;
+use crate::lines::lines;
 use crate::scripts::{Program, WHOLE, ran};
 use rb_history::{
     LineFault, RequestId, append_asked_line, read_asked_entry, read_asked_event, read_config,
@@ -207,11 +208,12 @@ fn audits_leave_ids_out(rt: HostRuntime) {
 }
 
 /// The lines of a migration.
-const MIGRATED: &str =
-    r#"{"accounts":[["ann",0]],"blue":1000000,"epoch":4000000000,"history":100000000,"inbox":4096,"red":1000000,"sites":2,"version":2}
-{"event":{"deposit":["ann",500]},"id":"a-1","reply":{"kind":"deposit","name":"B0.1"},"site":0}
-{"event":{"deposit":["ann",7]},"id":"b","reply":{"kind":"deposit","name":"B0.2"},"site":0}
-"#;
+const MIGRATED: &str = lines!(
+    bank_2,
+    r#"{"event":{"deposit":["ann",500]},"id":"a-1","reply":{"kind":"deposit","name":"B0.1"},"site":0}"#,
+    r#"{"event":{"deposit":["ann",7]},"id":"b","reply":{"kind":"deposit","name":"B0.2"},"site":0}"#,
+    "",
+);
 
 #[test]
 fn migrations_write_ids_again(rt: HostRuntime) {

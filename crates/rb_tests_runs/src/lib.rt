@@ -33,6 +33,8 @@ mod histories;
 #[cfg(test)]
 mod ids;
 #[cfg(test)]
+mod lines;
+#[cfg(test)]
 mod links;
 #[cfg(test)]
 mod migrations;

@@ -1,13 +1,12 @@
 //! Migrations over bytes in memory. The lines that migrations write are in tests/cases.
 
 use crate::checks::equal;
+use crate::lines::lines;
 use crate::scripts::{CONFIGURATION, Case, FAILING, Program, TEN, WHOLE, each_fails, ran};
 use rb_lines::ScriptFault;
 
 /// The configuration of a script, in version 2, with its line feed.
-const WRITTEN: &str =
-    r#"{"accounts":[["ann",0]],"blue":1000000,"epoch":4000000000,"history":100000000,"inbox":4096,"red":1000000,"sites":2,"version":2}
-"#;
+const WRITTEN: &str = lines!(bank_2, "");
 
 /// A read behind the last byte fails, and what was written stays; so does the prefix of a line whose write failed.
 const FAILED: [Case; 2] = [
@@ -40,9 +39,11 @@ fn read_or_write_fails(rt: HostRuntime) {
 const LINES: [(&str, u64); 5] = [
     (CONFIGURATION, 1),
     (
-        r#"{"accounts":[["ann",0]],"sites":2,"version":1}
-{"event":{"shadow":{"account":"ann","amount":500,"deps":[[0,0,0,0,0,0,0,0],0],"home":0,"kind":"deposit","name":"B0.1"}},"reply":{"held":"B0.1"},"site":1}
-{"event":{"shadow":{"account":"ann","amount":300,"deps":[[3,0,0,0,0,1,0,0],1],"home":1,"kind":"cancel","name":"B1.1","target":"R1"}},"reply":{"held":"B1.1"},"site":0}"#,
+        lines!(
+            r#"{"accounts":[["ann",0]],"sites":2,"version":1}"#,
+            deposit_comes,
+            cancel_comes,
+        ),
         3,
     ),
     (
@@ -52,18 +53,22 @@ const LINES: [(&str, u64); 5] = [
         3,
     ),
     (
-        r#"{"accounts":[["ann",0]],"sites":2,"version":1}
-
- 
-{"event":{"shadow":{"account":"ann","amount":500,"deps":[[0,0,0,0,0,0,0,0],0],"home":0,"kind":"deposit","name":"B0.1"}},"reply":{"held":"B0.1"},"site":1}
-{"event":{"shadow":{"account":"ann","amount":300,"deps":[[3,0,0,0,0,1,0,0],1],"home":1,"kind":"cancel","name":"B1.1","target":"R1"}},"reply":{"held":"B1.1"},"site":0}"#,
+        lines!(
+            r#"{"accounts":[["ann",0]],"sites":2,"version":1}"#,
+            "",
+            " ",
+            deposit_comes,
+            cancel_comes,
+        ),
         3,
     ),
     (
-        r#"{"accounts":[["ann",0]],"sites":2,"version":1}
-{"event":{"balance":"zed"},"reply":{"refused":1},"site":0}
-{"event":{"shadow":{"account":"ann","amount":500,"deps":[[0,0,0,0,0,0,0,0],0],"home":0,"kind":"deposit","name":"B0.1"}},"reply":{"held":"B0.1"},"site":1}
-{"event":{"shadow":{"account":"ann","amount":300,"deps":[[3,0,0,0,0,1,0,0],1],"home":1,"kind":"cancel","name":"B1.1","target":"R1"}},"reply":{"held":"B1.1"},"site":0}"#,
+        lines!(
+            r#"{"accounts":[["ann",0]],"sites":2,"version":1}"#,
+            r#"{"event":{"balance":"zed"},"reply":{"refused":1},"site":0}"#,
+            deposit_comes,
+            cancel_comes,
+        ),
         4,
     ),
 ];
