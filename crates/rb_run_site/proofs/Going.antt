@@ -167,7 +167,7 @@ pub from_same : (all : Bool) (lines : List (List ℕ)) (x : SeenAsked) (sends : 
     → IsNewOrAnswered all lines x sends number input output c d
 from_same all lines x sends number input output mid so_far c d same said run =
     subst (λ l. IsNewOrAnswered all lines x sends number input l c d) said
-        (subst (λ ls. IsNewOrAnswered all ls x sends number input so_far c d) same run)
+    (subst (λ ls. IsNewOrAnswered all ls x sends number input so_far c d) same run)
 
 -- only a failed journal is reported as one
 pub only_journal : (f : ServeFault) → fault_of_serve f ≡ DiskFailed → f ≡ JournalStopped

@@ -24,7 +24,7 @@ not_before s t id [] none [] later y e same = absurd (cc e)
 not_before s t id [] none (z ∷ before) later y e same = absurd (cc e)
 not_before s t id (x ∷ xs) none before later y e same =
     by (bytes_eq x.id id) refl none before e
-        (λ found front behind. not_before s (after_event s t x.entry.event) id xs found front later y behind same)
+    (λ found front behind. not_before s (after_event s t x.entry.event) id xs found front later y behind same)
   where
     by : (b : Bool) → bytes_eq x.id id ≡ b
         → cond b (Some (known_as s t x)) (known_from s (after_event s t x.entry.event) xs id) ≡ None

@@ -73,7 +73,7 @@ goes_on_more : (old mid new : SeenAsked) (xs : List AskedEntry) (x : AskedEntry)
 goes_on_more old mid new xs x g free unknown reply is = record {
   after = ap without_ids is
       ∙ ap (λ es. record { settings = mid.settings; me = mid.me; entries = es })
-          (map-append (λ (y : AskedEntry). y.entry) mid.asked (x ∷ []))
+      (map-append (λ (y : AskedEntry). y.entry) mid.asked (x ∷ []))
       ∙ sym (recorded_as (without_ids mid) x.entry free reply) ∙ ap (λ y. next_site y x.entry.event) g.after
       ∙ sym (sites_push (without_ids old) (events_of (entries_alone xs)) x.entry.event)
       ∙ ap (next_sites (without_ids old)) (sym (events_more xs x));
@@ -123,9 +123,9 @@ one_more old mid new lines rest line later skipped left number again sends mid_s
     let said : (if again then sent_line mid.settings mid.bank (sent_at mid.settings (asked_state mid) x.entry.event) else [])
     ≡ (if (skipped - length ys) == 0
     then sent_line old.settings old.bank
-        (sent_at old.settings (after_events old.settings (asked_state old) (events_of ys)) x.entry.event) else []) =
+    (sent_at old.settings (after_events old.settings (asked_state old) (events_of ys)) x.entry.event) else []) =
     ap (λ b. if b then sent_line mid.settings mid.bank (sent_at mid.settings (asked_state mid) x.entry.event) else [])
-        (test ∙ ap (λ n. n == 0) left_is)
+    (test ∙ ap (λ n. n == 0) left_is)
     ∙ ap (λ c. if (skipped - length ys) == 0 then sent_line c mid.bank (sent_at c (asked_state mid) x.entry.event) else []) s
     ∙ ap (λ b. if (skipped - length ys) == 0 then sent_line old.settings b (sent_at old.settings (asked_state mid) x.entry.event) else []) k
     ∙ ap (λ u. if (skipped - length ys) == 0 then sent_line old.settings old.bank (sent_at old.settings u x.entry.event) else []) t in
@@ -149,5 +149,5 @@ one_more old mid new lines rest line later skipped left number again sends mid_s
           ∙ ap (λ l. sends ++ (resent old.settings old.bank (asked_state old) skipped ys ++ l)) said
           ∙ ap (λ l. sends ++ l) (sym (resent_more old.settings old.bank (asked_state old) skipped ys x.entry))
           ∙ ap (λ es. sends ++ resent old.settings old.bank (asked_state old) skipped es)
-              (sym (map-append (λ (y : AskedEntry). y.entry) xs (x ∷ [])));
+          (sym (map-append (λ (y : AskedEntry). y.entry) xs (x ∷ [])));
     }

@@ -260,7 +260,7 @@ is_taken laws me bank start turns file runs config number fault of is (s, on, lo
     let same_settings = subst (λ c. EndsFile (first_asked c me bank) file fault) settings ends in
     let same_bank = subst (λ b. EndsFile (first_asked last.settings me b) file fault) named same_settings in
     not_at_fault last file (w.lines_are ∙ sym all.journal) w.intact all.replayed read
-        (turns_once laws.ids start turns w.are w.once) fault is
+    (turns_once laws.ids start turns w.are w.once) fault is
     (subst (λ i. EndsFile (first_asked last.settings i last.bank) file fault) number_is same_bank)
 
 -- nor is the one that a crash left of a new journal

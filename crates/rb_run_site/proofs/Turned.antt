@@ -142,7 +142,7 @@ module _ (all : Bool) (old new : SeenAsked) (number : ℕ) (line words entries t
 not_taken : (all : Bool) (old new : SeenAsked) (number : ℕ) (why line text text_after : List ℕ)
     (batch batch_after : List (List ℕ)) → IsConfigured old.settings
     → (IsBadAnswer why old new number [] (line_of (bad_json why number))
-        → IsAnswer all (is_long line) old number line [] (line_of (bad_json why number)) new)
+    → IsAnswer all (is_long line) old number line [] (line_of (bad_json why number)) new)
     → new ≡ old → text_after ≡ text ++ line_of (bad_json why number) → batch_after ≡ batch
     → IsTurn (SiteAnswers all) old new (journal_of old) (journal_of new) batch batch_after number line text text_after
 not_taken all old new number why line text text_after batch batch_after ok is same said kept =
@@ -166,7 +166,7 @@ pub bad_line : (all : Bool) (old new : SeenAsked) (number : ℕ) (line text text
 bad_line all old new number line text text_after batch batch_after ok short none own unasked same said kept =
     not_taken all old new number (codes "line") line text text_after batch batch_after ok
     (λ bad. subst (λ b. IsAnswer all b old number line [] (line_of (bad_json (codes "line") number)) new)
-        (sym short) (inr (none, own, unasked, bad)))
+    (sym short) (inr (none, own, unasked, bad)))
     same said kept
 
 -- the line is too long

@@ -42,7 +42,7 @@ nothing_arrives n own a (Some to) amount h k =
 moves_nothing : (s : Settings) (u : Shadow) (a : Place) → SoundFacts s u → length s.starts ≤ a.0 → delta u a ≡ pos 0
 moves_nothing s u a f h =
     ap (λ b. cond b (moved u.kind u.amount) (arrived (receiver_of u.kind) u.amount a))
-        (elsewhere (length s.starts) a.0 u.account.0 f.account h)
+    (elsewhere (length s.starts) a.0 u.account.0 f.account h)
     ∙ nothing_arrives (length s.starts) u.account a (receiver_of u.kind) u.amount f.receiver h
 
 -- so nothing is there

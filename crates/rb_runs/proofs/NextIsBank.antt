@@ -87,7 +87,7 @@ next_configured s balances ask same none =
     let sites : ℕ = sites_of_next s ask.sites in
     let accounts : List Account = next_accounts s balances ask in
     let c : IsConfigured (parts sites (map (λ (a : Account). a.0) accounts)
-        (map (λ (a : Account). a.1) accounts) s.limits (version_of sites)) =
+    (map (λ (a : Account). a.1) accounts) s.limits (version_of sites)) =
     parts_configured sites accounts s.limits none in
     in_version sites (s.names ++ ask.added) (balances ++ replicate (length ask.added) 0) s.limits (version_of sites)
     (next_version s sites)

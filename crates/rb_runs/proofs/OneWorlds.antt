@@ -107,9 +107,12 @@ still : (s : Settings) (w : World) (i : ℕ) (e : Event) (t : ModelSite) → sli
     IsApplied (world_at s w i (Some e) (Some t)) v
 still s w i e t at v (j, u, there, h) = elim (same_number i j) [
   | inl same ↦
-      (let is : u ≡ t = some_same u t (sym there ∙ ap (slice_get w.sites) same ∙ at) in
-      (i, after_event s t e, get_set_same w.sites i t (after_event s t e) at,
-          grows_event s t e v (subst (λ (x : ModelSite). Among v x.ops) is h)))
+      (let is : u ≡ t = some_same u t (sym there ∙ ap (slice_get w.sites) same ∙ at) in (
+        i,
+        after_event s t e,
+        get_set_same w.sites i t (after_event s t e) at,
+        grows_event s t e v (subst (λ (x : ModelSite). Among v x.ops) is h),
+      ))
   | inr other ↦ (j, u, get_set_other w.sites i j (after_event s t e) other ∙ there, h)
 ]
 

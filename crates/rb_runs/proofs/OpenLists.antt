@@ -265,7 +265,7 @@ nothing_lacked law s hs c one none i j us vs at there =
     let valid' : IsValid s vs = valid_list law s hs c one j vs there in
     same_clock us vs
     (λ k. both _ _ (blue_most s uss vs us i k valid' valid at (none j vs there))
-        (blue_most s uss us vs j k valid valid' there (none i us at)))
+    (blue_most s uss us vs j k valid valid' there (none i us at)))
     (both _ _ (red_most s uss vs us i valid' valid at (none j vs there)) (red_most s uss us vs j valid valid' there (none i us at)))
 
 -- each list is empty, or one isn't

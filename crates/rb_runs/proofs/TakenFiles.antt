@@ -37,7 +37,7 @@ with-one-more journals site before (f ∷ files) file =
     by more (Err why) = refl
     by more (Ok a) = let same : site + 1 + length files ≡ site + suc (length files) = omega arith in
         more a ∙ ap (λ n. next (with_files journals (site + 1) (Some a) files)
-            (λ b. next (with_next journals n b file) (λ x. Ok (Some x)))) same
+        (λ b. next (with_next journals n b file) (λ x. Ok (Some x)))) same
 
 -- before any file
 pub nothing-taken : (c : Closing) (ask : NextBank) (files : List (List ℕ))

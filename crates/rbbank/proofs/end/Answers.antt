@@ -6,8 +6,11 @@ use Rattle.rbbank.proofs.Done.{site_done, threads_done}
 use Rattle.rbbank.proofs.end.Goals as goal
 
 pub returns-in-Script : goal.returns-in-Script
-returns-in-Script g c = ([], appends_nothing _,
-    script_done _ _ _ _ _ _ c.in-Script.ran c.in-Script.is c.without_files.ensures c.end_of_script.ensures)
+returns-in-Script g c = (
+  [],
+  appends_nothing _,
+  script_done _ _ _ _ _ _ c.in-Script.ran c.in-Script.is c.without_files.ensures c.end_of_script.ensures,
+)
 
 pub returns-in-Histories : goal.returns-in-Histories
 returns-in-Histories g c = (
@@ -18,8 +21,11 @@ returns-in-Histories g c = (
 )
 
 pub returns-in-Audit : goal.returns-in-Audit
-returns-in-Audit g c = ([], appends_nothing _,
-    audit_done _ _ _ _ _ _ c.in-Audit.ran c.in-Audit.is c.without_files-in-Audit.ensures c.end_of_audit.ensures)
+returns-in-Audit g c = (
+  [],
+  appends_nothing _,
+  audit_done _ _ _ _ _ _ c.in-Audit.ran c.in-Audit.is c.without_files-in-Audit.ensures c.end_of_audit.ensures,
+)
 
 pub returns-in-Migrate : goal.returns-in-Migrate
 returns-in-Migrate g c = (

@@ -37,7 +37,7 @@ loop-shadow-preserved c =
           (so_far_more row c.requires.0 c.args.clock.now i _ o c.requires.1 (omega arith) (search rules) c.loop-shadow.invariant)
       | else-at_least w ↦ subst P (sym (ap option_copied w.first-is))
           (so_far_passed row c.args.clock.now i _ o (omega arith)
-              (λ (r : IsReady c.args.clock.now (get_or row i _)). cc (c.at_least.ensures.names.1 r)) c.loop-shadow.invariant)
+          (λ (r : IsReady c.args.clock.now (get_or row i _)). cc (c.at_least.ensures.names.1 r)) c.loop-shadow.invariant)
     ]
 
 pub returns : goal.returns

@@ -92,17 +92,17 @@ returns-in_err-sync-clause-repaired g c =
 pub returns-in_err-write_at-clause-any_moment : goal.returns-in_err-write_at-clause-any_moment
 returns-in_err-write_at-clause-any_moment g c =
     read_as (gate_written g (goal.at.returns-in_err-write_at-clause-any_moment g c).After-write_at)
-        (repaired_is c.args.bytes.now)
+    (repaired_is c.args.bytes.now)
 
 pub returns-in_err-write_at-clause-repaired : goal.returns-in_err-write_at-clause-repaired
 returns-in_err-write_at-clause-repaired g c =
     left_as (gate_written g (goal.at.returns-in_err-write_at-clause-repaired g c).After-write_at)
-        (sound c.args.bytes.now)
+    (sound c.args.bytes.now)
 
 pub returns-in_err-sync-2-clause-any_moment : goal.returns-in_err-sync-2-clause-any_moment
 returns-in_err-sync-2-clause-any_moment g c =
     read_as (gate_synced g (goal.at.returns-in_err-sync-2-clause-any_moment g c).After-sync-2)
-        (repaired_is c.args.bytes.now)
+    (repaired_is c.args.bytes.now)
 
 pub returns-in_err-sync-2-clause-repaired : goal.returns-in_err-sync-2-clause-repaired
 returns-in_err-sync-2-clause-repaired g c =

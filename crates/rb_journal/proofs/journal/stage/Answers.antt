@@ -67,22 +67,22 @@ pub returns-in_err-write_at-clause-any_moment : goal.returns-in_err-write_at-cla
 returns-in_err-write_at-clause-any_moment g c =
     let at = goal.at.returns-in_err-write_at-clause-any_moment g c in
     read_as (tail_written g at.After-write_at)
-        (λ f at. shuts (g.H.Host.content c.args.host.now) c.args.end _ (length c.args.tail.now + 1) f c.requires.end refl at)
+    (λ f at. shuts (g.H.Host.content c.args.host.now) c.args.end _ (length c.args.tail.now + 1) f c.requires.end refl at)
 
 pub returns-in_err-write_at-2-clause-any_moment : goal.returns-in_err-write_at-2-clause-any_moment
 returns-in_err-write_at-2-clause-any_moment g c =
     let at = goal.at.returns-in_err-write_at-2-clause-any_moment g c in
     read_as (next_written g at.After-write_at-2)
-        (λ f at. shuts (g.H.Host.content c.args.host.now) c.args.end _ (length c.args.tail.now + 1) f c.requires.end refl at)
+    (λ f at. shuts (g.H.Host.content c.args.host.now) c.args.end _ (length c.args.tail.now + 1) f c.requires.end refl at)
 
 pub returns-in_err-sync-clause-any_moment : goal.returns-in_err-sync-clause-any_moment
 returns-in_err-sync-clause-any_moment g c =
     let at = goal.at.returns-in_err-sync-clause-any_moment g c in
     read_as (staged g at.After-sync)
-        (λ f at. shuts (g.H.Host.content c.args.host.now) c.args.end _ (length c.args.tail.now + 1) f c.requires.end refl at)
+    (λ f at. shuts (g.H.Host.content c.args.host.now) c.args.end _ (length c.args.tail.now + 1) f c.requires.end refl at)
 
 pub returns-clause-any_moment : goal.returns-clause-any_moment
 returns-clause-any_moment g c =
     let at = goal.at.returns-clause-any_moment g c in
     read_as (staged g at.After-sync)
-        (λ f at. shuts (g.H.Host.content c.args.host.now) c.args.end _ (length c.args.tail.now + 1) f c.requires.end refl at)
+    (λ f at. shuts (g.H.Host.content c.args.host.now) c.args.end _ (length c.args.tail.now + 1) f c.requires.end refl at)

@@ -102,7 +102,7 @@ returns-in_err-answer_next-clause-answered g c =
     let last = state c.lines.responder in
     let step = c.in_err-answer_next.ensures in
     let start = point_of (state c.args.responder.now) lines c.args.buffers.now.buffered.items c.args.work.now
-        c.args.buffers.now.pending in (
+    c.args.buffers.now.pending in (
       last,
       subst (AdvancesByBatch g.R.JournaledResponder.answers c.args.buffers.now.ended start) (sym (step.same last lines))
           (so_far g (goal.at.returns-in_err-answer_next-clause-answered g c).After-next_waiting),

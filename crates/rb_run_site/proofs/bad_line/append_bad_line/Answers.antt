@@ -13,4 +13,4 @@ line_is n = ap (λ l. codes "{\"bad\":\"line\",\"line\":" ++ l) (sym (append_ass
 pub returns-clause-ok : goal.returns-clause-ok
 returns-clause-ok c =
     on_ok_weaker c.append_whole.result
-        (λ said. said ∙ ap (λ l. c.args.out.now.items ++ l) (line_is c.args.number)) c.append_whole.ensures.ok
+    (λ said. said ∙ ap (λ l. c.args.out.now.items ++ l) (line_is c.args.number)) c.append_whole.ensures.ok

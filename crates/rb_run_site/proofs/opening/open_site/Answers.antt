@@ -16,7 +16,7 @@ returns-in-Ok-clause-opened g c =
     let file = c.in-Ok.ensures in (
       take n p,
       subst (λ x. OpensSite (take n p) c.args.me c.args.bank c.args.resend c.args.bytes.now x
-              c.in-Ok.first.items c.replay_file.new.sends.items)
+          c.in-Ok.first.items c.replay_file.new.sends.items)
           (ap (λ (y : SeenNode). y.site) (sym c.new-responder.ensures))
           (opened (take n p) c.args.me c.args.bank c.args.resend c.in_ok-node.node.site
           c.replay_file.new.node.site c.args.bytes.now c.in-Ok.first.items c.replay_file.new.sends.items
@@ -42,7 +42,7 @@ returns-in_err-n-clause-cause g c =
     let passed : c.from_residual.result ≡ Err fault = search rules in
     subst (λ r. IfErr r (IsOpeningCause c.args.me c.args.bank input left file)) (sym passed)
     (first_cause c.args.me c.args.bank input left file c.first_line.new.buffers.pending fault
-        c.in_err-n.ensures.kind c.in_err-n.ensures.input)
+    c.in_err-n.ensures.kind c.in_err-n.ensures.input)
 
 pub returns-in_err-node-clause-cause : goal.returns-in_err-node-clause-cause
 returns-in_err-node-clause-cause g c =

@@ -42,7 +42,7 @@ returns-in_err-commit_and_put_out-clause-any_moment g c =
     (both host.moment host.left_since was mid (IsDurable lines (recovered first) output c.deref-2.result.now)
     (λ f d. IsAppended lines first f × IsIntact f) c.commit_and_put_out.ensures.any_moment c.commit_and_put_out.ensures.appended)
     (λ f d at. begun g.M.Records.ALL lines x first sends c.deref-2.result.now c.args.number input output f d
-        is begin c.deref-2.ensures.value at.0 at.1.0 at.1.1)
+    is begin c.deref-2.ensures.value at.0 at.1.0 at.1.1)
 
 pub serve-requires-clause-same : goal.serve-requires-clause-same
 serve-requires-clause-same g c =
@@ -93,13 +93,13 @@ returns-clause-any_moment g c =
     (both host.moment host.left_since was mid (IsDurable lines (recovered first) output c.deref-2.result.now)
     (λ f d. IsAppended lines first f × IsIntact f) c.commit_and_put_out.ensures.any_moment c.commit_and_put_out.ensures.appended)
     (λ f d at. begun g.M.Records.ALL lines x first sends c.deref-2.result.now c.args.number input output f d
-        is begin c.deref-2.ensures.value at.0 at.1.0 at.1.1) in
+    is begin c.deref-2.ensures.value at.0 at.1.0 at.1.1) in
     runs_on host.moment host.left_since was mid new.journal.host (IsNewOrAnswered g.M.Records.ALL lines x sends c.args.number input output)
     (λ f d. IsRunOfTurns (SiteAnswers g.M.Records.ALL) c.args.number input x
-        (recovered (host.content mid)) (host.output mid) f d × IsIntact f) so_far
+    (recovered (host.content mid)) (host.output mid) f d × IsIntact f) so_far
     (both host.moment host.left_since mid new.journal.host
-        (IsRunOfTurns (SiteAnswers g.M.Records.ALL) c.args.number input x
-            (recovered (host.content mid)) (host.output mid))
+    (IsRunOfTurns (SiteAnswers g.M.Records.ALL) c.args.number input x
+    (recovered (host.content mid)) (host.output mid))
     (λ f d. IsIntact f) c.serve.ensures.any_moment c.serve.ensures.intact)
     (λ f d run. answered g.M.Records.ALL lines x sends c.args.number input output (recovered (host.content mid)) (host.output mid) f d
     (sym (c.in_ok-commit_and_put_out.ensures.lines ∙ is.whole))
@@ -120,5 +120,5 @@ returns-clause-journal g c = λ failed.
     let same : recovered (host.content mid) ≡ journal_of x = c.in_ok-commit_and_put_out.ensures.lines ∙ is.whole in
     ⊎_elim (λ (more : host.faults mid < host.faults new). inl (omega (arith, more, c.commit_and_put_out.ensures.later)))
     (λ (full : IsFull (SiteAnswers g.M.Records.ALL) c.args.number input x (recovered (host.content mid))).
-        inr (subst (λ ls. IsFull (SiteAnswers g.M.Records.ALL) c.args.number input x ls) same full))
+    inr (subst (λ ls. IsFull (SiteAnswers g.M.Records.ALL) c.args.number input x ls) same full))
     (c.serve.ensures.journal failed)

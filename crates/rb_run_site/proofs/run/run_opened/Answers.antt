@@ -44,7 +44,7 @@ run g c =
     let host = g.H.Host in
     runs_on host.moment host.left_since _ c.in-Ok.journal.host _ _ _ (over_file g c) c.go_on-ended.ensures.any_moment
     (λ f d run. from_same g.M.Records.ALL _ _ _ _ _ _ _ _ f d
-        (c.in-Ok.ensures.lines ∙ ap recovered c.deref.ensures.value) c.in-Ok.ensures.output run)
+    (c.in-Ok.ensures.lines ∙ ap recovered c.deref.ensures.value) c.in-Ok.ensures.output run)
 
 -- why the file can't be opened is passed on
 passed : (g : Over) (c : After-from-in-Err-2 g) → c.from-in-Err-2.result ≡ fault_of_serve (fault_of_host c.in-Err.error)

@@ -28,7 +28,7 @@ opens g c =
 run : (g : Over) (c : After-run_opened g) → LeavesOnly g.H.Host.moment g.H.Host.left_since c.args.host
     c.run_opened.result.host
     (IsSiteRun g.M.Records.ALL c.args.me c.args.bank c.args.resend
-        (g.S.Source.remaining c.args.reader.now) c.args.bytes.items (g.H.Host.output c.args.host))
+    (g.S.Source.remaining c.args.reader.now) c.args.bytes.items (g.H.Host.output c.args.host))
 run g c =
     let is = c.in-Ok.ensures.opened in
     weaker g.H.Host.moment g.H.Host.left_since _ _ _ _ c.run_opened.ensures.any_moment
@@ -94,7 +94,7 @@ returns-in-Ok-clause-journal g c = λ failed.
     ⊎_elim (λ (more : host.faults c.args.host < host.faults c.run_opened.result.host). inl more)
     (λ (full : IsFull (SiteAnswers g.M.Records.ALL) c.in-Ok.number (served_input mid.buffers.pending left) x (journal_of x)). inr
     (full_behind g.M.Records.ALL c.args.me c.args.bank c.args.resend c.in-Ok.number
-        (g.S.Source.remaining c.args.reader.now) left c.args.bytes.items is.0
+    (g.S.Source.remaining c.args.reader.now) left c.args.bytes.items is.0
     mid.buffers.pending x c.in-Ok.opened.first.items c.in-Ok.opened.sends.items
     (opens g (goal.at.returns-in-Ok-clause-journal g c).After-run_opened) is.2 full))
     (c.run_opened.ensures.journal failed)

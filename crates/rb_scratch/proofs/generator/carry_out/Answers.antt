@@ -51,7 +51,7 @@ returns-in_default-clause-valid c =
 pub returns-in_ok-permit_red-clause-made : goal.returns-in_ok-permit_red-clause-made
 returns-in_ok-permit_red-clause-made c =
     λ known shows. sym (Generated.red_made _ _ _ known _ _ _ (c.requires.plan).1
-        c.in_ok-shadow.ensures.0 c.in_ok-shadow.ensures.1 (sym c.requires.colour
+    c.in_ok-shadow.ensures.0 c.in_ok-shadow.ensures.1 (sym c.requires.colour
     ∙ c.in-Red.is) ∙ c.in_ok-permit_red.ensures known shows) ∙ Generated.planned _ _ _ known _ _ (c.requires.plan).1
 
 pub returns-in_ok-permit_red-clause-valid : goal.returns-in_ok-permit_red-clause-valid
@@ -60,7 +60,7 @@ returns-in_ok-permit_red-clause-valid c =
     (few_sites _ _ _ c.config.ensures.same c.sites-sites.ensures.same c.sites-sites.ensures.few) c.requires.site c.config.ensures.valid
     (
     Generated.red_made _ _ _ _ _ _ _ (c.requires.plan).1
-        c.in_ok-shadow.ensures.0 c.in_ok-shadow.ensures.1 (sym c.requires.colour ∙ c.in-Red.is)
+    c.in_ok-shadow.ensures.0 c.in_ok-shadow.ensures.1 (sym c.requires.colour ∙ c.in-Red.is)
     ∙ c.in_ok-permit_red.ensures (Tokens.seen c.args.token.now) (Tokens.seen_shows c.args.token.now)
     )
 

@@ -12,23 +12,23 @@ pub extend-requires : goal.extend-requires
 extend-requires g c =
     let (text, entries, by, said, lines) = c.in-Ok.ensures.answered in
     let a = subst (λ all. IsLineAnswer all c.args.self.now.node.site c.answer.new.self.site
-        c.args.line.now text entries) c.ALL.ensures by in
+    c.args.line.now text entries) c.ALL.ensures by in
     let ok = subst IsConfigured c.config.ensures c.sites-sites.ensures.configured in
     subst IsBatch (sym (c.deref.ensures.value ∙ lines ∙ ap (λ l. l ++ entries) c.clear.ensures.items))
     (batched c.lines_are_single.ensures.entries c.named_events_fit.ensures g.M.Records.ALL
-        c.args.self.now.node.site c.answer.new.self.site c.args.line.now text entries ok a)
+    c.args.self.now.node.site c.answer.new.self.site c.args.line.now text entries ok a)
 
 pub returns-in-Ok-extend-clause-answered : goal.returns-in-Ok-extend-clause-answered
 returns-in-Ok-extend-clause-answered g c =
     let (text, entries, by, said, lines) = c.in-Ok.ensures.answered in
     let a = subst (λ all. IsLineAnswer all c.args.self.now.node.site c.answer.new.self.site
-        c.args.line.now text entries) c.ALL.ensures by in
+    c.args.line.now text entries) c.ALL.ensures by in
     let ok = subst IsConfigured c.config.ensures c.sites-sites.ensures.configured in
     turned g.M.Records.ALL c.args.self.now.node.site c.answer.new.self.site c.args.number c.args.line.now text entries
     c.args.text.now.items c.answer.new.answers.items (recovered c.args.batch.now.bytes.items) (recovered c.extend.new.self.bytes.items)
     ok (short_line c.args.line.now c.requires.short) said
     (c.in-Ok-extend.ensures.lines ∙ ap (λ l. recovered c.args.batch.now.bytes.items ++ recovered l)
-        (c.deref.ensures.value ∙ lines ∙ ap (λ l. l ++ entries) c.clear.ensures.items))
+    (c.deref.ensures.value ∙ lines ∙ ap (λ l. l ++ entries) c.clear.ensures.items))
     c.lines_are_single.ensures.entries c.named_events_fit.ensures a
 
 pub returns-in-Err-BadLine-clause-answered : goal.returns-in-Err-BadLine-clause-answered

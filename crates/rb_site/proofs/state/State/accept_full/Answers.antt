@@ -29,7 +29,7 @@ returns-in-Ok-Stale c =
     let old : SiteState = state_as c.self.inside.recorded.settings c.self.inside.token.me c.self.inside.recorded.ops
     c.self.inside.inbox.held c.self.inside.token.token in
     let P : SiteState → Type 0 = λ z. c.give-in-Ok-Stale.new.place
-        ≡ reply_at_full z.settings z.site (Receive (TokenOnItsWay c.args.message.now)) in
+    ≡ reply_at_full z.settings z.site (Receive (TokenOnItsWay c.args.message.now)) in
     subst P c.self.view_is
     (message_stale old.settings old.site c.args.message.now c.give-in-Ok-Stale.new.place
     (refusal_seen old.settings c.self.inside.token c.copy-token.result c.args.message.now _ c.copy-token.ensures
@@ -44,7 +44,7 @@ returns-in-Err c =
     let old : SiteState = state_as c.self.inside.recorded.settings c.self.inside.token.me c.self.inside.recorded.ops
     c.self.inside.inbox.held c.self.inside.token.token in
     let P : SiteState → Type 0 = λ z. c.give-in-Err.new.place
-        ≡ reply_at_full z.settings z.site (Receive (TokenOnItsWay c.args.message.now)) in
+    ≡ reply_at_full z.settings z.site (Receive (TokenOnItsWay c.args.message.now)) in
     subst P c.self.view_is
     (message_refused old.settings old.site c.args.message.now c.in-Err.why c.give-in-Err.new.place
     (refusal_seen old.settings c.self.inside.token c.copy-token.result c.args.message.now _ c.copy-token.ensures
