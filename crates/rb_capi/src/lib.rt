@@ -20,7 +20,7 @@ mod site;
 mod site_handle;
 mod slot;
 
-ghost use Rattle.rb_history.specs.Messages.{MessagesAreRead};
+ghost use Rattle.rb_history.specs.Banks.{MessagesAreRead};
 
 /// Each message that a site sends is read by every other site as that message: its line, one of `sends` on the line of
 /// an answer, is the line of an event that is the message's receipt.

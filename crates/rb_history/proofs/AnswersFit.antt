@@ -1,4 +1,4 @@
--- What a site replies and holds fits a line, whatever its events.
+-- The replies of a site and the names that it holds fit a line, whatever its events.
 use Rattle.std.proofs.Common.{◌≡◌, ◌≤◌, ◌+◌, ◌^◌, ℕ, Bool, true, false, cond, not, ◌&&◌, ◌||◌, List, [], ◌∷◌, ◌++◌, length, Option}
 use Rattle.std.proofs.Common.{Some, None, Result, Ok, Err, refl, subst, inl, inr, arith}
 use Rattle.std.specs.Prelude.{◌==◌, IfErr, IfSome, map, nat_le, nat_lt, take}

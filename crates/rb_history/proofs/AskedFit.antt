@@ -1,5 +1,5 @@
 -- An event that is read fits, and its id is one, on an event that may have it, or none.
-use Rattle.std.proofs.Common.{◌≡◌, ◌==◌, true, [], Some, codes, refl, inl, inr}
+use Rattle.std.proofs.Common.{◌≡◌, ◌==◌, List, ℕ, true, [], Some, codes, refl, inl, inr}
 use Rattle.std.specs.Prelude.{◌⊎◌, IfSome}
 use Rattle.serde_json.specs.Data.{Data}
 use Rattle.serde_json.specs.Find.{as_str}
@@ -10,7 +10,6 @@ use Rattle.rb_history.specs.Fields.{field}
 use Rattle.rb_history.specs.Fits.{IsEvent}
 use Rattle.rb_history.specs.Ids.{AskedEvent, id_at, is_id, may_have_id}
 use Rattle.rb_history.specs.Recorded.{event_at, recorded_of}
-use Rattle.rb_history.specs.Sites.{ReadEventsFit}
 use Rattle.rb_history.specs.Values.{size_of}
 use Rattle.rb_history.proofs.FitsLaws.{fits_choice, fits_field, fits_if, fits_map, fits_next, fits_some, fits_then}
 use Rattle.rb_history.proofs.ReceiptsFit.{event, recorded}
@@ -37,8 +36,8 @@ pub asked : (s : Settings) (d : Data) → IfSome (asked_event_at s d) (FitsAsked
 asked s d = fits_choice (FitsAsked s) (size_of d == 2) (event_with_id s d) _ (fits_with_id s d)
     (fits_map (IsEvent s) (FitsAsked s) _ (event_at s d) (event s d) (λ e b. (b, inl refl)))
 
--- each event that is read from a line fits
-pub events_fit : ReadEventsFit
+-- each event that is read from a line by itself fits
+pub events_fit : (s : Settings) (line : List ℕ) (x : AskedEvent) → asked_event_of_line s line ≡ Some x → FitsAsked s x
 events_fit s line x is =
     fits_some (FitsAsked s) (asked_event_of_line s line) x
     (fits_next (FitsAsked s) (asked_event_at s) (read line) (asked s)) is

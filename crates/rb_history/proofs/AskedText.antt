@@ -11,7 +11,7 @@ use Rattle.rb_history.specs.Ids.{AskedEntry, IsAsked, IsIdOrNone, between_if_any
 use Rattle.rb_history.proofs.Public.IdText.{id_quoted}
 use Rattle.rb_history.proofs.Receipts.{end_text}
 
--- the id's member, behind another and before others; nothing where there is no id
+-- the id's member, behind another and before others; nothing if there is no id
 abbrev pub id_text : List ℕ → List ℕ
 id_text id = between_if_any (codes ",\"id\":\"") id (codes "\"")
 
@@ -53,7 +53,7 @@ pub id_or_none : (id text rest : List ℕ) → BeginsWithId id text rest → IsI
 id_or_none id text rest (inl (none, same)) = inl none
 id_or_none id text rest (inr (is, same)) = inr is
 
--- an id that was read is one that its entry may have, where a test says so unless there is none
+-- an id that was read is one that its entry may have, if a test says so unless there is none
 pub is_asked : (id text rest : List ℕ) (x : Entry) → BeginsWithId id text rest → (id ≡ []) ⊎ (may_be_asked x ≡ true)
     → IsAsked (record { id = id; entry = x })
 is_asked id text rest x (inl (none, same)) may = inl none

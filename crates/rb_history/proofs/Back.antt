@@ -19,7 +19,7 @@ reads_requests s = record {
   transfer = λ amount from to k. rw (below amount (2 ^ 64) k) refl;
 }
 
--- where each value of a list is a request, the list is read as these requests
+-- if each value of a list is a request, the list is read as these requests
 pub list_back : (s : Settings) (list : List Data) (rs : List Request) → map (request_alone s) list ≡ map Some rs →
     requests_in s (items_of list) ≡ Some rs
 list_back s [] [] h = refl

@@ -1,4 +1,4 @@
--- What a failed call leaves in place, after others wrote.
+-- The bytes that a failed call leaves in place, after others wrote.
 use Rattle.std.proofs.Common.{◌≡◌, ℕ, List, length, take}
 use Rattle.std.specs.Prelude.{Result, Ok, Err}
 use Rattle.std.specs.Result.{IsErr}

@@ -114,7 +114,7 @@ joined_read done left behind rest line len e h same is =
     h rest (drop len left) (same ∙ ap (lex between) e) ∙ ap (lex between) (append_assoc done (take len left) (drop len left)
     ∙ ap (λ l. done ++ l) (take-append-drop len left)) ∙ is
 
--- where nothing is left the tokens are the line's
+-- if nothing is left the tokens are the line's
 pub all_joined : (done left line : List ℕ) → length left ≤ 0 → lex between (done ++ left) ≡ lex between line → tokens done ≡ tokens line
 all_joined done [] line h e = ap (punctuate fresh) (ap (lex between) (sym (append-nil done)) ∙ e)
 all_joined done (x ∷ xs) line h e = absurd (omega arith)

@@ -1,4 +1,4 @@
--- What a line is read as is a configuration.
+-- A line that is read gives a configuration.
 use Rattle.std.proofs.Common.{◌≡◌, ℕ, Bool, true, false, List, Option, Some, None, refl, subst, inl, inr}
 use Rattle.std.specs.Prelude.{IfSome, ◌==◌, ◌&&◌, ◌||◌, if◌then◌else◌, is_none, nat_le, option_and_then, codes, ◌^◌}
 use Rattle.std.proofs.lemmas.Bool.{and_parts, eqb-true, leb-true}
@@ -15,7 +15,7 @@ use Rattle.rb_history.specs.Configurations.{version_at}
 use Rattle.rb_history.specs.Laws.{ReadConfigsAreConfigured}
 use Rattle.rb_history.specs.Values.{number_below}
 
--- where each value that may follow is such
+-- if each value that may follow is such
 after_any : {A B : Type 0} (Q : B → Type 0) (f : A → Option B) (o : Option A) → ((x : A) → IfSome (f x) Q) → IfSome (option_and_then f o) Q
 after_any Q f None h = tt
 after_any Q f (Some x) h = h x

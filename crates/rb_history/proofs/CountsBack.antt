@@ -1,4 +1,4 @@
--- What is written for the counts of all sites is read as them.
+-- The text that is written for the counts of all sites is read as them.
 use Rattle.std.proofs.Common.{◌≡◌, ◌<◌, ◌^◌, ℕ, zero, suc, List, [], ◌∷◌, ◌++◌, ◌-◌, length, take, drop, Some, refl, sym, ap, subst, ◌∙◌}
 use Rattle.std.proofs.Common.{inl, inr, arith, length-append}
 use Rattle.std.specs.Prelude.{map, option_map, replicate}
@@ -72,7 +72,7 @@ blue_back version sites ns (inr two) long h none = subst (λ v. blue_at v (blue_
 pub widened_length : (ns : List ℕ) → length ns ≡ MOST_SITES_OF_VERSION_1 → length (widened ns) ≡ MOST_SITES
 widened_length ns few = length-append ns (replicate further 0) ∙ (let e = length-replicate {A = ℕ} further 0 in omega arith)
 
--- and each fits where each of the first does
+-- and each fits if each of the first does
 pub widened_fits : (ns : List ℕ) → Each (λ n. n < 2 ^ 32) ns → Each (λ n. n < 2 ^ 32) (widened ns)
 widened_fits ns h = each_append (λ n. n < 2 ^ 32) ns (replicate further 0) h (each_replicate (λ n. n < 2 ^ 32) further 0 (omega arith))
 

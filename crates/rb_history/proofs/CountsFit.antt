@@ -1,4 +1,4 @@
--- What is read of the counts of all sites, in either version of the format, fits.
+-- The counts of all sites that are read, in either version of the format, fit.
 use Rattle.std.proofs.Common.{◌≡◌, ◌<◌, ◌≤◌, ◌+◌, ◌-◌, ◌^◌, ℕ, List, ◌∷◌, ◌++◌, length, Bool, true, false, Option, Some, None, refl, ◌∙◌}
 use Rattle.std.proofs.Common.{arith, length-append}
 use Rattle.std.specs.Prelude.{◌==◌, ◌&&◌, IfSome, drop, if◌then◌else◌, nat_le, nat_lt, option_and_then, option_map, replicate}

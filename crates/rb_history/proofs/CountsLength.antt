@@ -7,7 +7,7 @@ use Rattle.serde_json.specs.declared.value.Value.{Value}
 use Rattle.rb_history.specs.Counts.{counts_in}
 use Rattle.rb_history.specs.Values.{number_below}
 
--- the list of counts, where there is one, is as long as the list
+-- the list of counts, if there is one, is as long as the list
 counts_length : (vs : List Value) (ns : List ℕ) → counts_in (items_view vs) ≡ Some ns → length ns ≡ length vs
 counts_length [] ns e = let same : [] ≡ ns = cc in ap length (sym same)
 counts_length (v ∷ vs) ns e = by_item (number_below (2 ^ 32) (view v)) (counts_in (items_view vs)) e (counts_length vs)

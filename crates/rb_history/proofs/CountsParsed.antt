@@ -68,7 +68,7 @@ fit_more P counts least site n long low near none o p h =
     (each_more P (take least counts ++ replicate (site - least) 0) n
     (each_append P (take least counts) (replicate (site - least) 0) h (each_replicate P (site - least) 0 o)) p)
 
--- what holds of 0 and of the counts so far holds of all, where all others are 0
+-- what holds of 0 and of the counts so far holds of all, if all others are 0
 pub fit_all : (P : ℕ → Type 0) (counts : List ℕ) (least : ℕ) → drop least counts ≡ replicate (MOST_SITES - least) 0 → P 0
     → Each P (take least counts) → Each P counts
 fit_all P counts least none o h = subst (Each P) (all_read counts least none)

@@ -1,4 +1,4 @@
--- What is read from a history's line fits a line, and its id is one.
+-- An entry that is read from a history's line fits a line, and its id is one.
 use Rattle.std.proofs.Common.{◌≡◌, ◌<◌, ◌==◌, ℕ, List, codes, true, inl, inr, refl, ap, ◌∙◌, Some, None, Result}
 use Rattle.std.proofs.Common.{Ok, Err}
 use Rattle.std.specs.Prelude.{IfOk, IfSome, MatchResult, option_and_then}
@@ -65,7 +65,7 @@ pub read_fits : ReadEntriesFit
 read_fits s line site x is = fits_some (FitsAskedLine s) (asked_entry_of_line s line) (site, x)
     (fits_then Fits (FitsAskedLine s) (asked_entry_of_object s) (read line) (fits_read line) (entry s)) is
 
--- where an entry is read, its site is one of the configuration's
+-- if an entry is read, its site is one of the configuration's
 pub site_below : (s : Settings) (line id : List ℕ) (d : Data) (r : Result (ℕ × Entry) LineFault) → read line ≡ Some d
     → MatchResult r (λ x. asked_entry_of_object s d ≡ Some (x.0, record { id = id; entry = x.1 }))
     (λ why. why ≡ Bad → asked_entry_of_object s d ≡ None)

@@ -1,4 +1,4 @@
--- What is written for an event or a line's entry is read as it.
+-- The text that is written for an event or a line's entry is read as it.
 use Rattle.std.proofs.Common.{◌≡◌, ◌<◌, ◌^◌, ℕ, List, [], ◌∷◌, Some, inl, inr, refl, ap}
 use Rattle.std.specs.Prelude.{map, option_map}
 use Rattle.serde_json.specs.View.{items_of}

@@ -46,7 +46,7 @@ abbrev beside : Settings → List ℕ → Data → Option (List ℕ) → Option 
 beside s key value o = option_and_then (λ t. option_and_then (λ e. if may_have_id e then Some (with_id t e) else None)
     (recorded_of s (one_json key value))) o
 
--- where the id is found among these members, the event is read as it is alone
+-- if the id is found among these members, the event is read as it is alone
 abbrev ReadsAlone : Settings → List ℕ → Data → Data → Members → Type 0
 ReadsAlone s key value id ms =
     get (codes "id") (object ms) ≡ Some id → asked_event_at s (object ms) ≡ beside s key value (id_at id)

@@ -5,18 +5,15 @@ use Rattle.std.specs.Prelude.{option_and_then, option_map}
 use Rattle.serde_json.specs.Data.{Data}
 use Rattle.rb_money.specs.Settings.{Settings}
 use Rattle.rb_site.specs.declared.event.Event.{Event}
-use Rattle.rb_site.specs.declared.event.Event.TheVariants.{Receive}
 use Rattle.rb_history.proofs.Reading.{compact_read}
 use Rattle.rb_history.specs.Entries.{asked_event_at, event_json}
 use Rattle.rb_history.specs.Fits.{EventsAreRead}
 use Rattle.rb_history.specs.Ids.{AskedEvent}
-use Rattle.rb_history.specs.Messages.{MessagesAreRead}
 use Rattle.rb_history.specs.Recorded.{event_at, recorded_of}
 use Rattle.rb_history.specs.Values.{size_of}
 use Rattle.rb_history.proofs.EntryBack.{event_back}
 use Rattle.rb_history.proofs.EntryText.{event_text}
 use Rattle.rb_history.proofs.FitsLaws.{tested}
-use Rattle.rb_history.proofs.SentFits.{sends_fit}
 
 -- the event without an id
 abbrev pub without_id : Event → AskedEvent
@@ -41,7 +38,3 @@ event_line s configured e fits =
     let depth = t.shallow in
     ap (option_and_then (asked_event_at s)) (compact_read d d t.numbers (omega arith) t.same)
     ∙ alone_back s d e (event_back s configured e fits)
-
--- each message that a site sends is read as the message
-pub message_line : MessagesAreRead
-message_line s configured me low es m sent = event_line s configured (Receive m) (sends_fit s configured me low es m sent)

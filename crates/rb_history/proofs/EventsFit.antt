@@ -1,4 +1,4 @@
--- What is read of a request, or of an event that commands have too, fits a line.
+-- A request that is read, or an event that commands have too, fits a line.
 use Rattle.std.proofs.Common.{◌^◌, codes}
 use Rattle.std.specs.Prelude.{◌==◌, IfSome}
 use Rattle.serde_json.specs.Data.{Data, Items, no_items, item}

@@ -1,4 +1,4 @@
--- What fits where it is there, step by step.
+-- A value that may be missing fits if it is there, step by step.
 use Rattle.std.proofs.Common.{◌≡◌, ◌<◌, ◌^◌, ℕ, Bool, true, false, List, ◌∷◌, Option, Some, None, refl, subst}
 use Rattle.std.specs.Prelude.{IfSome, if◌then◌else◌, option_and_then, option_map}
 use Rattle.serde_json.specs.Data.{Data}
@@ -25,7 +25,7 @@ pub fits_then : {A B : Type 0} (P : A → Type 0) (Q : B → Type 0) (f : A → 
 fits_then P Q f None h g = tt
 fits_then P Q f (Some x) h g = g x h
 
--- the same where nothing is known of what is there
+-- the same if nothing is known of what is there
 pub fits_next : {A B : Type 0} (Q : B → Type 0) (f : A → Option B) (o : Option A)
     → ((x : A) → IfSome (f x) Q) → IfSome (option_and_then f o) Q
 fits_next Q f None g = tt
@@ -37,17 +37,17 @@ pub fits_map : {A B : Type 0} (P : A → Type 0) (Q : B → Type 0) (f : A → B
 fits_map P Q f None h g = tt
 fits_map P Q f (Some x) h g = g x h
 
--- the same where nothing is known of what is there
+-- the same if nothing is known of what is there
 pub fits_made : {A B : Type 0} (Q : B → Type 0) (f : A → B) (o : Option A) → ((x : A) → Q (f x)) → IfSome (option_map f o) Q
 fits_made Q f None g = tt
 fits_made Q f (Some x) g = g x
 
--- what is there only where a test holds
+-- a value that is there only if a test holds
 pub fits_if : {A : Type 0} (Q : A → Type 0) (b : Bool) (o : Option A) → (b ≡ true → IfSome o Q) → IfSome (if b then o else None) Q
 fits_if Q true o h = h refl
 fits_if Q false o h = tt
 
--- something is there only where the test holds
+-- a value is there only if the test holds
 pub tested : {A : Type 0} (b : Bool) (o : Option A) (x : A) → (if b then o else None) ≡ Some x → b ≡ true
 tested true o x e = refl
 tested false o x e = absurd (cc)
@@ -57,7 +57,7 @@ pub fits_choice : {A : Type 0} (Q : A → Type 0) (b : Bool) (o p : Option A) �
 fits_choice Q true o p h k = h
 fits_choice Q false o p h k = k
 
--- what the value of a key gives, or what comes next where the key isn't there
+-- what the value of a key gives, or what comes next if the key isn't there
 pub fits_either : {A : Type 0} (Q : A → Type 0) (o : Option Data) (f : Data → Option A) (next : Option A)
     → ((d : Data) → IfSome (f d) Q) → IfSome next Q → IfSome (either o f next) Q
 fits_either Q None f next h k = k

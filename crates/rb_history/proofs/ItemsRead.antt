@@ -1,4 +1,4 @@
--- What is read of a list's items, one by one.
+-- The items of a list, read one by one.
 use Rattle.std.proofs.Common.{◌≡◌, ◌+◌, ℕ, List, [], ◌∷◌, ◌++◌, drop, Option, Some, None, sym, ap, ◌∙◌, append_assoc}
 use Rattle.std.specs.Prelude.{option_and_then, option_map}
 use Rattle.serde_json.specs.Data.{Data, Items, item}
@@ -28,7 +28,7 @@ one_more_read of_one of_all front x values i v whole each here is so = by (of_al
     by None e = e
     by (Some later) e = ap Some (append_assoc front (x ∷ []) later) ∙ e
 
--- where an item isn't read, the list isn't
+-- if an item isn't read, the list isn't
 pub none_read : {A : Type 0} (of_one : Data → Option A) (of_all : Items → Option (List A)) (front : List A)
     (values : List Value) (i : ℕ) (v : Value) (whole : Option (List A)) → ReadsEach of_one of_all
     → drop i values ≡ v ∷ drop (i + 1) values → of_one (view v) ≡ None → with_front front (of_all (items_view (drop i values))) ≡ whole

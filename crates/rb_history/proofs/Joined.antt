@@ -1,4 +1,4 @@
--- What is read one after another is what is written.
+-- Parts that are read one after another are the text that is written.
 use Rattle.std.proofs.Common.{◌≡◌, ℕ, List, ◌++◌, codes, sym, ap, ◌∙◌, append_assoc}
 use Rattle.rb_shadow.specs.Labels.{word_of}
 use Rattle.rb_shadow.specs.NameText.{IsName, name_text}

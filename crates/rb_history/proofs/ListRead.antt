@@ -27,7 +27,7 @@ one_more written text left comma behind next xs x so e f later rest g =
     ∙ ap (λ l. rest_text [] l ++ rest)
     (sym (append_assoc (map written xs) (written x ∷ []) later) ∙ ap (λ l. l ++ later) (sym (map-append written xs (x ∷ []))))
 
--- all items are read where the list's end comes
+-- all items are read if the list's end comes
 pub all_read : {A : Type 0} (written : A → Data) (text left comma rest : List ℕ) (xs : List A) → BeginsWith written text left comma xs
     → left ≡ codes "]" ++ rest → text ≡ items_text false (items_of (map written xs)) ++ rest
 all_read written text left comma rest xs so e =

@@ -4,7 +4,7 @@ use Rattle.std.specs.Prelude.{IfSome}
 use Rattle.serde_json.specs.Data.{Data}
 use Rattle.serde_json.specs.Read.{read}
 use Rattle.rb_money.specs.Settings.{Settings}
-use Rattle.rb_history.specs.Banks.{NamedEventsFit, event_beside, event_named, event_or, event_to, has_bank, is_receipt}
+use Rattle.rb_history.specs.Banks.{ReadEventsFit, event_beside, event_named, event_or, event_to, has_bank, is_receipt}
 use Rattle.rb_history.specs.Entries.{asked_event_at, event_with_id}
 use Rattle.rb_history.specs.Fits.{IsEvent}
 use Rattle.rb_history.specs.Ids.{AskedEvent}
@@ -32,8 +32,8 @@ named_fits s bank d = or_fits s (asked_event_at s d) _ (asked s d)
     (fits_if (FitsAsked s) (has_bank bank d) (event_beside s d) (λ e. beside_fits s d))
 
 -- each event to a bank that is read from a line fits
-pub named_events_fit : NamedEventsFit
-named_events_fit s [] line x is = events_fit s line x is
-named_events_fit s (b ∷ bs) line x is =
+pub read_fits : ReadEventsFit
+read_fits s [] line x is = events_fit s line x is
+read_fits s (b ∷ bs) line x is =
     fits_some (FitsAsked s) (event_to s (b ∷ bs) line) x
     (fits_next (FitsAsked s) (event_named s (b ∷ bs)) (read line) (named_fits s (b ∷ bs))) is

@@ -4,7 +4,7 @@ use Rattle.std.specs.Fmt.{digits, signed_decimal}
 use Rattle.serde_json.specs.Find.{of_integer}
 use Rattle.serde_json.specs.Written.{number_text}
 
--- an integer as JSON is written with its sign where it is negative
+-- an integer as JSON is written with its sign if it is negative
 pub integer_text : (z : ℤ) → number_text (of_integer z) ≡ signed_decimal z
 integer_text (pos n) = refl
 integer_text (negsuc n) = refl

@@ -35,7 +35,7 @@ in_object d text inside behind rest e m f =
     e ∙ ap (λ l. codes "{\"" ++ l) (m.written ∙ ap (λ l. key ++ (codes ":" ++ (value ++ l))) f) ∙ whole
     ∙ ap (λ o. compact_text o ++ rest) (sym m.object)
 
--- where an object of one member is read from its own text, so is the member's value
+-- if an object of one member is read from its own text, so is the member's value
 value_read : (key : List ℕ) (value : Data) (o : Option Data)
     → option_map object (option_and_then (λ d. Some (put key d no_members)) o) ≡ Some (one_json key value) → o ≡ Some value
 value_read key value None e = absurd (cc)

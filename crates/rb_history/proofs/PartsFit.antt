@@ -1,4 +1,4 @@
--- What is read of a number, a name or a place fits its type.
+-- A number, a name or a place that is read fits its type.
 use Rattle.std.proofs.Common.{◌≡◌, ◌<◌, ◌^◌, ℕ, List, [], Option, Some, None, true, refl, inl, inr}
 use Rattle.std.specs.Prelude.{◌&&◌, IfSome, bytes_eq, if◌then◌else◌, nat_lt, option_and_then, option_map, unwrap_or}
 use Rattle.std.specs.List.{position}

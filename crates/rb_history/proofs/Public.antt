@@ -1,4 +1,4 @@
--- What other crates cite.
+-- Lemmas that other crates cite.
 pub mod Appended
 pub mod Banks
 pub mod Each

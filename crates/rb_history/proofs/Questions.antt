@@ -12,8 +12,8 @@ use Rattle.serde_json.specs.Events.{members_len}
 use Rattle.serde_json.specs.Find.{get}
 use Rattle.serde_json.specs.Read.{read}
 use Rattle.rb_money.specs.Settings.{Settings}
-use Rattle.rb_history.specs.Entries.{asked_event_at}
-use Rattle.rb_history.specs.Questions.{QuestionsAreNoEvents, question_asked, question_of}
+use Rattle.rb_history.specs.Entries.{asked_event_at, asked_event_of_line}
+use Rattle.rb_history.specs.Questions.{question_asked, question_of, question_of_line}
 use Rattle.rb_history.specs.Recorded.{event_at}
 use Rattle.rb_history.specs.Values.{one_json, size_of}
 use Rattle.rb_history.specs.declared.question.Question.{Question}
@@ -61,5 +61,7 @@ in_line : (s : Settings) (o : Option Data) (q : Question) → option_and_then qu
 in_line s None q e = refl
 in_line s (Some d) q e = no_event s d q e
 
-pub question_no_event : QuestionsAreNoEvents
+-- a line that is a question by itself is no event by itself
+pub question_no_event : (s : Settings) (line : List ℕ) (q : Question) → question_of_line line ≡ Some q
+    → asked_event_of_line s line ≡ None
 question_no_event s line q e = in_line s (read line) q e

@@ -1,4 +1,4 @@
--- What is read is what was written.
+-- The value that is read is the one that was written.
 use Rattle.std.proofs.Common.{ℕ, List, ◌++◌, Option, ◌≡◌, [], ◌∷◌, Some, None, IfSome, refl, sym, ap, ◌∙◌, ◌≤◌, append-nil}
 use Rattle.std.proofs.Common.{append_assoc}
 use Rattle.std.specs.Prelude.{option_map, option_and_then}
@@ -20,7 +20,7 @@ use Rattle.serde_json.proofs.Texts.{print-outline}
 abbrev pub with_front : {A : Type 0} → List A → Option (List A) → Option (List A)
 with_front front o = option_map (λ later. front ++ later) o
 
--- where nothing is read so far, all is still to be read
+-- if nothing is read so far, all is still to be read
 pub nothing_read : {A : Type 0} (left : Option (List A)) → with_front [] left ≡ left
 nothing_read None = refl
 nothing_read (Some later) = refl
@@ -40,7 +40,7 @@ pub next_read : {A : Type 0} (done new : List A) (x : A) (one : Option A) (left 
 next_read done new x one left whole e is h =
     ap (λ l. with_front l left) e ∙ front_more done x left ∙ ap (λ o. with_front done (one_before o left)) (sym is) ∙ h
 
--- where one is none, nothing is read
+-- if one is none, nothing is read
 pub none_read : {A : Type 0} (done : List A) (one : Option A) (left whole : Option (List A)) → one ≡ None
     → with_front done (one_before one left) ≡ whole → whole ≡ None
 none_read done one left whole is h = sym h ∙ ap (λ o. with_front done (one_before o left)) is

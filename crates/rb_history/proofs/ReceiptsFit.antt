@@ -1,4 +1,4 @@
--- What is read of a shadow, of a token or of any event fits a line.
+-- A shadow, a token or any event that is read fits a line.
 use Rattle.std.proofs.Common.{◌^◌, ℕ, Some, codes}
 use Rattle.std.specs.Prelude.{◌==◌, IfSome, option_map}
 use Rattle.serde_json.specs.Data.{Data}

@@ -1,4 +1,4 @@
--- What is read of a refusal fits a line.
+-- A refusal that is read fits a line.
 use Rattle.std.proofs.Common.{◌^◌, ℕ, List, [], ◌∷◌, Some, codes}
 use Rattle.std.specs.Prelude.{◌==◌, IfSome}
 use Rattle.serde_json.specs.Data.{Data}
@@ -9,12 +9,12 @@ use Rattle.rb_money.specs.Refusals.{number_of_refusal}
 use Rattle.rb_history.specs.Values.{number_below, size_of}
 use Rattle.rb_history.specs.Fields.{field}
 use Rattle.rb_history.specs.Fits.{Each, IsCause, IsRefusal}
-use Rattle.rb_history.specs.RepliesRead.{cause_at, find_refusal, plain_refusals, refusal_parsed, tells_declined}
+use Rattle.rb_history.specs.RepliesRead.{cause_at, find_refusal, plain_refusals, refusal_parsed, is_word_declined}
 use Rattle.rb_history.proofs.FitsLaws.{IsByte, IsWord, fits_choice, fits_field, fits_if, fits_map, fits_then}
 use Rattle.rb_history.proofs.PartsFit.{byte_at, number, word_at}
 
 cause : (d : Data) → IfSome (cause_at d) IsCause
-cause d = fits_choice IsCause (tells_declined d) (Some CauseDeclined) _ tt
+cause d = fits_choice IsCause (is_word_declined d) (Some CauseDeclined) _ tt
     (fits_map IsByte IsCause CauseRefused (number_below (2 ^ 8) d) (number (2 ^ 8) d) (λ n h. h))
 
 find : (n : ℕ) (rs : List Refusal) → Each IsRefusal rs → IfSome (find_refusal n rs) IsRefusal

@@ -1,4 +1,4 @@
--- What is read of a reply fits a line.
+-- A reply that is read fits a line.
 use Rattle.std.proofs.Common.{◌^◌, codes}
 use Rattle.std.specs.Prelude.{◌==◌, IfSome, nat_lt, option_and_then}
 use Rattle.std.proofs.lemmas.Bool.{ltb-true}

@@ -1,4 +1,4 @@
--- What is written for a reply is read as the reply.
+-- The text that is written for a reply is read as the reply.
 use Rattle.std.proofs.Common.{◌≡◌, ◌^◌, ℕ, ℤ, pos, negsuc, List, [], ◌∷◌, Some, Bool, refl}
 use Rattle.std.specs.Prelude.{map}
 use Rattle.serde_json.specs.View.{items_of}

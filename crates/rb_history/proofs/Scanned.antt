@@ -1,4 +1,4 @@
--- What a scan of a line's bytes finds.
+-- The finds of a scan of a line's bytes.
 use Rattle.std.proofs.Common.{◌≡◌, ◌<◌, ◌≤◌, ◌+◌, ◌-◌, ◌*◌, ◌/◌, ◌%◌, ◌^◌, decimal, ℕ, List, [], ◌∷◌, ◌++◌, length, take, get_or, sym, ap}
 use Rattle.std.proofs.Common.{◌∙◌, arith, drop, subst}
 use Rattle.std.proofs.Math.Seq.{take-add}

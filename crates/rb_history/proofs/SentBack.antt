@@ -10,7 +10,7 @@ use Rattle.rb_money.specs.Settings.{IsConfigured, Settings}
 use Rattle.rb_site.specs.declared.event.Event.TheVariants.{Receive}
 use Rattle.rb_site.specs.declared.message.Message.{Message}
 use Rattle.rb_site.specs.declared.message.Message.TheVariants.{Shadow as ShadowMessage, Token as TokenOnItsWay}
-use Rattle.rb_history.specs.Banks.{SentMessagesAreRead, event_named, event_to, receipt_member, sent_json}
+use Rattle.rb_history.specs.Banks.{MessagesAreRead, event_named, event_to, receipt_member, sent_json}
 use Rattle.rb_history.specs.Entries.{event_json, shadow_json, token_json}
 use Rattle.rb_history.specs.Fits.{IsEvent}
 use Rattle.rb_history.specs.Recorded.{event_at}
@@ -57,7 +57,7 @@ alone_read s c (ShadowMessage v) fits = event_line s c (Receive (ShadowMessage v
 alone_read s c (TokenOnItsWay m) fits = event_line s c (Receive (TokenOnItsWay m)) fits
 
 -- each message that a site sends is read by the sites of a bank of the same name, or of none
-pub sent_read : SentMessagesAreRead
+pub sent_read : MessagesAreRead
 sent_read s c me low es m sent [] named = alone_read s c m (sends_fit s c me low es m sent)
 sent_read s c me low es m sent (b ∷ bs) named =
     let fits = sends_fit s c me low es m sent in

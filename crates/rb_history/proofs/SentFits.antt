@@ -1,4 +1,4 @@
--- What a site sends fits a line, whatever its events.
+-- The messages of a site fit a line, whatever its events.
 use Rattle.std.proofs.Common.{◌≡◌, ◌<◌, ◌≤◌, ◌+◌, ℕ, Bool, true, false, cond, not, ◌&&◌, ◌||◌, List, [], ◌∷◌, ◌++◌, length, Option}
 use Rattle.std.proofs.Common.{Some, None}
 use Rattle.std.proofs.Common.{Result, Ok, Err, refl, sym, ap, subst, ◌∙◌, inl, inr, arith, append-nil, append_assoc}
@@ -72,7 +72,7 @@ if_not : (s : Settings) (t : ModelSite) (b : Bool) (why : Refusal) (next : Outco
 if_not s t true why next g h = refuses s t why g
 if_not s t false why next g h = h refl
 
--- a refusal where there is one, and else what comes next
+-- a refusal if there is one, and else what comes next
 if_none : {E : Type 0} (s : Settings) (t : ModelSite) (refused : E → Refusal) (o : Option E) (next : Outcome) → IsInOrder s t
     → (o ≡ None → Keeps s t next) → Keeps s t (unless (λ why. Refuses (refused why)) o next)
 if_none s t refused (Some why) next g h = refuses s t (refused why) g

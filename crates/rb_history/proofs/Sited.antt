@@ -35,7 +35,7 @@ key_first key value site = member key value (member (codes "site") site no_membe
 abbrev site_first : List ℕ → Data → Data → Members
 site_first key value site = member (codes "site") site (member key value no_members)
 
--- where the site is found among these members, the other is read as it is alone
+-- if the site is found among these members, the other is read as it is alone
 abbrev ReadsAlone : Settings → List ℕ → Data → Data → Members → Type 0
 ReadsAlone s key value site ms = get (codes "site") (object ms) ≡ Some site
     → command_of s (object ms) ≡ option_and_then (command_for s (one_json key value)) (number_below (2 ^ 8) site)
@@ -61,7 +61,8 @@ by_site Equal s key value site other = absurd (true≢false other)
 by_site Greater s key value site other = alone_first s key value site
 
 -- the command of a member
-at_site : (s : Settings) (command : ℕ → WorldEvent) (key : List ℕ) (value : Data) (site : ℕ) → site < 2 ^ 8 → IsCommandOf s command key value
+at_site : (s : Settings) (command : ℕ → WorldEvent) (key : List ℕ) (value : Data) (site : ℕ) → site < 2 ^ 8
+    → IsCommandOf s command key value
     → option_and_then (command_for s (one_json key value)) (number_below (2 ^ 8) (number_json site)) ≡ Some (command site)
 at_site s command key value site h is =
     ap (λ b. option_and_then (command_for s (one_json key value)) (if b then Some site else None)) (below site (2 ^ 8) h) ∙ is.alone site

@@ -71,7 +71,7 @@ first_line s command site text rest t h e =
     ) (omega arith)
     (rw (number_of-decimal site k, is.same) refl) (site_after s command t.key t.value site h t.is)
 
--- where the site is first or last
+-- if the site is first or last
 pub any_line : (s : Settings) (first : Option ℕ) (command : ℕ → WorldEvent) (site : ℕ) (text rest : List ℕ) → Spells s command text rest
     → site < 2 ^ 8 → EndsLine first site rest → command_at s (codes "{\"" ++ behind_site first text) ≡ Some (command site)
 any_line s None command site text rest t h e = last_line s command site text rest t h e

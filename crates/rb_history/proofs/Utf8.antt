@@ -87,7 +87,7 @@ comma_utf8 true = IsUtf8-are_ascii _ refl
 comma_utf8 false = IsUtf8-nil
 
 mutual
-  -- a value is written as UTF-8, where its strings are UTF-8 and its keys ASCII
+  -- a value is written as UTF-8 if its strings are UTF-8 and its keys ASCII
   pub text_utf8 : (d : Data) → HasTexts d → IsUtf8 (compact_text d)
   text_utf8 null h = IsUtf8-are_ascii _ refl
   text_utf8 (boolean b) h = IsUtf8-boolean b
@@ -109,7 +109,7 @@ mutual
       IsUtf8-append (comma_if later) _ (comma_utf8 later) (IsUtf8-append (quoted k) _ key
       (IsUtf8-append (codes ":") _ (IsUtf8-are_ascii _ refl) value))
 
--- each string in a list of written things is UTF-8, where those in each thing are
+-- each string in a list of written things is UTF-8 if those in each thing are
 pub list_texts : {A : Type 0} (written : A → Data) → ((x : A) → HasTexts (written x)) → (xs : List A) →
     ItemsHaveTexts (items_of (map written xs))
 list_texts written h [] = tt

@@ -1,4 +1,4 @@
--- What a call adds to a list of bytes.
+-- The bytes that a call adds to a list.
 use Rattle.std.specs.Prelude.{◌≡◌, List, ℕ, ◌++◌, length, take, Result, MatchResult}
 
 -- the text at the end, or after an `Err` something at the end

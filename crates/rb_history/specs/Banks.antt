@@ -65,7 +65,8 @@ event_beside s d = if size_of d == 3 then event_with_id s d
     else if size_of d == 2 then option_map (λ e. record { id = []; event = e }) (recorded_of s d)
     else None
 
--- the event to a bank with a name: the one that is one by itself, which must not be a receipt; else the one beside the name
+-- the event to a bank with a name: the one that is one by itself, which must not be a receipt; else the one beside
+-- the name
 abbrev pub event_or : Option AskedEvent → Option AskedEvent → Option AskedEvent
 event_or (Some x) beside = if is_receipt x.event then None else Some x
 event_or None beside = beside
@@ -109,8 +110,8 @@ question_to (b ∷ bs) line = option_and_then (question_named (b ∷ bs)) (read 
 -- ---- laws
 
 -- a line that is a question to a bank is no event to it
-abbrev pub NamedQuestionsAreNoEvents : Type 0
-NamedQuestionsAreNoEvents = (s : Settings) (bank line : List ℕ) (q : Question) → question_to bank line ≡ Some q
+abbrev pub QuestionsAreNoEvents : Type 0
+QuestionsAreNoEvents = (s : Settings) (bank line : List ℕ) (q : Question) → question_to bank line ≡ Some q
     → event_to s bank line ≡ None
 
 -- a line of another bank is no event and no question
@@ -119,12 +120,12 @@ OtherBanksAskNothing = (s : Settings) (bank line : List ℕ) → is_of_other s b
     → (event_to s bank line ≡ None) × (question_to bank line ≡ None)
 
 -- what is read from any line as an event to a bank fits; and its id is one, on an event that may have it, or none
-abbrev pub NamedEventsFit : Type 0
-NamedEventsFit = (s : Settings) (bank line : List ℕ) (x : AskedEvent) → event_to s bank line ≡ Some x
+abbrev pub ReadEventsFit : Type 0
+ReadEventsFit = (s : Settings) (bank line : List ℕ) (x : AskedEvent) → event_to s bank line ≡ Some x
     → IsEvent s x.event × ((x.id ≡ []) ⊎ ((is_id x.id ≡ true) × (may_have_id x.event ≡ true)))
 
 -- each message that a site sends, whatever its events, is read by the sites of a bank of the same name, or of none
-abbrev pub SentMessagesAreRead : Type 0
-SentMessagesAreRead = (s : Settings) → IsConfigured s → (me : ℕ) → me < s.sites → (es : List Event) (m : Message)
+abbrev pub MessagesAreRead : Type 0
+MessagesAreRead = (s : Settings) → IsConfigured s → (me : ℕ) → me < s.sites → (es : List Event) (m : Message)
     → IsAmong m (sends_of s (first_site me) es) → (bank : List ℕ) → IsIdOrNone bank
     → event_to s bank (compact_text (sent_json s bank m)) ≡ Some (record { id = []; event = Receive m })

@@ -22,7 +22,7 @@ use Rattle.rb_history.specs.Values.{one_json}
 abbrev pub behind_quote : List ℕ → List ℕ
 behind_quote text = escape text ++ codes "\""
 
--- an account's name behind its first quote, or "?" where the configuration has no account at the place
+-- an account's name behind its first quote, or "?" if the configuration has no account at the place
 abbrev pub account_behind_quote : Settings → Place → List ℕ
 account_behind_quote s a = behind_quote (unwrap_or (slice_get s.names a.0) (codes "?"))
 

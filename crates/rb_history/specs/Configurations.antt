@@ -24,7 +24,7 @@ accounts_in (item d ds) = option_and_then (λ a. option_map (λ later. a ∷ lat
 abbrev pub accounts_at : Data → Option (List Account)
 accounts_at d = option_and_then accounts_in (as_array d)
 
--- a limit: the most that it may be where its key is missing
+-- a limit: the most that it may be if its key is missing
 abbrev pub limit_read : List ℕ → ℕ → Data → Option ℕ
 limit_read key most d = either (get key d) (number_below (2 ^ 32)) (Some most)
 
@@ -58,7 +58,7 @@ version_at d = option_and_then (number_below (2 ^ 8)) (get (codes "version") d)
 abbrev pub is_version : ℕ → ℕ → Bool
 is_version version sites = ((version == 1) && nat_le sites MOST_SITES_OF_VERSION_1) || (version == 2)
 
--- the configuration of these parts, where nothing is wrong with it
+-- the configuration of these parts, if nothing is wrong with it
 abbrev pub config_from : ℕ → ℕ → Limits → List Account → Option Settings
 config_from version sites limits accounts = if is_version version sites && is_none (config_fault sites accounts limits)
     then Some (record (settings_of sites accounts limits) { version = version }) else None

@@ -28,7 +28,7 @@ use Rattle.rb_history.specs.Fields.{field}
 
 -- ---- what is written
 
--- an account's name, or "?" where the configuration has no account at the place
+-- an account's name, or "?" if the configuration has no account at the place
 abbrev pub account_json : Settings → Place → Data
 account_json s a = string (unwrap_or (slice_get s.names a.0) (codes "?"))
 

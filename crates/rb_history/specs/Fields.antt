@@ -1,4 +1,4 @@
--- What is read from the parts of a history's line: kinds, lists of six, and the value of a key.
+-- The parts of a history's line, as they are read: kinds, lists of six, and the value of a key.
 use Rattle.std.specs.Prelude.{ℕ, List, Option, Some, None, option_and_then}
 use Rattle.serde_json.specs.Data.{Data, Items, no_items, item}
 use Rattle.serde_json.specs.Find.{as_array, as_str, get}

@@ -103,12 +103,12 @@ IsReply (BalanceIs n) = n < 2 ^ 64
 IsReply (StatementIs t) = (t.start < 2 ^ 64) × Each IsStatementRow t.rows × (t.balance < 2 ^ 64)
 IsReply (Refused why) = IsRefusal why
 
--- the line of each entry of a site of the configuration is read as the entry with its id, where that fits
+-- the line of each entry of a site of the configuration is read as the entry with its id, if that fits
 abbrev pub EntriesAreRead : Type 0
 EntriesAreRead = (s : Settings) → IsConfigured s → (site : ℕ) (x : AskedEntry) → site < s.sites → IsEvent s x.entry.event
     → IsReply x.entry.reply → IsAsked x → asked_entry_of_line s (compact_text (asked_entry_json s site x)) ≡ Some (site, x)
 
--- the line of each event by itself is read as the event, where that fits
+-- the line of each event by itself is read as the event, if that fits
 abbrev pub EventsAreRead : Type 0
 EventsAreRead = (s : Settings) → IsConfigured s → (e : Event) → IsEvent s e
     → asked_event_of_line s (compact_text (event_json s e)) ≡ Some (record { id = []; event = e })

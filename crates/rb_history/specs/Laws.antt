@@ -1,4 +1,4 @@
--- What the lines that are read have in common.
+-- A law of all lines that are read.
 use Rattle.std.specs.Prelude.{◌≡◌, ℕ, List, Some}
 use Rattle.rb_money.specs.Settings.{IsConfigured, Settings}
 use Rattle.rb_history.specs.Configurations.{config_at}

@@ -23,7 +23,6 @@ pub mod Receipts
 pub mod Migrated
 pub mod Verdicts
 pub mod OneLine
-pub mod Messages
 pub mod Sites
 pub mod OnLines
 pub mod Questions

@@ -1,9 +1,9 @@
--- What reading a line answers.
+-- The answers to reading a line.
 use Rattle.std.specs.Prelude.{◌≡◌, Option, Some, None, Result, Ok, Err}
 use Rattle.rb_history.specs.declared.fault.LineFault.{LineFault}
 use Rattle.rb_history.specs.declared.fault.LineFault.TheVariants.{Bad, OutOfMemory}
 
--- what the line is, or Bad where it is nothing; nothing is said of running out of memory
+-- what the line is, or Bad if it is nothing; nothing is said of running out of memory
 abbrev pub Gives : {A : Type 0} → Result A LineFault → Option A → Type 0
 Gives (Ok x) meant = meant ≡ Some x
 Gives (Err Bad) meant = meant ≡ None

@@ -1,4 +1,4 @@
--- What is written for a configuration or for an entry is one line.
+-- The text that is written for a configuration or for an entry is one line.
 use Rattle.std.specs.Prelude.{◌≡◌, ◌==◌, ℕ, List, true, not}
 use Rattle.std.specs.List.{list_all}
 use Rattle.std.specs.Str.{is_utf8}

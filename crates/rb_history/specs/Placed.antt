@@ -1,4 +1,4 @@
--- What is put into a slice of bytes.
+-- Texts put into a slice of bytes.
 use Rattle.std.specs.Prelude.{◌≡◌, List, ℕ, ◌+◌, ◌++◌, length, take}
 
 -- the new bytes have a text behind the first `at` of the old ones, up to `end`

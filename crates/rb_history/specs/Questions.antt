@@ -5,19 +5,17 @@ use Rattle.serde_json.specs.Data.{Data}
 use Rattle.serde_json.specs.Find.{get, as_str}
 use Rattle.serde_json.specs.Read.{read}
 use Rattle.rb_money.specs.declared.limits.TheConstants.{MOST_HISTORY}
-use Rattle.rb_money.specs.Settings.{Settings}
-use Rattle.rb_history.specs.Entries.{asked_event_of_line}
 use Rattle.rb_history.specs.declared.question.Question.{Question}
 use Rattle.rb_history.specs.declared.question.Question.TheVariants.{About, Resend}
 use Rattle.rb_history.specs.Values.{either, number_below, size_of}
 
 -- the value is the word "site"
-abbrev pub tells_site : Data → Bool
-tells_site d = unwrap_or (option_map (λ word. bytes_eq word (codes "site")) (as_str d)) false
+abbrev pub is_word_site : Data → Bool
+is_word_site d = unwrap_or (option_map (λ word. bytes_eq word (codes "site")) (as_str d)) false
 
 -- the question about the site, from the word for it
 abbrev pub about_at : Data → Option Question
-about_at d = if tells_site d then Some About else None
+about_at d = if is_word_site d then Some About else None
 
 -- the question that the values of its two keys, if they are there, come to: about the site, or for the messages of the
 -- last entries, of which there may be as many as a history may have
@@ -31,7 +29,3 @@ question_of d = if size_of d == 1 then question_asked (get (codes "about") d) (g
 -- the question that a line is
 abbrev pub question_of_line : List ℕ → Option Question
 question_of_line line = option_and_then question_of (read line)
-
--- no question is an event, at any settings
-abbrev pub QuestionsAreNoEvents : Type 0
-QuestionsAreNoEvents = (s : Settings) (line : List ℕ) (q : Question) → question_of_line line ≡ Some q → asked_event_of_line s line ≡ None

@@ -70,7 +70,7 @@ abbrev pub line : Reply → List ℕ
 line r = compact_text (reply_json r) ++ codes "\n"
 
 -- a reply whose line is short: neither names nor a statement
-abbrev pub HasShortLine : Reply → Type 0
-HasShortLine (Names _) = ⊥
-HasShortLine (Statement _) = ⊥
-HasShortLine _ = ⊤
+abbrev pub IsShortReply : Reply → Type 0
+IsShortReply (Names _) = ⊥
+IsShortReply (Statement _) = ⊥
+IsShortReply _ = ⊤

@@ -23,12 +23,12 @@ use Rattle.rb_history.specs.Fields.{field, label_at, six_of}
 -- ---- refusals
 
 -- the value is the word "declined"
-abbrev pub tells_declined : Data → Bool
-tells_declined d = unwrap_or (option_map (λ word. bytes_eq word (codes "declined")) (as_str d)) false
+abbrev pub is_word_declined : Data → Bool
+is_word_declined d = unwrap_or (option_map (λ word. bytes_eq word (codes "declined")) (as_str d)) false
 
 -- what stopped a batch: that word, or any number below 2^8
 abbrev pub cause_at : Data → Option Cause
-cause_at d = if tells_declined d then Some CauseDeclined else option_map CauseRefused (number_below (2 ^ 8) d)
+cause_at d = if is_word_declined d then Some CauseDeclined else option_map CauseRefused (number_below (2 ^ 8) d)
 
 -- already cancelled, from an object of two members
 abbrev pub cancelled_of : Data → Option Refusal

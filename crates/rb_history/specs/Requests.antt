@@ -13,7 +13,7 @@ use Rattle.rb_scratch.specs.declared.request.Request.TheVariants.{Deposit, Withd
 use Rattle.rb_history.specs.Values.{number_json, name_json, pair_json, three_json, one_json, number_below, name_at, pair_of, three_of}
 use Rattle.rb_history.specs.Values.{size_of, either}
 
--- the place of an account's name: nowhere where no account has it
+-- the place of an account's name: nowhere if no account has it
 abbrev pub account_place : Settings → List ℕ → Place
 account_place s name = unwrap_or (place_in s.names name) NOWHERE
 

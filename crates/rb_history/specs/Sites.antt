@@ -1,5 +1,6 @@
--- What a site replies and holds fits a line, whatever its events, and so does what it reads.
-use Rattle.std.specs.Prelude.{◌≡◌, ◌⊎◌, ℕ, ◌<◌, true, List, [], Some, ⊤}
+-- The replies of a site and the names that it holds fit a line, whatever its events; and so does each command that is
+-- read.
+use Rattle.std.specs.Prelude.{◌≡◌, ℕ, ◌<◌, List, Some, ⊤}
 use Rattle.rb_money.specs.Settings.{IsConfigured, Settings}
 use Rattle.rb_shadow.specs.NameText.{IsName}
 use Rattle.rb_shadow.specs.Operations.{find_in}
@@ -10,8 +11,6 @@ use Rattle.rb_site.specs.declared.world_event.WorldEvent.{WorldEvent}
 use Rattle.rb_site.specs.declared.world_event.WorldEvent.TheVariants.{At, Deliver}
 use Rattle.rb_site.specs.Events.{after_events, first_site, reply_to}
 use Rattle.rb_site.specs.Worlds.{IsOwn}
-use Rattle.rb_history.specs.Entries.{asked_event_of_line}
-use Rattle.rb_history.specs.Ids.{AskedEvent, is_id, may_have_id}
 use Rattle.rb_history.specs.Fits.{IsEvent, IsReply}
 use Rattle.rb_history.specs.OnLines.{command_on}
 
@@ -24,11 +23,6 @@ RepliesFitLines = (s : Settings) → IsConfigured s → (me : ℕ) → me < s.si
 abbrev pub HeldNamesFitLines : Type 0
 HeldNamesFitLines = (s : Settings) → IsConfigured s → (me : ℕ) → me < s.sites → (es : List Event) (x : OpName)
     (v : Shadow) → find_in (after_events s (first_site me) es).held x ≡ Some v → IsName x
-
--- what is read from any line as an event fits; and its id is one, on an event that may have it, or none
-abbrev pub ReadEventsFit : Type 0
-ReadEventsFit = (s : Settings) (line : List ℕ) (x : AskedEvent) → asked_event_of_line s line ≡ Some x
-    → IsEvent s x.event × ((x.id ≡ []) ⊎ ((is_id x.id ≡ true) × (may_have_id x.event ≡ true)))
 
 -- an event of a site's own that fits, or a delivery
 abbrev pub IsFittingCommand : Settings → WorldEvent → Type 0

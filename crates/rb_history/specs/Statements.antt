@@ -1,4 +1,4 @@
--- What is written for a statement.
+-- The text that is written for a statement.
 use Rattle.std.specs.Prelude.{codes}
 use Rattle.serde_json.specs.Data.{Data, boolean, string, array, object, no_items, item, member, no_members}
 use Rattle.rb_statements.specs.declared.account.Statement.{Statement}

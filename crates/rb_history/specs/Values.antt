@@ -11,7 +11,7 @@ use Rattle.rb_shadow.specs.NameText.{name_of, name_text}
 abbrev pub number_json : ℕ → Data
 number_json n = number (unsigned n)
 
--- a whole number, with its sign where it is negative
+-- a whole number, with its sign if it is negative
 abbrev pub integer_json : ℤ → Data
 integer_json z = number (of_integer z)
 
@@ -78,7 +78,7 @@ size_of (string s) = 0
 size_of (array ds) = 0
 size_of (object ms) = members_len ms
 
--- what a member gives where it is there, and else what comes next
+-- what a member gives if it is there, and else what comes next
 abbrev pub either : {A : Type 0} → Option Data → (Data → Option A) → Option A → Option A
 either None f next = next
 either (Some d) f next = f d

@@ -1,4 +1,5 @@
--- The verdict: the line that an audit, or closing the books, answers: a JSON object with no space, its keys in byte order, and a line feed.
+-- The verdict: the line that an audit, or closing the books, answers: a JSON object with no space, its keys in byte
+-- order, and a line feed.
 use Rattle.std.specs.Prelude.{ℕ, List, ◌++◌, codes}
 use Rattle.serde_json.specs.Data.{Data, string, object, member, no_members}
 use Rattle.serde_json.specs.Written.{compact_text}
@@ -15,7 +16,7 @@ wrong_reply_json site event = object
     (member (codes "event") (number_json event)
     (member (codes "fault") (string (codes "reply")) (member (codes "site") (number_json site) no_members)))
 
--- each site's next entry, by its position from 1, where none of them can be taken
+-- each site's next entry, by its position from 1, if none of them can be taken
 abbrev pub stuck_json : List ℕ → Data
 stuck_json next = object (member (codes "fault") (string (codes "stuck")) (member (codes "next") (list_json number_json next) no_members))
 

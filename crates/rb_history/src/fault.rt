@@ -1,4 +1,4 @@
-//! What may be wrong with a line.
+//! The faults of a line.
 
 use thiserror::Error;
 

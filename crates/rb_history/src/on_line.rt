@@ -1,4 +1,4 @@
-//! What the bytes of a line are: its text is read if it is UTF-8.
+//! The bytes of a line: its text is read if it is UTF-8.
 ghost use Rattle.std.specs.Prelude.{◌≡◌, None, Some, IfOk, MatchResult};
 ghost use Rattle.rb_history.specs.Configurations.{config_on};
 ghost use Rattle.rb_history.specs.declared.fault.LineFault.TheVariants.{Bad};

@@ -90,14 +90,13 @@ fn asked_named(bank: &BankName, value: &Value) -> Option<Question>
     }
 }
 
-/// The question that a line is: `Bad` where it is none, `OutOfMemory` where there was no memory to read it.
-pub fn read_question(alloc: Global, line: &str) -> Result<Question, LineFault>
+/// The question that a line is to a bank without a name: `Bad` if it is none, `OutOfMemory` if there was no memory to
+/// read it.
+fn read_question(alloc: Global, line: &str) -> Result<Question, LineFault>
     ensures { Gives result (question_of_line line.now) }
 {
-    match read_value(alloc, line) {
-        Ok(value) => asked(&value).ok_or(LineFault::Bad),
-        Err(fault) => Err(fault),
-    }
+    let value = read_value(alloc, line)?;
+    asked(&value).ok_or(LineFault::Bad)
 }
 
 /// The question that a line is to a bank: `Bad` if it is none, `OutOfMemory` if there was no memory to read it.
@@ -109,8 +108,6 @@ pub fn read_question_to(alloc: Global, bank: &BankName, line: &str) -> Result<Qu
     if bank.as_bytes().is_empty() {
         return read_question(alloc, line);
     }
-    match read_value(alloc, line) {
-        Ok(value) => asked_named(bank, &value).ok_or(LineFault::Bad),
-        Err(fault) => Err(fault),
-    }
+    let value = read_value(alloc, line)?;
+    asked_named(bank, &value).ok_or(LineFault::Bad)
 }

@@ -13,7 +13,7 @@ use Rattle.rb_site.specs.Seen.{SeenSite, next_site, next_sites, state_of, steppe
 use Rattle.rb_site.proofs.Public.Seen.{settings-next}
 use Rattle.rb_history.specs.Ids.{AskedEntry, AskedEvent, IsIdOrNone, is_id, may_have_id}
 use Rattle.rb_history.specs.OneLine.{EntriesAreLines}
-use Rattle.rb_history.specs.Banks.{NamedEventsFit, event_to}
+use Rattle.rb_history.specs.Banks.{ReadEventsFit, event_to}
 use Rattle.rb_journal.specs.Lines.{IsBatch, recovered}
 use Rattle.rb_journal.specs.Turns.{IsTurn}
 use Rattle.rb_lines.specs.Lines.{is_long}
@@ -54,7 +54,7 @@ abbrev pub recorded_with : List ℕ → List Entry → List AskedEntry
 recorded_with id xs = map (with_id id) xs
 
 -- the id that is read from a line is one, or there is none
-pub id_read : NamedEventsFit → (s : Settings) (bank l : List ℕ) (x : AskedEvent) → asked_event_on s bank l ≡ Some x
+pub id_read : ReadEventsFit → (s : Settings) (bank l : List ℕ) (x : AskedEvent) → asked_event_on s bank l ≡ Some x
     → IsIdOrNone x.id
 unfolding asked_event_on
 id_read fit s bank l x is = at (is_utf8 l) is
@@ -68,7 +68,7 @@ id_read fit s bank l x is = at (is_utf8 l) is
     at false h = absurd (cc)
 
 -- what a site adds to the entries are lines of a journal
-pub batched : EntriesAreLines → NamedEventsFit → (all : Bool) (old new : SeenAsked) (line text entries : List ℕ)
+pub batched : EntriesAreLines → ReadEventsFit → (all : Bool) (old new : SeenAsked) (line text entries : List ℕ)
     → IsConfigured old.settings → IsLineAnswer all old new line text entries → IsBatch entries
 batched are fit all old new line text entries ok (inl a) =
     let ids = ids_had a.asked.id a.recorded (id_read fit old.settings old.bank line a.asked a.is_event) in
@@ -85,7 +85,7 @@ module _ (all : Bool) (old new : SeenAsked) (number : ℕ) (line words entries t
     (batch batch_after : List (List ℕ)) (ok : IsConfigured old.settings) (short : is_long line ≡ false)
     (said : text_after ≡ text ++ words) (more : batch_after ≡ batch ++ recovered entries) where
   -- the site took the line of an event: it is a turn
-  event_turned : EntriesAreLines → NamedEventsFit → IsSiteAnswer all old new line words entries
+  event_turned : EntriesAreLines → ReadEventsFit → IsSiteAnswer all old new line words entries
       → IsTurn (SiteAnswers all) old new (journal_of old) (journal_of new) batch batch_after number line text text_after
   event_turned are fit a =
       let xs = recorded_with a.asked.id a.recorded in
@@ -128,7 +128,7 @@ module _ (all : Bool) (old new : SeenAsked) (number : ℕ) (line words entries t
       }
 
   -- the site answered a line: it is a turn
-  pub turned : EntriesAreLines → NamedEventsFit → IsLineAnswer all old new line words entries
+  pub turned : EntriesAreLines → ReadEventsFit → IsLineAnswer all old new line words entries
       → IsTurn (SiteAnswers all) old new (journal_of old) (journal_of new) batch batch_after number line text text_after
   turned are fit (inl a) = event_turned are fit a
   turned are fit (inr (inl a)) =

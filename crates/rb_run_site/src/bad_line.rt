@@ -4,6 +4,7 @@ ghost use Rattle.rb_history.specs.Adds.{Adds};
 ghost use Rattle.rb_node.specs.Answers.{line_of};
 ghost use Rattle.rb_run_site.specs.Journals.{bad_json};
 
+use rb_history::spell;
 use rb_history::write::append::{append_number, append_three};
 use std::alloc::AllocError;
 
@@ -12,7 +13,7 @@ fn append_why(out: &mut Vec<u8>, why: &str, number: u64) -> Result<(), AllocErro
     ensures { Adds result out.old.items out.new.items (codes "{\"bad\":\"" ++ (why.now ++ (codes "\",\"line\":"
         ++ (decimal number ++ codes "}\n")))) }
 {
-    append_three(out, "{\"bad\":\"", why, "\",\"line\":")?;
+    append_three(out, spell!("{" bad ":\""), why, spell!("\"," line ":"))?;
     append_number(out, "", number, "}\n")
 }
 

@@ -6,7 +6,7 @@ ghost use Rattle.std.specs.Prelude.{◌≡◌};
 
 use crate::bad_line::{append_bad_line, append_long_line};
 use crate::records::Records;
-use rb_history::{lines_are_single, named_events_fit};
+use rb_history::{lines_are_single, read_events_fit};
 use rb_journal::{JournaledResponder, LineBatch};
 use rb_node::{Node, NodeFault};
 use std::alloc::{AllocError, Global};
@@ -63,7 +63,7 @@ impl<M: Records> JournaledResponder for SiteResponder<M> {
     ) -> Result<(), AllocError> {
         // For a fact alone: lines of entries are lines if the id that was read is one.
         lines_are_single();
-        named_events_fit();
+        read_events_fit();
         // For a fact alone: the settings are those of a configuration.
         let _sites = self.node.config().sites();
         let before = text.len();

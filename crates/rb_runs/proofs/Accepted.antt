@@ -1,6 +1,6 @@
 -- An audit accepts the text of a script's histories.
 use Rattle.std.proofs.Common.{◌≡◌, ℕ, suc, ◌+◌, ◌<◌, Bool, true, false, List, [], ◌∷◌, ◌++◌, length, map, Option, Some, None, Result, Ok}
-use Rattle.std.proofs.Common.{Err, refl, sym, ap, ◌∙◌, subst, arith}
+use Rattle.std.proofs.Common.{Err, refl, sym, ap, ◌∙◌, subst, inl, arith}
 use Rattle.std.specs.Prelude.{if◌then◌else◌, slice_get}
 use Rattle.std.specs.Option.{option_map_or}
 use Rattle.std.proofs.lemmas.List.{length-map}
@@ -18,9 +18,9 @@ use Rattle.rb_world.proofs.Public.{sites_of_run}
 use Rattle.rb_history.specs.Configurations.{config_on}
 use Rattle.rb_history.specs.Fits.{Each, IsEvent}
 use Rattle.rb_history.specs.Laws.{ReadConfigsAreConfigured}
-use Rattle.rb_history.specs.Messages.{MessagesAreRead}
 use Rattle.rb_history.specs.OnLines.{command_on}
-use Rattle.rb_history.specs.Sites.{IsFittingCommand, ReadCommandsFit, ReadEventsFit, RepliesFitLines}
+use Rattle.rb_history.specs.Banks.{MessagesAreRead, ReadEventsFit}
+use Rattle.rb_history.specs.Sites.{IsFittingCommand, ReadCommandsFit, RepliesFitLines}
 use Rattle.rb_history.proofs.Public.Each.{each_both}
 use Rattle.rb_lines.specs.Lines.{is_blank, is_long, lines_of}
 use Rattle.rb_lines.specs.declared.fault.ScriptFault.{ScriptFault}
@@ -159,7 +159,8 @@ not_refused x text one taken (Err Gather) left line h = absurd h
 
 -- each message that a site sent is read as what another receives, so it fits
 receipts_fit : MessagesAreRead → ReadEventsFit → (s : Settings) → IsConfigured s → ReceiptsFit s
-receipts_fit messages events s c m sent = (events s _ _ (messages s c sent.me sent.is_site sent.events m sent.among)).0
+receipts_fit messages events s c m sent =
+    (events s [] _ _ (messages s c sent.me sent.is_site sent.events m sent.among [] (inl refl))).0
 
 pub accepted : ReadConfigsAreConfigured → ReadCommandsFit → ReadEventsFit → MessagesAreRead → RepliesFitLines → InputsAreReadBack
     → HistoriesAreAccepted

@@ -12,7 +12,7 @@ use Rattle.serde_json.specs.Events.{members_len}
 use Rattle.serde_json.specs.Find.{as_str, get}
 use Rattle.serde_json.specs.Read.{read}
 use Rattle.rb_money.specs.Settings.{Settings}
-use Rattle.rb_history.specs.Banks.{NamedQuestionsAreNoEvents, OtherBanksAskNothing, event_beside, event_named}
+use Rattle.rb_history.specs.Banks.{QuestionsAreNoEvents, OtherBanksAskNothing, event_beside, event_named}
 use Rattle.rb_history.specs.Banks.{has_bank, has_other_bank, is_other_named, is_other_text, is_receipt}
 use Rattle.rb_history.specs.Banks.{is_this_text, question_beside, question_named, question_or}
 use Rattle.rb_history.specs.Entries.{asked_event_at}
@@ -148,7 +148,7 @@ none_named s bank d (alone, beside) =
     beside_alone s bank d alone ∙ none_if (has_bank bank d) (event_beside s d) beside
 
 -- a question to a bank is no event to it
-pub question_none_to : NamedQuestionsAreNoEvents
+pub question_none_to : QuestionsAreNoEvents
 question_none_to s [] line q e = question_no_event s line q e
 question_none_to s (b ∷ bs) line q e = by (read line) e
   where

@@ -1,4 +1,4 @@
--- What each item of two lists has.
+-- Facts about each item of two lists.
 use Rattle.std.proofs.Common.{List, [], ◌∷◌, ◌++◌}
 use Rattle.rb_history.specs.Fits.{Each}
 

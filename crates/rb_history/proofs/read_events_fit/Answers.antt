@@ -1,5 +1,5 @@
-use Rattle.rb_history.proofs.AskedFit.{events_fit}
+use Rattle.rb_history.proofs.NamedFit.{read_fits}
 use Rattle.rb_history.proofs.read_events_fit.Goals as goal
 
 pub returns : goal.returns
-returns c = events_fit
+returns c = read_fits

@@ -7,7 +7,7 @@ use crate::fast::number::parse_long_between;
 use crate::fast::scan::{parse_prefix, parse_string};
 use rb_money::{Config, Place};
 
-/// The place of an account's name, behind the first quote. "?" is written for an account that there isn't.
+/// The place of an account's name, behind the first quote. "?" is written for an account that doesn't exist.
 fn parse_account<'a>(config: &Config, text: &'a str) -> Option<(Place, &'a str)>
     ensures known { IfSome result (λ p. IsKnown config.now p.0) }
     ensures text { IfSome result (λ p. text.now ≡ account_behind_quote config.now p.0 ++ p.1.now) }

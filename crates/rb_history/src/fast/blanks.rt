@@ -17,7 +17,7 @@ fn is_mark(b: u8) -> bool
     b == b'{' || b == b'}' || b == b'[' || b == b']' || b == b':' || b == b','
 }
 
-/// How many bytes the number has that the text begins with, with the token behind it, where that is one byte.
+/// The length in bytes of the number at the start of the text, with the token behind it if that is one byte.
 #[inline(always)]
 fn number_len(text: &[u8]) -> Option<usize>
     ensures { IfSome result (λ len. (0 < len) × (len ≤ length text.now) × AreTokens (take len text.now)) }
@@ -71,7 +71,7 @@ fn find_blank(text: &[u8]) -> Option<usize>
     Some(len)
 }
 
-/// What follows the blanks that the text begins with.
+/// The text behind the blanks that it begins with.
 #[inline(always)]
 fn skip_blanks(text: &[u8]) -> &[u8]
     ensures same { lex between result.now ≡ lex between text.now }
@@ -100,7 +100,7 @@ fn join_tokens(alloc: Global, line: &[u8]) -> Option<Vec<u8>>
     Some(text)
 }
 
-/// A line without the blanks between its tokens, where it has some, and neither a blank in front nor an escape nor a
+/// A line without the blanks between its tokens, if it has some, and neither a blank in front nor an escape nor a
 /// word.
 pub fn without_blanks(alloc: Global, line: &str) -> Option<String>
     ensures { IfSome result (λ text. tokens (string_bytes text) ≡ tokens line.now) }

@@ -1,8 +1,8 @@
 //! Lines of commands as programs spell them: the site first or last. `None` says nothing of a line.
 //!
 //! A large result is put into memory and read again, 60 to 140 instructions: so balances and deliveries are parsed in
-//! place, a request by one call with a small result, and any other event in its place. What is inlined stays small,
-//! since a function that would grow very large isn't inlined, whatever it asks for. With deposits in place too a
+//! place, a request by one call with a small result, and any other event in its place. The code that is inlined stays
+//! small, since a function that would grow very large isn't inlined, whatever it asks for. With deposits in place too a
 //! balance takes 5 % more, and a refusal 8 %.
 ghost use Rattle.std.specs.Prelude.{◌≡◌, ◌++◌, Some, IfSome, codes, decimal};
 ghost use Rattle.rb_history.specs.Beginnings.{BeginsWithRequest};
@@ -48,7 +48,7 @@ fn parse_last_site(text: &str) -> Option<u8>
     Some(site)
 }
 
-/// The site, from behind a command's member to the end of the line: the first member's, where that was a site.
+/// The site, from behind a command's member to the end of the line: the first member's if that was a site.
 #[inline(always)]
 fn parse_site(first: Option<u8>, text: &str) -> Option<u8>
     ensures { IfSome result (λ site. EndsLine first site text.now) }
@@ -62,7 +62,7 @@ fn parse_site(first: Option<u8>, text: &str) -> Option<u8>
     }
 }
 
-/// The site as the first member, where it is, and the text from the next key on.
+/// The site if it is the first member, and the text from the next key on.
 #[inline(always)]
 fn parse_first_site(text: &str) -> Option<(Option<u8>, &str)>
     ensures { IfSome result (λ p. text.now ≡ behind_site p.0 p.1.now) }
@@ -135,7 +135,7 @@ pub fn parse_request_at(config: &Config, line: &str) -> Option<(u8, Request)>
     }
 }
 
-/// An event of a site's own, in its place, from the object's first key on: the site. The event may be any where there
+/// An event of a site's own, in its place, from the object's first key on: the site. The event may be any if there
 /// is none.
 fn parse_at(alloc: Global, config: &Config, line: &str, event: &mut Event) -> Option<u8>
     ensures value { IfSome result (λ site. command_at config.now (codes "{\"" ++ line.now) ≡ Some (At site event.new)) }

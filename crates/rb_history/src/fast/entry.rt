@@ -18,7 +18,7 @@ use rb_money::Config;
 use rb_site::{Entry, Reply};
 use std::alloc::Global;
 
-/// The number of the site, and its reply in its place, with which an entry's line ends. The reply may be any where
+/// The number of the site, and its reply in its place, with which an entry's line ends. The reply may be any if
 /// there is none.
 #[inline(always)]
 pub fn parse_entry_end(alloc: Global, config: &Config, text: &str, reply: &mut Reply) -> Option<u8>
@@ -47,7 +47,7 @@ fn parse_entry_id(text: &str) -> Option<(&str, &str)>
 }
 
 /// The entry of a line as it is written, in its place, with its id and the number of its site: no text if it has no id.
-/// The entry may be any where there is none.
+/// The entry may be any if there is none.
 #[inline(always)]
 pub fn parse_asked_entry<'a>(
     alloc: Global,

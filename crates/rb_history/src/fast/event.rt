@@ -1,9 +1,9 @@
 //! Events, in one pass. `None` says nothing of a text.
 //!
-//! What commands and history lines both have is read by one reader, [`parse_own`], from the first letter of its key to
-//! the end of its value: a command has its site beside it, and an item of a batch, an event's line and an entry an
-//! object of its own. An event goes into its place, since a large result is put into memory and read again, 60 to 140
-//! instructions.
+//! The members that commands and history lines share are read by one reader, [`parse_own`], from the first letter of
+//! the key to the end of the value: a command has its site beside it, and an item of a batch, an event's line and an
+//! entry an object of its own. An event goes into its place, since a large result is put into memory and read again,
+//! 60 to 140 instructions.
 ghost use Rattle.std.specs.Prelude.{◌≡◌, [], ◌++◌, IfSome, Some};
 ghost use Rattle.serde_json.specs.Written.{compact_text};
 ghost use Rattle.rb_money.specs.Settings.{IsConfigured};
@@ -190,7 +190,7 @@ fn parse_statement<'a>(config: &Config, text: &'a str, event: &mut Event) -> Opt
 }
 
 /// An event of a site's own, as the first letter and the third of its key say, in its place, and what follows its
-/// value. It may be any where there is none.
+/// value. It may be any if there is none.
 pub fn parse_own<'a>(
     alloc: Global,
     config: &Config,
@@ -240,7 +240,7 @@ fn parse_object<'a>(
     Some(rest)
 }
 
-/// An event, as the one member of an object, in its place, and what follows it. It may be any where there is none. The
+/// An event, as the one member of an object, in its place, and what follows it. It may be any if there is none. The
 /// first letter and the fourth of its key distinguish a message that comes from an event of the site's own.
 pub fn parse_event<'a>(
     alloc: Global,
@@ -314,7 +314,7 @@ fn parse_id_last<'a>(
     Some(id)
 }
 
-/// No id, where a line has nothing more.
+/// No id, if a line has nothing more.
 #[inline(always)]
 fn parse_no_more(rest: &str) -> Option<&str>
     ensures { IfSome result (λ id. (rest.now ≡ []) × (id.now ≡ [])) }

@@ -1,4 +1,4 @@
-//! What is read in one pass, as programs spell it: no blank, no escape. Where blanks are between the tokens of a
+//! Lines read in one pass, as programs spell them: no blank, no escape. If blanks are between the tokens of a
 //! command, they are left out first. Any other text is read by its JSON value. `None` says nothing of a text.
 pub mod account;
 pub mod blanks;

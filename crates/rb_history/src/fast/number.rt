@@ -43,7 +43,7 @@ pub fn parse_number(text: &str) -> Option<(u64, &str)>
     Some((n, &text[len..]))
 }
 
-/// The number, where it is below 2^32.
+/// The number if it is below 2^32.
 #[inline(always)]
 pub fn narrow(n: u64) -> Option<u32>
     ensures { IfSome result (λ m. (m < 2 ^ 32) × (n ≡ m)) }

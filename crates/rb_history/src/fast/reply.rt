@@ -48,7 +48,7 @@ fn parse_list<'a>(alloc: Global, text: &'a str) -> Option<(Vec<OpName>, &'a str)
     None
 }
 
-/// What a batch made.
+/// The names that a batch made.
 fn parse_names<'a>(alloc: Global, text: &'a str) -> Option<(Reply, &'a str)>
     ensures { IfSome result (λ p. BeginsWithReply p.0 text.now p.1.now) }
 {
@@ -142,7 +142,7 @@ fn put_rare<'a>(alloc: Global, text: &'a str, reply: &mut Reply) -> Option<&'a s
     Some(rest)
 }
 
-/// A reply, as the first letters of its first key say, in its place, and what follows it. It may be any where there is
+/// A reply, as the first letters of its first key say, in its place, and what follows it. It may be any if there is
 /// none.
 #[inline(always)]
 pub fn parse_reply<'a>(alloc: Global, text: &'a str, reply: &mut Reply) -> Option<&'a str>

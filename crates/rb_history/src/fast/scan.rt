@@ -77,7 +77,7 @@ fn begins(text: &[u8], front: &[u8]) -> bool
     true
 }
 
-/// What follows this text.
+/// The rest behind this text.
 #[inline(always)]
 pub fn parse_prefix<'a>(text: &'a str, front: &str) -> Option<&'a str>
     ensures { IfSome result (λ rest. text.now ≡ front.now ++ rest.now) }
@@ -89,7 +89,7 @@ pub fn parse_prefix<'a>(text: &'a str, front: &str) -> Option<&'a str>
     }
 }
 
-/// How many bytes come before a quote, where none is part of an escape.
+/// The number of bytes before a quote, if none is part of an escape.
 #[inline(always)]
 pub(crate) fn find_quote(text: &[u8]) -> Option<usize>
     ensures { IfSome result (λ len. (len < length text.now) × (slice_index text.now len ≡ 34)
@@ -109,7 +109,7 @@ pub(crate) fn find_quote(text: &[u8]) -> Option<usize>
     None
 }
 
-/// The text before a quote, where it has no escape, and what follows the quote.
+/// The text before a quote, if it has no escape, and the rest behind the quote.
 #[inline(always)]
 pub fn parse_string(text: &str) -> Option<(&str, &str)>
     ensures { IfSome result (λ p. (escape p.0.now ≡ p.0.now) × (text.now ≡ p.0.now ++ (codes "\"" ++ p.1.now))) }

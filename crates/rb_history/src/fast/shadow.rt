@@ -15,7 +15,7 @@ use rb_money::{Config, MOST_SITES, Place};
 use rb_shadow::{Deps, Kind, OpName, Shadow};
 use rb_site::{Event, Message};
 
-/// What a shadow's object has behind its counts of blue operations.
+/// The members of a shadow's object behind its counts of blue operations.
 #[derive(Clone, Copy, Drop)]
 pub struct Back {
     pub red: u32,
@@ -40,7 +40,7 @@ pub fn parse_front<'a>(config: &Config, text: &'a str) -> Option<(Place, u64, &'
     Some((account, amount, rest))
 }
 
-/// What a shadow that comes has behind its counts, and the end of its event.
+/// The members of a shadow that comes behind its counts, and the end of its event.
 #[inline(always)]
 pub fn parse_back<'a>(config: &Config, text: &'a str) -> Option<(Back, &'a str)>
     ensures { IfSome result (λ p. BeginsWithBack config.now p.0 text.now p.1.now) }
@@ -60,7 +60,7 @@ pub fn parse_back<'a>(config: &Config, text: &'a str) -> Option<(Back, &'a str)>
     Some((back, rest))
 }
 
-/// A shadow that comes, as the one member of an object. It may be any event where there is none.
+/// A shadow that comes, as the one member of an object. It may be any event if there is none.
 #[inline(never)]
 pub fn parse_received<'a>(config: &Config, text: &'a str, event: &mut Event) -> Option<&'a str>
     ensures { IfSome result (λ rest. BeginsWithEvent config.now event.new text.now rest.now) }

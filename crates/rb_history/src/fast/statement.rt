@@ -18,7 +18,7 @@ use rb_site::Reply;
 use rb_statements::{Row, Statement};
 use std::alloc::Global;
 
-/// What an entry moved, with its sign where it is negative.
+/// The amount that an entry moved, with its sign if it is negative.
 fn parse_moved(text: &str) -> Option<(i64, &str)>
     ensures { IfSome result (λ p. IsMoved p.0 × (text.now ≡ signed_decimal p.0 ++ p.1.now)) }
 {

@@ -41,7 +41,9 @@ fn read_spelled_to(
 /// in its place. After an `Err` or `Ok(None)` it may be any.
 ///
 /// To a bank with a name, an event may have the name beside it, as the member `"bank"`, and a receipt must: without it,
-/// it is of another bank. A bank without a name reads each line as `read_asked_event` does.
+/// it is of another bank. To a bank without a name such a member makes a line bad. A request or a batch may have an id
+/// beside it too, as the member `"id"`: 1 to 64 bytes of `A-Z a-z 0-9 . _ : -`. An account that the configuration
+/// doesn't have is read as `Place::NOWHERE`.
 pub fn read_event_to(
     alloc: Global,
     config: &Config,

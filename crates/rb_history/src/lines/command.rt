@@ -27,13 +27,11 @@ fn read_any_command(alloc: Global, config: &Config, line: &str) -> Result<WorldE
     if let Some(command) = parse_spaced(alloc, config, line) {
         return Ok(command);
     }
-    match read_value(alloc, line) {
-        Ok(value) => command(alloc, config, &value),
-        Err(fault) => Err(fault),
-    }
+    let value = read_value(alloc, line)?;
+    command(alloc, config, &value)
 }
 
-/// The command that a line is: `Bad` where it is none, `OutOfMemory` where there was no memory to read it.
+/// The command that a line is: `Bad` if it is none, `OutOfMemory` if there was no memory to read it.
 ///
 /// An account that the configuration doesn't have is read as `Place::NOWHERE`. A batch may have any number of requests.
 pub fn read_command(alloc: Global, config: &Config, line: &str) -> Result<WorldEvent, LineFault>

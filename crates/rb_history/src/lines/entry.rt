@@ -26,10 +26,8 @@ pub(crate) fn read_spelled(
         (λ why. why ≡ Bad → asked_entry_of_line config.now line.now ≡ None) }
     ensures site { IfOk result (λ x. x.0 < config.now.sites) }
 {
-    match read_value(alloc, line) {
-        Ok(value) => asked_entry(alloc, config, &value, id),
-        Err(fault) => Err(fault),
-    }
+    let value = read_value(alloc, line)?;
+    asked_entry(alloc, config, &value, id)
 }
 
 /// The entry that a line of any spelling is, in its place, and the number of its site. Its id takes the place of
@@ -53,8 +51,8 @@ fn put_spelled(
     Ok(site)
 }
 
-/// Reads the entry that a history's line is into its place, and its id into its: `Bad` where it is none, `OutOfMemory`
-/// where there was no memory to read it. The number of its site comes back. Without an id there is none in its place.
+/// Reads the entry that a history's line is into its place, and its id into its: `Bad` if it is none, `OutOfMemory`
+/// if there was no memory to read it. The number of its site comes back. Without an id there is none in its place.
 /// After an `Err` entry and id may be any.
 ///
 /// An account that the configuration doesn't have is read as `Place::NOWHERE`. The reply may be one that no
@@ -99,8 +97,8 @@ pub fn read_entry(
     }
 }
 
-/// The entry that a history's line is, as `read_entry` reads it, with the number of its site: `Bad` where it is none,
-/// `OutOfMemory` where there was no memory to read it.
+/// The entry that a history's line is, as `read_entry` reads it, with the number of its site: `Bad` if it is none,
+/// `OutOfMemory` if there was no memory to read it.
 pub fn read_line(alloc: Global, config: &Config, line: &str) -> Result<(u8, Entry), LineFault>
     ensures read { Gives result (entry_of_line config.now line.now) }
     ensures site { IfOk result (λ x. x.0 < config.now.sites) }

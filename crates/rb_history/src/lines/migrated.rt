@@ -27,7 +27,7 @@ use rb_money::{Config, MOST_SITES};
 use rb_site::{Entry, Event, Message, Reply};
 use std::alloc::{AllocError, Global};
 
-/// What a line that receives a shadow has before and behind the shadow's counts, which go into their place.
+/// The parts of a line that receives a shadow before and behind the shadow's counts, which go into their place.
 #[inline(always)]
 fn cut_receipt<'a>(
     alloc: Global,
@@ -165,11 +165,11 @@ fn append_read(
     }
 }
 
-/// Adds the line, in version 2 of the format, of the entry that a history's line is, without a line feed: `Bad` where
-/// it is none, `OutOfMemory` where there was no memory to read or to write it. An `Err` adds nothing.
+/// Adds the line, in version 2 of the format, of the entry that a history's line is, without a line feed: `Bad` if
+/// it is none, `OutOfMemory` if there was no memory to read or to write it. An `Err` adds nothing.
 ///
 /// The line is read as `read_entry` reads it, under a configuration of either version, and `written` is the same in
-/// version 2. What is added is what `append_asked_line` adds for the entry and its id under `written`.
+/// version 2. It adds the text that `append_asked_line` adds for the entry and its id under `written`.
 pub fn append_migrated(
     alloc: Global,
     config: &Config,

@@ -2,5 +2,4 @@
 pub mod banked;
 pub mod command;
 pub mod entry;
-pub mod event;
 pub mod migrated;

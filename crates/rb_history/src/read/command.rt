@@ -32,10 +32,8 @@ fn command_at_site(
             None => Err(LineFault::Bad),
         };
     }
-    match own_event(alloc, config, value) {
-        Ok(event) => Ok(WorldEvent::At(site, event)),
-        Err(fault) => Err(fault),
-    }
+    let event = own_event(alloc, config, value)?;
+    Ok(WorldEvent::At(site, event))
 }
 
 /// The site of a command.

@@ -60,7 +60,7 @@ fn accounts(alloc: Global, value: &Value) -> Result<Vec<(String, u64)>, LineFaul
     Ok(accounts)
 }
 
-/// A limit: `most` where it is missing.
+/// A limit: `most` if it is missing.
 fn limit(value: &Value, key: &str, most: u32) -> Option<u32>
     ensures { result ≡ limit_read key.now most (view value.now) }
 {
@@ -88,7 +88,7 @@ fn limits(value: &Value) -> Option<Limits>
     })
 }
 
-/// 1 where the object has the key, else 0.
+/// 1 if the object has the key, else 0.
 fn count(value: &Value, key: &str) -> usize
     ensures count { result ≡ has key.now (view value.now) }
     ensures most { result ≤ 1 }
@@ -187,10 +187,8 @@ fn parts(alloc: Global, value: &Value) -> Result<Config, LineFault>
     let Some(list) = value.get(key!(accounts)) else {
         return Err(LineFault::Bad);
     };
-    match accounts(alloc, list) {
-        Ok(accounts) => made(alloc, version, sites, limits, accounts),
-        Err(fault) => Err(fault),
-    }
+    let accounts = accounts(alloc, list)?;
+    made(alloc, version, sites, limits, accounts)
 }
 
 fn config(alloc: Global, value: &Value) -> Result<Config, LineFault>
@@ -202,12 +200,10 @@ fn config(alloc: Global, value: &Value) -> Result<Config, LineFault>
     parts(alloc, value)
 }
 
-/// The configuration that a line is: `Bad` where it is none, `OutOfMemory` where there was no memory to read it.
+/// The configuration that a line is: `Bad` if it is none, `OutOfMemory` if there was no memory to read it.
 pub fn read_config(alloc: Global, line: &str) -> Result<Config, LineFault>
     ensures { Gives result (config_at line.now) }
 {
-    match read_value(alloc, line) {
-        Ok(value) => config(alloc, &value),
-        Err(fault) => Err(fault),
-    }
+    let value = read_value(alloc, line)?;
+    config(alloc, &value)
 }

@@ -1,4 +1,6 @@
-//! How many of each site's blue operations a home had applied, from a line of either version of the format.
+//! How many of each site's blue operations a home had applied, from a line of either version of the format. Version 1
+//! has a number for each of eight sites; version 2 names the sites whose count isn't 0, in order, so that most lines
+//! stay short.
 ghost use Rattle.std.specs.Prelude.{◌≡◌, ◌<◌, ◌≤◌, ◌==◌, IfSome};
 ghost use Rattle.rb_money.specs.declared.limits.TheConstants.{MOST_SITES};
 ghost use Rattle.serde_json.specs.View.{items_view, view};

@@ -35,7 +35,7 @@ fn as_of(config: &Config, value: &Value) -> Option<Event>
     Some(Event::AsOf(account, position))
 }
 
-/// What a teller sees of an account, or a request.
+/// A question of a teller about an account, or a request.
 fn teller_event(config: &Config, value: &Value) -> Option<Event>
     ensures value { result ≡ teller_event_of config.now (view value.now) }
     ensures own { IfSome result IsOwn }
@@ -58,10 +58,8 @@ pub fn own_event(alloc: Global, config: &Config, value: &Value) -> Result<Event,
     ensures own { IfOk result IsOwn }
 {
     if let Some(list) = value.get(key!(batch)) {
-        return match requests(alloc, config, list) {
-            Ok(requests) => Ok(Event::Batch(List::new(requests))),
-            Err(fault) => Err(fault),
-        };
+        let requests = requests(alloc, config, list)?;
+        return Ok(Event::Batch(List::new(requests)));
     }
     let event = if let Some(argument) = value.get(key!(apply)) {
         name(argument).map(Event::Apply)

@@ -1,4 +1,4 @@
-//! What is read from the JSON value of a line. `None` and `Bad` mean that a value is nothing of the kind.
+//! The readers of a line's JSON value. `None` and `Bad` mean that a value is nothing of the kind.
 pub mod banked;
 pub mod command;
 pub mod config;

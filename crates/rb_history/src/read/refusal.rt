@@ -2,7 +2,7 @@
 ghost use Rattle.std.specs.Prelude.{◌≡◌};
 ghost use Rattle.serde_json.specs.View.{view};
 ghost use Rattle.rb_history.specs.RepliesRead.{refused_batch_parsed, behind_of, cancelled_of, cause_at};
-ghost use Rattle.rb_history.specs.RepliesRead.{tells_declined, bad_message_parsed, plain_of};
+ghost use Rattle.rb_history.specs.RepliesRead.{is_word_declined, bad_message_parsed, plain_of};
 ghost use Rattle.rb_history.specs.RepliesRead.{refusal_parsed};
 
 use crate::keys::key;
@@ -13,7 +13,7 @@ use serde_json::Value;
 
 /// Whether a value is the word of a withdrawal or a transfer that would be declined.
 fn is_declined(value: &Value) -> bool
-    ensures { result ≡ tells_declined (view value.now) }
+    ensures { result ≡ is_word_declined (view value.now) }
 {
     match value.as_str() {
         Some(word) => word == key!(declined),
@@ -21,17 +21,15 @@ fn is_declined(value: &Value) -> bool
     }
 }
 
-/// What stopped a batch.
+/// The cause that stopped a batch.
 fn cause(value: &Value) -> Option<Cause>
     ensures { result ≡ cause_at (view value.now) }
 {
     if is_declined(value) {
         return Some(Cause::Declined);
     }
-    match byte(value) {
-        Some(number) => Some(Cause::Refused(number)),
-        None => None,
-    }
+    let number = byte(value)?;
+    Some(Cause::Refused(number))
 }
 
 fn cancelled(value: &Value) -> Option<Refusal>

@@ -67,10 +67,8 @@ fn names(alloc: Global, value: &Value) -> Result<Vec<OpName>, LineFault>
 fn made_by_batch(alloc: Global, list: &Value) -> Result<Reply, LineFault>
     ensures { Gives result (option_map Names (names_at (view list.now))) }
 {
-    match names(alloc, list) {
-        Ok(names) => Ok(Reply::Names(List::new(names))),
-        Err(fault) => Err(fault),
-    }
+    let names = names(alloc, list)?;
+    Ok(Reply::Names(List::new(names)))
 }
 
 /// A reply, from an object of one member.

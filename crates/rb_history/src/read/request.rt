@@ -20,10 +20,8 @@ use std::alloc::Global;
 pub fn account(config: &Config, value: &Value) -> Option<Place>
     ensures { result ≡ place_at config.now (view value.now) }
 {
-    match value.as_str() {
-        Some(name) => Some(place(config, name)),
-        None => None,
-    }
+    let name = value.as_str()?;
+    Some(place(config, name))
 }
 
 /// A deposit, from the list of its account and amount.

@@ -12,7 +12,7 @@ use rb_money::Config;
 use rb_shadow::{Deps, Shadow};
 use serde_json::Value;
 
-/// What the home had applied, from a line of this version of the format.
+/// The operations that the home had applied, from a line of this version of the format.
 fn deps(version: u8, value: &Value) -> Option<Deps>
     ensures { result ≡ deps_at version (view value.now) }
 {

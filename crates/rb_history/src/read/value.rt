@@ -12,7 +12,7 @@ use rb_shadow::{Label, OpName, read_name};
 use serde_json::Value;
 use std::alloc::Global;
 
-/// The JSON value that a line is: `Bad` where it is none, `OutOfMemory` where there was no memory to read it.
+/// The JSON value that a line is: `Bad` if it is none, `OutOfMemory` if there was no memory to read it.
 pub fn read_value(alloc: Global, line: &str) -> Result<Value, LineFault>
     ensures { GivesAs view result (read line.now) }
 {
@@ -51,30 +51,23 @@ pub fn word(value: &Value) -> Option<u32>
 pub fn long(value: &Value) -> Option<u64>
     ensures { result ≡ number_below (2 ^ 64) (view value.now) }
 {
-    match value.as_u64() {
-        Some(n) => Some(n),
-        None => None,
-    }
+    value.as_u64()
 }
 
 /// An operation's name.
 pub fn name(value: &Value) -> Option<OpName>
     ensures { result ≡ name_at (view value.now) }
 {
-    match value.as_str() {
-        Some(text) => read_name(text),
-        None => None,
-    }
+    let text = value.as_str()?;
+    read_name(text)
 }
 
 /// The kind that a value is.
 pub fn label(value: &Value) -> Option<Label>
     ensures { result ≡ label_at (view value.now) }
 {
-    match value.as_str() {
-        Some(word) => Label::from_word(word),
-        None => None,
-    }
+    let word = value.as_str()?;
+    Label::from_word(word)
 }
 
 /// The two items of a list of two.

@@ -9,7 +9,7 @@ use crate::write::append::{append, append_number, append_three};
 use rb_money::{Config, Place};
 use std::alloc::AllocError;
 
-/// An account's name, or "?" where the configuration has no account at the place.
+/// An account's name, or "?" if the configuration has no account at the place.
 fn account_name(config: &Config, place: Place) -> &str
     ensures name { result.now ≡ unwrap_or (slice_get config.now.names place.0) (codes "?") }
     ensures plain { escape result.now ≡ result.now }

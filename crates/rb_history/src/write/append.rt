@@ -35,7 +35,7 @@ pub fn append_three(
     append(out, third)
 }
 
-/// Makes space behind what is there, by as many bytes as are given. What they are doesn't matter.
+/// Makes space behind the bytes that are there, by as many bytes as are given; their values don't matter.
 #[inline(always)]
 pub(crate) fn make_space(out: &mut Vec<u8>, blank: &[u8]) -> Result<(), AllocError>
     ensures ok { OnOk result ((take (length out.old.items) out.new.items ≡ out.old.items)

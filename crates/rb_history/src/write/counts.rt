@@ -21,7 +21,7 @@ fn append_one(out: &mut Vec<u8>, comma: &str, site: u64, count: u32) -> Result<(
     append_number(out, "", count as u64, "]")
 }
 
-/// A site's number and its count behind a text, where the count isn't 0; and what is to be
+/// A site's number and its count behind a text, if the count isn't 0; and what is to be
 /// written before the next.
 fn append_some<'a>(
     out: &mut Vec<u8>,

@@ -35,7 +35,7 @@ fn append_entry(
     append_number(out, spell!("," site ":"), site as u64, "}")
 }
 
-/// The same, where out of memory adds nothing.
+/// The same, but that out of memory adds nothing.
 fn append_whole(
     out: &mut Vec<u8>,
     config: &Config,

@@ -53,7 +53,7 @@ fn append_request(out: &mut Vec<u8>, config: &Config, request: Request) -> Resul
 }
 
 /// A request, behind a text.
-fn append_listed(
+fn append_listed_request(
     out: &mut Vec<u8>,
     comma: &str,
     config: &Config,
@@ -77,7 +77,7 @@ fn append_requests(
     append(out, spell!("{" batch ":["))?;
     let mut comma = "";
     for request in requests {
-        append_listed(out, comma, config, *request)?;
+        append_listed_request(out, comma, config, *request)?;
         comma = ",";
     }
     append(out, "]}")

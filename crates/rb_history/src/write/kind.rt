@@ -11,7 +11,7 @@ use rb_money::Config;
 use rb_shadow::Kind;
 use std::alloc::AllocError;
 
-/// The last member of a shadow where it is a cancellation or a transfer, and the end of the object.
+/// The last member of a shadow if it is a cancellation or a transfer, and the end of the object.
 #[tactic(auto, unfolding(json::specs::Print::escape_byte))]
 pub fn append_last(out: &mut Vec<u8>, config: &Config, kind: Kind) -> Result<(), AllocError>
     ensures { Adds result out.old.items out.new.items (members_text true (last_members config.now kind)) }

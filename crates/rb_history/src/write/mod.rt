@@ -1,4 +1,4 @@
-//! What is written: each appends to bytes, puts a text into space that is there, or makes a line. An `Err` means out of
+//! The writers: each appends to bytes, puts a text into space that is there, or makes a line. An `Err` means out of
 //! memory; some of it may have been appended then.
 pub(crate) mod account;
 pub mod append;

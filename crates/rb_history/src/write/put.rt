@@ -34,7 +34,7 @@ pub fn put_text(space: &mut [u8], at: usize, text: &str) -> usize
     put_bytes(space, at, text.as_bytes())
 }
 
-/// Puts a byte where it is wanted. It is always stored, and counts only then.
+/// Puts a byte if it is wanted. It is always stored, and counts only then.
 #[inline(always)]
 pub fn put_if(space: &mut [u8], at: usize, byte: u8, wanted: bool) -> usize
     requires { at < length space.old }
@@ -159,7 +159,7 @@ pub fn put_byte(space: &mut [u8], at: usize, n: u8) -> usize
     put_unsigned(space, at, n as u64)
 }
 
-/// Puts the digits of a number, with its sign where it is negative.
+/// Puts the digits of a number, with its sign if it is negative.
 #[inline(always)]
 pub fn put_integer(space: &mut [u8], at: usize, n: i64) -> usize
     requires { at + 21 ≤ length space.old }

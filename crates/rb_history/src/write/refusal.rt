@@ -24,7 +24,7 @@ fn put_behind(space: &mut [u8], at: usize, seen: u32, needed: u32) -> usize
     put_text(space, at, "}")
 }
 
-/// What stopped a batch.
+/// The cause that stopped a batch.
 #[tactic(auto, unfolding(json::specs::Print::escape_byte))]
 fn put_cause(space: &mut [u8], at: usize, cause: Cause) -> usize
     requires { at + 10 ≤ length space.old }

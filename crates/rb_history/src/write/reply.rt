@@ -1,9 +1,10 @@
-//! Replies.
+//! Replies. A reply with neither names nor rows is put into [`LINE`] bytes that are asked for once, so that its parts
+//! are put without a test of the capacity each; the others grow name by name, and row by row.
 ghost use Rattle.std.specs.Prelude.{◌≡◌, ◌≤◌, ◌+◌, ◌++◌, [], codes, cond, length, IfOk, OnOk, OnErr, string_bytes};
 ghost use Rattle.serde_json.specs.Written.{compact_text};
 ghost use Rattle.rb_history.specs.Adds.{Adds};
 ghost use Rattle.rb_history.specs.Placed.{Placed};
-ghost use Rattle.rb_history.specs.Replies.{HasShortLine, line, reply_json};
+ghost use Rattle.rb_history.specs.Replies.{IsShortReply, line, reply_json};
 ghost use Rattle.rb_history.specs.declared.write.line.TheConstants.{LINE};
 ghost use Rattle.rb_history.specs.Values.{name_json, list_json, one_json};
 
@@ -20,9 +21,9 @@ use std::alloc::{AllocError, Global};
 /// The most bytes of a name in quotes and the comma before it.
 const LISTED: usize = 18;
 
-/// A name, behind a comma where it is wanted.
+/// A name, behind a comma if it is wanted.
 #[inline(always)]
-pub fn append_listed(out: &mut Vec<u8>, comma: bool, name: OpName) -> Result<(), AllocError>
+pub fn append_listed_name(out: &mut Vec<u8>, comma: bool, name: OpName) -> Result<(), AllocError>
     ensures { Adds result out.old.items out.new.items (cond comma (codes ",") [] ++ compact_text (name_json name)) }
 {
     let at = out.len();
@@ -43,7 +44,7 @@ fn append_names(out: &mut Vec<u8>, names: &[OpName]) -> Result<(), AllocError>
     append(out, spell!("{" names ":["))?;
     let mut comma = false;
     for name in names {
-        append_listed(out, comma, *name)?;
+        append_listed_name(out, comma, *name)?;
         comma = true;
     }
     append(out, "]}")
@@ -53,7 +54,7 @@ fn append_names(out: &mut Vec<u8>, names: &[OpName]) -> Result<(), AllocError>
 #[inline(always)]
 #[tactic(auto, unfolding(json::specs::Print::escape_byte))]
 fn put_reply(space: &mut [u8], at: usize, reply: &Reply) -> usize
-    requires short { HasShortLine reply.now }
+    requires short { IsShortReply reply.now }
     requires space { at + LINE ≤ length space.old }
     ensures { Placed space.old space.new at (compact_text (reply_json reply.now)) result }
 {
@@ -98,7 +99,7 @@ fn put_reply(space: &mut [u8], at: usize, reply: &Reply) -> usize
 /// The object of a reply, which is a short one.
 #[inline(always)]
 fn append_short(out: &mut Vec<u8>, reply: &Reply) -> Result<(), AllocError>
-    requires { HasShortLine reply.now }
+    requires { IsShortReply reply.now }
     ensures { Adds result out.old.items out.new.items (compact_text (reply_json reply.now)) }
 {
     let at = out.len();

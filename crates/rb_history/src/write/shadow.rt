@@ -48,7 +48,7 @@ fn append_front(out: &mut Vec<u8>, config: &Config, shadow: &Shadow) -> Result<(
     append_deps(out, config.version(), &shadow.deps)
 }
 
-/// The rest of a shadow: its home, its kind, its name, and its target or where it goes.
+/// The rest of a shadow: its home, its kind, its name, and its target, or the account that it goes to.
 fn append_back(out: &mut Vec<u8>, config: &Config, shadow: Shadow) -> Result<(), AllocError>
     ensures { Adds result out.old.items out.new.items (codes ",\"home\":" ++ (decimal shadow.home
         ++ (codes ",\"kind\":\"" ++ (word_of (label_of shadow.kind) ++ (codes "\",\"name\":"

@@ -10,7 +10,7 @@ ghost use Rattle.rb_money.specs.Settings.{is_account_name};
 use crate::keys::spell;
 use crate::write::append::{append, append_number, append_three};
 use crate::write::number::append_numbers;
-use crate::write::reply::append_listed;
+use crate::write::reply::append_listed_name;
 use rb_shadow::OpName;
 use std::alloc::{AllocError, Global};
 
@@ -49,7 +49,7 @@ fn append_list(out: &mut Vec<u8>, front: &str, names: &[OpName]) -> Result<(), A
     append_three(out, front, "[", "")?;
     let mut comma = false;
     for name in names {
-        append_listed(out, comma, *name)?;
+        append_listed_name(out, comma, *name)?;
         comma = true;
     }
     append(out, "]")
@@ -91,7 +91,7 @@ pub fn order_line(alloc: Global, order: &[u8]) -> Result<Vec<u8>, AllocError>
     Ok(line)
 }
 
-/// The line that reports the number, from 1, of each site's next entry, where none of them can be taken.
+/// The line that reports the number, from 1, of each site's next entry, if none of them can be taken.
 /// With its line feed. `Err` means out of memory.
 pub fn stuck_line(alloc: Global, next: &[u32]) -> Result<Vec<u8>, AllocError>
     ensures { IfOk result (λ line. line.items ≡ verdict_line (stuck_json next.now)) }

@@ -14,5 +14,6 @@ returns c =
     let counts : BeginsWithCounts s.version blue list behind = subst (λ v. BeginsWithCounts v blue list behind) c.version.ensures.same
     c.in_ok-rest.ensures in (
       shadow_fits s front.account front.amount blue list behind back.rest.now back.back front.ensures.0 front.ensures.1 counts back.ensures,
-      event_written s front.account front.amount blue c.args.text.now list behind back.rest.now back.back front.ensures.2 counts back.ensures,
+      event_written s front.account front.amount blue c.args.text.now list behind back.rest.now back.back
+          front.ensures.2 counts back.ensures,
     )

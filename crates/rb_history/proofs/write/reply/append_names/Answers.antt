@@ -20,15 +20,15 @@ returns-in_err-append c =
 pub loop-name-preserved : goal.loop-name-preserved
 loop-name-preserved c =
     let out = c.loop-name.out.items in
-    let new = c.append_listed.new.out.items in
+    let new = c.append_listed_name.new.out.items in
     let names = c.args.names.now in
     let i = c.loop-name.name-index in
     let comma = cond c.loop-name.comma (codes ",") [] in
     record {
       front = front_of_front c.args.out.now.items out new c.loop-name.invariant.front
-          (front_of_sum out new _ c.in_ok-append_listed.ensures);
+          (front_of_sum out new _ c.in_ok-append_listed_name.ensures);
       written = item_written name_json out new comma _ names i _ (rw add-one (drop-cons names i (Blue 0 0) (omega arith)))
-          c.in_ok-append_listed.ensures c.loop-name.invariant.written;
+          c.in_ok-append_listed_name.ensures c.loop-name.invariant.written;
     }
 
 pub returns : goal.returns
@@ -38,9 +38,9 @@ returns c =
     (cond c.loop-name.comma (codes ",") []) (codes "{\"names\":[") (codes "}") c.args.names.now c.loop-name.name-index (omega arith)
     c.loop-name.invariant.written c.append-2.ensures
 
-pub returns-in_err-append_listed : goal.returns-in_err-append_listed
-returns-in_err-append_listed c =
+pub returns-in_err-append_listed_name : goal.returns-in_err-append_listed_name
+returns-in_err-append_listed_name c =
     let old = c.args.out.now.items in
-    let new = c.append_listed.new.out.items in
-    failed_first c.from_residual-in_err-append_listed.result old new _ c.from_residual-in_err-append_listed.ensures.0
-    (front_of_front old c.loop-name.out.items new c.loop-name.invariant.front c.in_err-append_listed.ensures)
+    let new = c.append_listed_name.new.out.items in
+    failed_first c.from_residual-in_err-append_listed_name.result old new _ c.from_residual-in_err-append_listed_name.ensures.0
+    (front_of_front old c.loop-name.out.items new c.loop-name.invariant.front c.in_err-append_listed_name.ensures)

@@ -13,7 +13,7 @@ abbrev object_with : List ℕ → List ℕ → List ℕ → List ℕ
 object_with balance list start =
     codes "{\"balance\":" ++ (balance ++ (codes ",\"rows\":[" ++ (list ++ (codes ",\"start\":" ++ (start ++ codes "}")))))
 
--- the same, piece by piece, where the list is a bracket
+-- the same, piece by piece, if the list is a bracket
 empty_text : (balance start : List ℕ) → codes "{\"balance\":" ++ (balance ++ (codes ",\"rows\":[],\"start\":" ++ (start ++ codes "}")))
     ≡ object_with balance (codes "]") start
 empty_text balance start = refl

@@ -20,15 +20,15 @@ loop-name-init c =
 pub loop-name-preserved : goal.loop-name-preserved
 loop-name-preserved c =
     let out = c.loop-name.out.items in
-    let new = c.append_listed.new.out.items in
+    let new = c.append_listed_name.new.out.items in
     let names = c.args.names.now in
     let i = c.loop-name.name-index in
     let comma = cond c.loop-name.comma (codes ",") [] in
     record {
       front = front_of_front c.args.out.now.items out new c.loop-name.invariant.front
-          (front_of_sum out new _ c.in_ok-append_listed.ensures);
+          (front_of_sum out new _ c.in_ok-append_listed_name.ensures);
       written = item_written name_json out new comma _ names i _ (rw add-one (drop-cons names i (Blue 0 0) (omega arith)))
-          c.in_ok-append_listed.ensures c.loop-name.invariant.written;
+          c.in_ok-append_listed_name.ensures c.loop-name.invariant.written;
     }
 
 pub returns : goal.returns
@@ -46,7 +46,8 @@ returns c =
     (append_assoc begun list (codes "]") ∙ append_assoc front (codes "[") (list ++ codes "]")
     ∙ ap (λ l. front ++ (codes "[" ++ l)) (whole_text (map name_json names)))
 
-pub returns-in_err-append_listed : goal.returns-in_err-append_listed
-returns-in_err-append_listed c = failed_behind c.from_residual-in_err-append_listed.result c.args.out.now.items c.loop-name.out.items
-    c.append_listed.new.out.items _ c.from_residual-in_err-append_listed.ensures.0 c.loop-name.invariant.front
-    c.in_err-append_listed.ensures
+pub returns-in_err-append_listed_name : goal.returns-in_err-append_listed_name
+returns-in_err-append_listed_name c = failed_behind c.from_residual-in_err-append_listed_name.result
+    c.args.out.now.items c.loop-name.out.items
+    c.append_listed_name.new.out.items _ c.from_residual-in_err-append_listed_name.ensures.0 c.loop-name.invariant.front
+    c.in_err-append_listed_name.ensures

@@ -15,7 +15,7 @@ extend-requires g c =
     c.args.line.now text entries) c.ALL.ensures by in
     let ok = subst IsConfigured c.config.ensures c.sites-sites.ensures.configured in
     subst IsBatch (sym (c.deref.ensures.value ∙ lines ∙ ap (λ l. l ++ entries) c.clear.ensures.items))
-    (batched c.lines_are_single.ensures.entries c.named_events_fit.ensures g.M.Records.ALL
+    (batched c.lines_are_single.ensures.entries c.read_events_fit.ensures g.M.Records.ALL
     c.args.self.now.node.site c.answer.new.self.site c.args.line.now text entries ok a)
 
 pub returns-in-Ok-extend-clause-answered : goal.returns-in-Ok-extend-clause-answered
@@ -29,7 +29,7 @@ returns-in-Ok-extend-clause-answered g c =
     ok (short_line c.args.line.now c.requires.short) said
     (c.in-Ok-extend.ensures.lines ∙ ap (λ l. recovered c.args.batch.now.bytes.items ++ recovered l)
     (c.deref.ensures.value ∙ lines ∙ ap (λ l. l ++ entries) c.clear.ensures.items))
-    c.lines_are_single.ensures.entries c.named_events_fit.ensures a
+    c.lines_are_single.ensures.entries c.read_events_fit.ensures a
 
 pub returns-in-Err-BadLine-clause-answered : goal.returns-in-Err-BadLine-clause-answered
 returns-in-Err-BadLine-clause-answered g c =

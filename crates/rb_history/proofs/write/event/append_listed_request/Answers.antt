@@ -2,7 +2,7 @@ use Rattle.std.proofs.Common.{refl}
 use Rattle.serde_json.specs.Written.{compact_text}
 use Rattle.rb_history.specs.Entries.{request_json}
 use Rattle.rb_history.proofs.Public.Appended.{then}
-use Rattle.rb_history.proofs.write.event.append_listed.Goals as goal
+use Rattle.rb_history.proofs.write.event.append_listed_request.Goals as goal
 
 pub returns : goal.returns
 returns c = then c.append_request.result c.args.out.now.items c.append.new.out.items c.append_request.new.out.items c.args.comma.now

@@ -1,5 +1,0 @@
-use Rattle.rb_history.proofs.Public.Banks.{question_none_to}
-use Rattle.rb_history.proofs.named_questions_are_no_events.Goals as goal
-
-pub returns : goal.returns
-returns c = question_none_to

@@ -1,5 +1,0 @@
-use Rattle.rb_history.proofs.SentBack.{sent_read}
-use Rattle.rb_history.proofs.sent_messages_are_read.Goals as goal
-
-pub returns : goal.returns
-returns c = sent_read
