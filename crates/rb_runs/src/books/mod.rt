@@ -2,10 +2,10 @@
 
 pub mod added;
 pub mod added_fault;
-mod answer;
 mod balances;
 pub mod close_fault;
 pub mod closing;
+mod closing_line;
 pub mod files;
 pub mod journal_fault;
 pub mod laws;

@@ -9,9 +9,9 @@ ghost use Rattle.rb_runs.specs.Closes.{ClosesAs, HasTaken};
 ghost use Rattle.rb_runs.specs.declared.books.close_fault.CloseFault.TheVariants.{Write as NotWritten};
 
 use crate::books::added::check_added;
-use crate::books::answer::answer_closing;
 use crate::books::close_fault::CloseFault;
 use crate::books::closing::Closing;
+use crate::books::closing_line::answer_closing;
 use crate::books::files::JournalFiles;
 use crate::books::next::NextBank;
 use rb_lines::{Sink, write_all};

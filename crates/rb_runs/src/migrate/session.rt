@@ -59,7 +59,7 @@ fn answer_entry(
     let Some(text) = text_on(line) else {
         return Err(LineFault::Bad);
     };
-    versions.append_entry(alloc, text, buffered)
+    versions.append_migrated_entry(alloc, text, buffered)
 }
 
 impl Session {

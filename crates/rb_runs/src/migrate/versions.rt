@@ -78,7 +78,7 @@ impl Versions {
 
     /// Adds the line in version 2 of the entry that a line is, with its id, if it has one. An `Err` adds nothing.
     #[inline(always)]
-    pub fn append_entry(
+    pub fn append_migrated_entry(
         &self,
         alloc: Global,
         line: &str,

@@ -3,7 +3,7 @@ use Rattle.std.proofs.Common.{inl, sym, subst}
 use Rattle.rb_money.specs.Settings.{IsConfigured}
 use Rattle.rb_runs.proofs.Answered.{IsFirstOf, closing_found, first_of, proper_of}
 use Rattle.rb_runs.proofs.Faulted.{faulted}
-use Rattle.rb_runs.proofs.books.answer.answer_closing.Goals as goal
+use Rattle.rb_runs.proofs.books.closing_line.answer_closing.Goals as goal
 
 -- the first of the sites
 first : (c : goal.After-as_slice) → IsFirstOf c.args.auditor.settings c.args.auditor.histories c.as_slice.result.now c.index.result.now

@@ -3,7 +3,7 @@ use Rattle.std.proofs.Common.{◌∙◌, ◌++◌, ap, length, slice_get, sym}
 use Rattle.rb_money.specs.Settings.{Settings}
 use Rattle.rb_runs.specs.Texts.{config_line}
 use Rattle.rb_runs.proofs.Answered.{count_is, is_account, started_next}
-use Rattle.rb_runs.proofs.books.answer.answer_closed.Goals as goal
+use Rattle.rb_runs.proofs.books.closing_line.answer_closed.Goals as goal
 
 pub above_line-requires-clause-account : goal.above_line-requires-clause-account
 above_line-requires-clause-account c =

@@ -5,7 +5,7 @@ use Rattle.rb_site.specs.Seen.{state_of}
 use Rattle.rb_runs.specs.Books.{input_at}
 use Rattle.rb_runs.proofs.Answered.{closed_reported, first_applied, lists_of_ended, open_reported}
 use Rattle.rb_runs.proofs.Answered.{on_found}
-use Rattle.rb_runs.proofs.books.answer.answer_accepted.Goals as goal
+use Rattle.rb_runs.proofs.books.closing_line.answer_accepted.Goals as goal
 
 pub returns-then-not-are_empty : goal.returns-then-not-are_empty
 returns-then-not-are_empty c =
