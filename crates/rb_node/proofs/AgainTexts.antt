@@ -1,5 +1,6 @@
 -- The text of the answer to an id that is known, from its parts.
-use Rattle.std.proofs.Common.{◌≡◌, ◌≢◌, inl, inr, ℕ, List, decimal, length, take, [], ◌∷◌, ◌++◌, codes, true, refl, ap, subst, sym, append_assoc}
+use Rattle.std.proofs.Common.{◌≡◌, ◌≢◌, inl, inr, ℕ, List, decimal, length, take, [], ◌∷◌, ◌++◌, codes, true, refl, ap}
+use Rattle.std.proofs.Common.{subst, sym, append_assoc}
 use Rattle.std.specs.Prelude.{MatchResult, Result, Ok, Err}
 use Rattle.json.specs.Print.{escape_byte, quoted}
 use Rattle.serde_json.specs.Written.{compact_text}

@@ -1,5 +1,6 @@
 -- A line is answered as an event, by what is known of its id, or as a question.
-use Rattle.std.proofs.Common.{◌≡◌, ℕ, Bool, true, false, List, [], ◌++◌, length, take, drop, inl, inr, refl, sym, ap, subst, ◌∙◌, append-nil}
+use Rattle.std.proofs.Common.{◌≡◌, ℕ, Bool, true, false, List, [], ◌++◌, length, take, drop, inl, inr, refl, sym, ap}
+use Rattle.std.proofs.Common.{subst, ◌∙◌, append-nil}
 use Rattle.std.proofs.Common.{take-append-drop}
 use Rattle.std.specs.Prelude.{bytes_eq, Some, None, Result, Ok, Err, IfErr, MatchResult, OnErr, OnOk}
 use Rattle.std.proofs.lemmas.List.{drop_at}
@@ -90,13 +91,13 @@ asked_answered : (all : Bool) (old new : SeenAsked) (line : List ℕ) (x : Asked
 asked_answered all old new line x a b k l is (New unknown h) = new_answered all old new line x a b k l is unknown h
 asked_answered all old new line x a b k l is (Again h same stays) = known_answered all old new line x a b k l is h same stays
 
--- what was added where the id is known
+-- what was added if the id is known
 pub added_known : (b : Bool) (old : SeenAsked) (id : List ℕ) (e : Event) (text after : List ℕ) → true ≡ b
     → KnownAdds b old id e text after → KnownAdded old id e text after
 added_known true old id e text after is h = h
 added_known false old id e text after is h = absurd (cc)
 
--- where it isn't, nothing was
+-- if it isn't, nothing was
 pub added_none : (b : Bool) (old : SeenAsked) (id : List ℕ) (e : Event) (text after : List ℕ) → false ≡ b
     → KnownAdds b old id e text after → (known_of old id ≡ None) × (after ≡ text)
 added_none true old id e text after is h = absurd (cc)

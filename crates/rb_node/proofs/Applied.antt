@@ -1,4 +1,4 @@
--- What is ready is applied, one operation after another, and an answer is written around that.
+-- The operations that are ready are applied, one after another, and an answer is written around that.
 use Rattle.std.proofs.Common.{◌≡◌, ℕ, ◌+◌, ◌-◌, ◌<◌, Bool, false, List, [], ◌∷◌, ◌++◌, codes, length, take, arith}
 use Rattle.std.proofs.Common.{length-append, refl, sym, ap, subst, ◌∙◌, append_assoc, append-nil, inl, inr}
 use Rattle.std.proofs.lemmas.Bool.Decides.{nat_tests}
@@ -32,8 +32,8 @@ use Rattle.rb_node.specs.Asked.{SeenAsked, asked_state, without_ids, with_id, wi
 use Rattle.rb_node.specs.Steps.{AnswersEvent, Applies, AppliesOne, Steps, StepsKept, without_id}
 use Rattle.rb_node.proofs.Recorded.{more-alone, more-none}
 
--- what is ready is applied: the replies behind a text, the first behind this comma, and the lines of the entries, none of
--- which may have an id
+-- what is ready is applied: the replies behind a text, the first behind this comma, and the lines of the entries,
+-- none of which may have an id
 pub record AppliesOn (comma : List ℕ) (old new : SeenAsked) (text text_after entries entries_after : List ℕ) : Type 0 where
   pub names : List OpName
   pub replies : List Reply
@@ -109,7 +109,8 @@ applies_more comma x old mid new a b c k l m free ready one rest =
             (along (λ r u. rest.replies ≡ replies_to_events r u events)
             s mid.settings t (asked_state mid) kept state rest.applied.replies_are);
         recorded_are = rest.applied.recorded_are
-            ∙ ap (λ xs. xs ++ rest.recorded) (ap (λ (y : SeenAsked). (without_ids y).entries) step.recorded_are ∙ more-alone old [] (first ∷ []))
+            ∙ ap (λ xs. xs ++ rest.recorded) (ap (λ (y : SeenAsked). (without_ids y).entries) step.recorded_are
+            ∙ more-alone old [] (first ∷ []))
             ∙ append_assoc (without_ids old).entries (first ∷ []) rest.recorded;
       };
       recorded_are = λ id. more_of_both old mid new (without_id first ∷ []) (map (with_id id) rest.recorded) step.recorded_are
@@ -213,8 +214,10 @@ front_stays_two : (k l m xs ys : List ℕ) → l ≡ k ++ xs → m ≡ l ++ ys �
 front_stays_two k l m xs ys e f = front_of_sum k m (xs ++ ys) (both k l m xs ys e f)
 
 -- an event was answered, and what was ready then applied
-pub answered : {A E : Type 0} (r : Result A E) (all : Bool) (s : Settings) (bank : List ℕ) (old mid new : SeenAsked) (id : List ℕ) (e : Event) (reply : Reply)
-    (sent : List Message) (a b c d k l m : List ℕ) → IsIdOrNone id → s ≡ old.settings → bank ≡ old.bank → StepsKept all old mid id e reply k l
+pub answered : {A E : Type 0} (r : Result A E) (all : Bool) (s : Settings) (bank : List ℕ) (old mid new : SeenAsked)
+    (id : List ℕ) (e : Event) (reply : Reply)
+    (sent : List Message) (a b c d k l m : List ℕ) → IsIdOrNone id → s ≡ old.settings → bank ≡ old.bank
+    → StepsKept all old mid id e reply k l
     → sent ≡ sent_at old.settings (asked_state old) e
     → b ≡ a ++ front_text s bank id reply sent → Applies mid new b c l m → Adds r c d (codes "}\n")
     → MatchResult r (λ _. AnswersEvent all old new id e a d k m) (λ _. (take (length a) d ≡ a) × (take (length k) m ≡ k))

@@ -1,4 +1,4 @@
--- What is known of a call that failed.
+-- Facts about a call that failed.
 use Rattle.std.proofs.Common.{◌≡◌, ℕ, false, List, length, take, take_all, ap, arith}
 use Rattle.std.specs.Prelude.{◌==◌, Result, Ok, Err, IfOk, MatchResult}
 use Rattle.std.specs.Result.{IsErr, IsErrAnd}
@@ -6,7 +6,7 @@ use Rattle.std.proofs.lemmas.Bool.{eq-eqb}
 use Rattle.rb_node.specs.declared.fault.NodeFault.{NodeFault}
 use Rattle.rb_node.specs.declared.fault.NodeFault.TheVariants.{BadConfig, NoSite, BadLine, WrongReply, OutOfMemory}
 
--- what is to hold after an `Err` holds where the call failed
+-- what is to hold after an `Err` holds if the call failed
 pub kept : {A E P : Type 0} (r : Result A E) (ok : A → Type 0) → IsErr r → P → MatchResult r ok (λ _. P)
 kept (Ok x) ok is p = absurd (cc)
 kept (Err x) ok is p = p

@@ -91,7 +91,7 @@ index_unchanging x e h =
     ∙ ap (λ ms. index_of x ++ noted_of (length x.entries) (length (state_of x).ops) (length (state_of (next_site x e)).ops) ms)
     (sent_at_nothing x.settings (state_of x) e h) ∙ append-nil (index_of x)
 
--- the index stays where the site is as before, or after an event that has no note
+-- the index stays if the site is as before, or after an event that has no note
 pub index_either : {A E : Type 0} (r : Result A E) (x new : SeenSite) (e : Event) (index : List SentEntry) → index ≡ index_of x
     → changes_site x.settings (state_of x) e ≡ false → OnOk r (new ≡ next_site x e) → OnErr r (new ≡ x) → index ≡ index_of new
 index_either (Ok y) x new e index is none ok err = is ∙ sym (index_unchanging x e none) ∙ ap index_of (sym ok)

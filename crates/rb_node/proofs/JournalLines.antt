@@ -19,10 +19,10 @@ none_is [] h = λ k d below. absurd (omega arith)
 none_is (b ∷ l) h = let p = and_parts (not (b == 10)) (list_all (λ c. not (c == 10)) l) h in All-cons (λ c. c ≢ 10) b l (not_feed b p.0)
     (none_is l p.1)
 
--- where what is written for each configuration is one line, it is a journal's line
+-- if what is written for each configuration is one line, it is a journal's line
 pub configs_lines : ConfigsAreLines → ConfigsAreJournalLines
 configs_lines h s is = record { begins = refl; one = none_is (compact_text (config_json s)) (h s is).no_feed }
 
--- where what is written for each entry is one line, it is a journal's line
+-- if what is written for each entry is one line, it is a journal's line
 pub entries_lines : EntriesAreLines → EntriesAreJournalLines
 entries_lines h s is me x id = record { begins = refl; one = none_is (compact_text (asked_entry_json s me x)) (h s is me x id).no_feed }

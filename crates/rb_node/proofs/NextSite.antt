@@ -12,10 +12,10 @@ me-next x e = by (is_full x.settings (state_of x))
     by true = refl
     by false = refl
 
--- where the history isn't full, the site after an event has its entry
+-- if the history isn't full, the site after an event has its entry
 pub next-free : (x : SeenSite) (e : Event) → is_full x.settings (state_of x) ≡ false → next_site x e ≡ stepped x e
 next-free x e free = ap (λ b. cond b x (stepped x e)) free
 
--- where it is full, the site stays
+-- if it is full, the site stays
 pub next-full : (x : SeenSite) (e : Event) → is_full x.settings (state_of x) ≡ true → next_site x e ≡ x
 next-full x e full = ap (λ b. cond b x (stepped x e)) full

@@ -25,7 +25,7 @@ use Rattle.rb_node.proofs.Recorded.{more-alone, which}
 use Rattle.rb_node.proofs.Replayed.{event_is}
 use Rattle.rb_node.proofs.Spelled.{some_is}
 
--- where all is applied, nothing is next
+-- if all is applied, nothing is next
 no_more : (s : Settings) (t : ModelSite) (x : OpName) → is_full s t ≡ false → IsNextName t x → IsAllApplied s t → ⊥
 no_more s t x free next (inl full) = absurd (cc)
 no_more s t x free next (inr none) = none x (next.0, next.1, next.2.ready)
@@ -187,7 +187,8 @@ one_question : (old new other : SeenAsked) (line text words entries rows : List 
     → IsQuestionAnswer old new line text entries → IsQuestionAnswer old other line words rows
     → (text ≡ words) × (entries ≡ rows) × (new ≡ other)
 one_question old new other line text words entries rows a b = (
-  a.text_is ∙ ap (question_text old.bank (without_ids old)) (some_is a.question b.question (sym a.is_question ∙ b.is_question)) ∙ sym b.text_is,
+  a.text_is ∙ ap (question_text old.bank (without_ids old)) (some_is a.question b.question (sym a.is_question
+      ∙ b.is_question)) ∙ sym b.text_is,
   a.entries_are ∙ sym b.entries_are,
   a.after ∙ sym b.after,
 )

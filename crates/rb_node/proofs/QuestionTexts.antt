@@ -20,8 +20,10 @@ use Rattle.rb_node.specs.declared.sent_entry.SentEntry.{SentEntry}
 -- ---- what entries sent, once more
 
 -- the line of an entry more
-pub line_written : (s : Settings) (bank : List ℕ) (us : List Shadow) (out new total : List ℕ) (xs : List SentEntry) (i : ℕ) (x : SentEntry) →
-    drop i xs ≡ x ∷ drop (i + 1) xs → new ≡ out ++ sent_line s bank (messages_of us x.sent) → out ++ lines_again s bank us (drop i xs) ≡ total
+pub line_written : (s : Settings) (bank : List ℕ) (us : List Shadow) (out new total : List ℕ) (xs : List SentEntry)
+    (i : ℕ) (x : SentEntry) →
+    drop i xs ≡ x ∷ drop (i + 1) xs → new ≡ out ++ sent_line s bank (messages_of us x.sent) → out
+    ++ lines_again s bank us (drop i xs) ≡ total
     → new ++ lines_again s bank us (drop (i + 1) xs) ≡ total
 line_written s bank us out new total xs i x is e h =
     let rest = lines_again s bank us (drop (i + 1) xs) in

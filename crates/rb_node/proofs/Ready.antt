@@ -19,7 +19,7 @@ first_next o x held clock h c some = IfSome_then o some (λ n f.
     let Q : Deps → Type 0 = λ d. IsFirstReady (state_of x).held d n in
     subst Q c (subst P h f))
 
--- where no held operation is ready by the clock, all is applied
+-- if no held operation is ready by the clock, all is applied
 pub none_ready : (o : Option OpName) (x : SeenSite) (held : List Shadow) (clock : Deps) → held ≡ (state_of x).held
     → clock ≡ clock_of (state_of x).ops
     → IfNone o ((u : Shadow) → Among u held → ¬ IsReady clock u) → IfNone o (IsAllApplied x.settings (state_of x))

@@ -1,4 +1,4 @@
--- What one event leaves, and the line of its entry.
+-- The site that one event leaves, and the line of its entry.
 use Rattle.std.proofs.Common.{◌≡◌, ◌≤◌, ◌+◌, ◌-◌, ℕ, Bool, true, false, not, cond, ◌&&◌, ◌||◌, List, [], ◌∷◌, ◌++◌, length}
 use Rattle.std.proofs.Common.{take, refl, sym, ap, subst, ◌∙◌, append-nil, append_assoc, length-append, arith}
 use Rattle.std.specs.Prelude.{codes, map, nat_le, Result, Ok, Err, MatchResult, OnErr, OnOk}
@@ -22,7 +22,8 @@ use Rattle.rb_site.specs.declared.event.Event.TheVariants.{Submit, Batch, Receiv
 use Rattle.rb_site.specs.declared.message.Message.{Message}
 use Rattle.rb_site.specs.declared.reply.Reply.{Reply}
 use Rattle.rb_site.specs.declared.reply.Reply.TheVariants.{Refused}
-use Rattle.rb_site.specs.Events.{Makes, MakesAll, ModelSite, Outcome, Refuses, changes, is_full, outcome_of, reply_of, reply_to, sent_at, sent_by}
+use Rattle.rb_site.specs.Events.{Makes, MakesAll, ModelSite, Outcome, Refuses, changes, is_full, outcome_of, reply_of}
+use Rattle.rb_site.specs.Events.{reply_to, sent_at, sent_by}
 use Rattle.rb_site.specs.Events.{unless_full}
 use Rattle.rb_site.specs.Seen.{SeenSite, entry, next_site, next_sites, state_of}
 use Rattle.rb_site.specs.Unchanging.{changes_site, next_if_changes, reply_if_changes}
@@ -38,7 +39,7 @@ pub use Rattle.rb_node.proofs.NextSite.{me-next, next-free, next-full}
 
 -- ---- one event of a site without ids
 
--- where the history isn't full, it makes no difference for the reply which events are recorded
+-- if the history isn't full, it makes no difference for the reply which events are recorded
 pub reply-free : (s : Settings) (t : ModelSite) (e : Event) → is_full s t ≡ false → reply_if_changes s t e ≡ reply_to s t e
 reply-free s t e free =
     ap (λ b. reply_of s t.ops (unless_full b (outcome_of s t e))) free
@@ -105,7 +106,8 @@ pub with-unasked : (id : List ℕ) (x : Entry) → may_be_asked x ≡ false → 
 with-unasked id x none = ap (λ b. tagged-by (cond b id []) x) none
 
 -- what would be made, and wasn't, is refused
-refused-made : {A : Type 0} (s : Settings) (us : List Shadow) (r : Result A Refusal) (made : A → Outcome) → ((x : A) → changes (made x) ≡ true)
+refused-made : {A : Type 0} (s : Settings) (us : List Shadow) (r : Result A Refusal) (made : A → Outcome)
+    → ((x : A) → changes (made x) ≡ true)
     → changes (and_then Refuses r made) ≡ false → is_refusal (reply_of s us (and_then Refuses r made)) ≡ true
 refused-made s us (Ok x) made all none = let some : changes (made x) ≡ true = all x in cc
 refused-made s us (Err why) made all none = refl
@@ -162,7 +164,8 @@ step-full : (old : SeenAsked) (id : List ℕ) (e : Event) (entries : List ℕ) �
     → StepsKept true old old id e (Refused HistoryFull) entries entries
 step-full old id e entries full = record {
   site = by (is_kept true (without_ids old) e);
-  reply_is = sym (ap (λ b. cond b (Refused HistoryFull) (reply_of old.settings (asked_state old).ops (outcome_of old.settings (asked_state old) e)))
+  reply_is = sym (ap (λ b. cond b (Refused HistoryFull) (reply_of old.settings (asked_state old).ops
+      (outcome_of old.settings (asked_state old) e)))
       full);
   recorded = [];
   recorded_are = more-none old;
@@ -173,7 +176,7 @@ step-full old id e entries full = record {
     by true = sym (next-full (without_ids old) e full)
     by false = refl
 
--- what is left out where only changes are recorded stays
+-- what is left out if only changes are recorded stays
 stays-out : (x : SeenSite) (e : Event) → (changes_site x.settings (state_of x) e && not (is_full x.settings (state_of x))) ≡ false
     → (next_if_changes x e ≡ x) × (next_sites x (kept_events false x e) ≡ x)
 stays-out x e out = by (changes_site x.settings (state_of x) e) (is_full x.settings (state_of x)) refl out
@@ -197,15 +200,17 @@ step-left-out old new id e reply xs entries out is next given =
       recorded = xs;
       recorded_are = is;
       entries_are = sym (append-nil entries)
-          ∙ ap (λ ys. entries ++ entry_lines old.settings old.me (map (with_id id) ys)) (sym (which-none old new id xs is (next ∙ stays.0)));
+          ∙ ap (λ ys. entries ++ entry_lines old.settings old.me (map (with_id id) ys))
+          (sym (which-none old new id xs is (next ∙ stays.0)));
     }
 
--- where an event changes the site, and the history isn't full, it is recorded
+-- if an event changes the site, and the history isn't full, it is recorded
 next-changed : (all : Bool) (x : SeenSite) (e : Event) → changes_site x.settings (state_of x) e ≡ true
     → (next_if_changes x e ≡ next_site x e) × (next_sites x (kept_events all x e) ≡ next_site x e)
 next-changed all x e changed = by (changes_site x.settings (state_of x) e) _ changed
   where
-    by : (b rest : Bool) → b ≡ true → (cond b (next_site x e) x ≡ next_site x e) × (next_sites x (cond (b || rest) (e ∷ []) []) ≡ next_site x e)
+    by : (b rest : Bool) → b ≡ true → (cond b (next_site x e) x ≡ next_site x e)
+        × (next_sites x (cond (b || rest) (e ∷ []) []) ≡ next_site x e)
     by true rest q = (refl, refl)
     by false rest q = absurd (cc)
 
@@ -247,7 +252,7 @@ record Unchanged (old mid : SeenAsked) (x : Entry) : Type 0 where
   same : mid ≡ old
   unchanging : IsUnchanging old x
 
--- so it is where the event wasn't recorded and the history isn't full
+-- so it is if the event wasn't recorded and the history isn't full
 unchanged : (old mid : SeenAsked) (id : List ℕ) (e : Event) (reply : Reply) (xs : List Entry)
     → (changes_site old.settings (asked_state old) e && not (is_full old.settings (asked_state old))) ≡ false
     → is_full old.settings (asked_state old) ≡ false → mid ≡ with_more old (map (with_id id) xs)
@@ -317,7 +322,8 @@ step-unchanging old mid new id e reply entries after is short = record {
     with_entries : List Entry → SeenSite
     with_entries ys = record (without_ids old) { entries = ys }
 
-    site_if : (b : Bool) → without_ids (with_more old (map without_id (cond b [] (x ∷ [])))) ≡ next_sites (without_ids old) (cond (not b) (e ∷ []) [])
+    site_if : (b : Bool) → without_ids (with_more old (map without_id (cond b [] (x ∷ []))))
+        ≡ next_sites (without_ids old) (cond (not b) (e ∷ []) [])
     site_if true = ap without_ids (sym (more-none old))
     site_if false = ap with_entries (map-append (λ (y : AskedEntry). y.entry) old.asked (without_id x ∷ []))
         ∙ ap (λ r. with_entries ((without_ids old).entries ++ entry e r ∷ [])) reply_is ∙ sym (next-free (without_ids old) e free)
@@ -357,7 +363,7 @@ short-recorded old new x config me entries added after now is number line short 
 
 -- ---- what follows an event
 
--- where all are recorded and none is refused, the history isn't full
+-- if all are recorded and none is refused, the history isn't full
 not-full : (all full : Bool) → false ≡ (all && full) → all ≡ true → full ≡ false
 not-full true full spare each = sym spare
 not-full false full spare each = absurd (cc)
@@ -369,7 +375,8 @@ pub still-unchanging : (all recorded : Bool) (old mid : SeenAsked) (id : List �
     → without_ids mid ≡ next_if_changes (without_ids old) e → reply ≡ reply_if_changes old.settings (asked_state old) e
     → recorded ≡ false → all ≡ true → IsUnchanging mid (entry e reply)
 still-unchanging all recorded old mid id e reply xs changed spare is next given out each =
-    let here = unchanged old mid id e reply xs (sym changed ∙ out) (not-full all (is_full old.settings (asked_state old)) spare each) is next given in
+    let here = unchanged old mid id e reply xs (sym changed ∙ out)
+    (not-full all (is_full old.settings (asked_state old)) spare each) is next given in
     subst (λ y. IsUnchanging y (entry e reply)) (sym here.same) here.unchanging
 
 -- a step, from what follows its event
@@ -390,7 +397,7 @@ stepped-by false false old mid new id e reply xs entries after changed spare is 
     (subst (λ l. StepsKept false old mid id e reply entries l) (sym noted.1)
     (step-left-out old mid id e reply xs entries (sym changed) is next given))
 
--- where all are recorded and the history is full, each is refused
+-- if all are recorded and the history is full, each is refused
 pub refused-by : (all : Bool) (old : SeenAsked) (id : List ℕ) (e : Event) (entries : List ℕ)
     → true ≡ (all && is_full old.settings (asked_state old)) → StepsKept all old old id e (Refused HistoryFull) entries entries
 refused-by true old id e entries full = step-full old id e entries (sym full)
@@ -465,7 +472,10 @@ pub recorded-short : {A E : Type 0} (r : Result A E) (inside old new : SeenAsked
     → added ≡ entries ++ compact_text (entry_json config me x) → length added - length entries ≤ LINE_LIMIT
     → after ≡ added ++ 10 ∷ [] → OnOk r (new ≡ with_more inside (without_id x ∷ []))
     → MatchResult r (λ _. RecordsShort old new x entries after × (sent ≡ before)) (λ _. take (length entries) after ≡ entries)
-recorded-short (Ok v) inside old new x config me before sent entries added after seen kept is number line short fed now =
-    (short-recorded old new x config me entries added after (now ∙ ap (λ y. with_more y (without_id x ∷ [])) seen) is number line short fed, kept)
+recorded-short (Ok v) inside old new x config me before sent entries added after seen kept is number line short fed now = (
+  short-recorded old new x config me entries added after (now ∙ ap (λ y. with_more y (without_id x ∷ [])) seen) is
+      number line short fed,
+  kept,
+)
 recorded-short (Err v) inside old new x config me before sent entries added after seen kept is number line short fed now =
     front_of_sum entries after _ (both entries added after _ _ line fed)

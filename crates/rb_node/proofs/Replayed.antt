@@ -1,4 +1,4 @@
--- What an answer recorded is replayed from its lines.
+-- The entries that an answer recorded are replayed from their lines.
 use Rattle.std.proofs.Common.{◌≡◌, ◌<◌, ℕ, Bool, true, false, cond, List, [], ◌∷◌, ◌++◌, refl, sym, ap, subst, ◌∙◌}
 use Rattle.std.proofs.Common.{append_assoc, append-nil, inl, inr}
 use Rattle.std.specs.Prelude.{◌⊎◌, if◌then◌else◌, map, Some, None}
@@ -18,7 +18,7 @@ use Rattle.rb_history.specs.Entries.{asked_entry_json, asked_entry_of_line, aske
 use Rattle.rb_history.specs.Ids.{AskedEntry, AskedEvent, IsAsked, IsIdOrNone, is_id, may_be_asked, may_have_id}
 use Rattle.rb_history.specs.Fits.{Each, EntriesAreRead, IsEvent, IsReply}
 use Rattle.rb_history.specs.OneLine.{EntriesAreLines}
-use Rattle.rb_history.specs.Banks.{NamedEventsFit, event_to}
+use Rattle.rb_history.specs.Banks.{ReadEventsFit, event_to}
 use Rattle.rb_history.specs.Sites.{HeldNamesFitLines, RepliesFitLines}
 use Rattle.rb_node.specs.Answers.{AreReadyInTurn, IsSiteAnswer, asked_event_on, is_kept, kept_events}
 use Rattle.rb_node.specs.Asked.{SeenAsked, asked_state, known_of, without_ids, with_id, with_more}
@@ -30,7 +30,7 @@ use Rattle.rb_node.proofs.Recorded.{more-alone, more-none, next-free, next-full,
 pub record LineLaws : Type 0 where
   pub entries : EntriesAreRead
   pub lines : EntriesAreLines
-  pub events : NamedEventsFit
+  pub events : ReadEventsFit
   pub replies : RepliesFitLines
   pub held : HeldNamesFitLines
 
@@ -45,7 +45,7 @@ more : (s : Settings) (me : ℕ) (before : List Event) (e : Event)
     → after_events s (first_site me) (before ++ e ∷ []) ≡ after_event s (after_events s (first_site me) before) e
 more s me before e = after_events-append s before (e ∷ []) (first_site me)
 
--- the entries of a run fit where its events do
+-- the entries of a run fit if its events do
 run_fits : RepliesFitLines → (s : Settings) → IsConfigured s → (me : ℕ) → me < s.sites → (before es : List Event) → Each (IsEvent s) es
     → Each (FitsLine s) (with_replies s (after_events s (first_site me) before) es)
 run_fits replies s c me low before [] fits = tt
@@ -98,7 +98,7 @@ id_or_none : (x : AskedEntry) → IsAsked x → IsIdOrNone x.id
 id_or_none x (inl none) = inl none
 id_or_none x (inr is) = inr is.0
 
--- where the id isn't known, that of an entry isn't
+-- if the id isn't known, that of an entry isn't
 unknown_with : (old : SeenAsked) (id : List ℕ) (x : Entry) → known_of old id ≡ None → known_of old (with_id id x).id ≡ None
 unknown_with old id x none = by (may_be_asked x)
   where
@@ -158,7 +158,7 @@ with_one x id e = ap with_entries (more-alone x id (entry e (reply_to x.settings
     with_entries : List Entry → SeenSite
     with_entries ys = record (without_ids x) { entries = ys }
 
--- an event's entry is replayed where its id isn't known
+-- an event's entry is replayed if its id isn't known
 replayed_one : (x : SeenAsked) (id : List ℕ) (e : Event) → is_full x.settings (asked_state x) ≡ false
     → known_of x (with_id id (entry e (reply_to x.settings (asked_state x) e))).id ≡ None
     → IsReplayedAs x (record {
@@ -214,7 +214,7 @@ gone_through : (old new : SeenAsked) (id : List ℕ) (es : List Event) (recorded
 gone_through old new id es recorded free after are = sym (which old new id recorded _ are
     (ap (λ (y : SeenSite). y.entries) after ∙ entries_after (without_ids old) old.settings (asked_state old) es refl refl free))
 
--- where the site has recorded the entries of these events, and these are replayed, those are
+-- if the site has recorded the entries of these events, and these are replayed, those are
 replayed_as : (old new : SeenAsked) (id : List ℕ) (es : List Event) (recorded : List Entry)
     → AreFree old.settings (asked_state old) es → without_ids new ≡ next_sites (without_ids old) es
     → new ≡ with_more old (map (with_id id) recorded)
@@ -291,7 +291,8 @@ answer_replayed laws all old new line text entries is answer =
     fits : IsEvent s answer.asked.event × MayHave answer.asked.id answer.asked.event
     fits = laws.events s old.bank line answer.asked (event_is s old.bank line answer.asked answer.is_event)
 
-    by : (answer.mid ≡ without_ids old) ⊎ ((is_full s (asked_state old) ≡ false) × (answer.mid ≡ next_site (without_ids old) answer.asked.event))
+    by : (answer.mid ≡ without_ids old) ⊎ ((is_full s (asked_state old) ≡ false)
+        × (answer.mid ≡ next_site (without_ids old) answer.asked.event))
         → AreReplayed old (map (with_id answer.asked.id) answer.recorded) new
     by (inl stays) = applied_replayed laws old new answer.asked.id names answer.recorded is
         (subst (λ y. AreReadyInTurn s (state_of y) names) stays answer.in_turn)

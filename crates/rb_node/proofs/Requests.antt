@@ -121,7 +121,7 @@ made_at s t us (AskStatement a) reply may is all = absurd (cc)
 abbrev pub HasItsId : AskedEntry → Type 0
 HasItsId x = (x.id ≡ []) ⊎ (may_be_asked x.entry ≡ true)
 
--- so it is where an id is given to an entry
+-- so it is if an id is given to an entry
 pub has_id : (id : List ℕ) (x : Entry) → HasItsId (with_id id x)
 has_id id x = by (may_be_asked x) refl
   where
@@ -140,14 +140,14 @@ IsKnownBy us None known = known ≡ None
 IsKnownBy us (Some r) known = known ≡ Some (known_again us r)
 
 -- an entry more in front
-tells_more : (s : Settings) (t : ModelSite) (us : List Shadow) (b : ℕ) (bs own : List ℕ) (x : Entry) (xs : List AskedEntry) →
+found_behind : (s : Settings) (t : ModelSite) (us : List Shadow) (b : ℕ) (bs own : List ℕ) (x : Entry) (xs : List AskedEntry) →
     HasItsId (record { id = own; entry = x }) → x.reply ≡ reply_to s t x.event → Begins (after_event s t x.event).ops us
     → IsKnownBy us (find_request (b ∷ bs) (kept_from s (after_event s t x.event) xs)) (known_from s (after_event s t x.event) xs (b ∷ bs))
     → IsKnownBy us (find_request (b ∷ bs) (kept_from s t (record { id = own; entry = x } ∷ xs)))
     (known_from s t (record { id = own; entry = x } ∷ xs) (b ∷ bs))
-tells_more s t us b bs [] x xs has is all rest = rest
-tells_more s t us b bs (c ∷ cs) x xs (inl none) is all rest = absurd (cc)
-tells_more s t us b bs (c ∷ cs) x xs (inr may) is all rest =
+found_behind s t us b bs [] x xs has is all rest = rest
+found_behind s t us b bs (c ∷ cs) x xs (inl none) is all rest = absurd (cc)
+found_behind s t us b bs (c ∷ cs) x xs (inr may) is all rest =
     subst (λ q. IsKnownBy us (cond (bytes_eq (b ∷ bs) (c ∷ cs)) (Some kept) (find_request (b ∷ bs) (kept_from s u xs)))
     (cond q (Some known) (known_from s u xs (b ∷ bs)))) (nat_list_eq_equiv.symm (b ∷ bs) (c ∷ cs)) (by (bytes_eq (b ∷ bs) (c ∷ cs)))
   where
@@ -175,7 +175,7 @@ kept_is_known : (s : Settings) (t : ModelSite) (us : List Shadow) (b : ℕ) (bs 
     → IsKnownBy us (find_request (b ∷ bs) (kept_from s t xs)) (known_from s t xs (b ∷ bs))
 kept_is_known s t us b bs [] has replays all = refl
 kept_is_known s t us b bs (x ∷ xs) has replays all =
-    tells_more s t us b bs x.id x.entry xs has.0 replays.0 (later_ops s t x.entry (entries_alone xs) us all)
+    found_behind s t us b bs x.id x.entry xs has.0 replays.0 (later_ops s t x.entry (entries_alone xs) us all)
     (kept_is_known s (after_event s t x.entry.event) us b bs xs has.1 replays.1 all)
 
 -- nothing is kept under no id
@@ -205,18 +205,19 @@ seen bank x asked = record { settings = x.settings; bank = bank; me = x.me; aske
 pub same_site : (x : SeenSite) (asked : List AskedEntry) (kept : Requests) → IsKeeping x asked kept → without_ids (seen [] x asked) ≡ x
 same_site x asked kept is = ap (λ es. let y : SeenSite = record { settings = x.settings; me = x.me; entries = es } in y) is.entries
 
-told_of : (x : SeenSite) (asked : List AskedEntry) (kept : Requests) (id : List ℕ) → Each HasItsId asked → IsKeeping x asked kept
+kept_as_known : (x : SeenSite) (asked : List AskedEntry) (kept : Requests) (id : List ℕ) → Each HasItsId asked → IsKeeping x asked kept
     → IsKnownBy (state_of (without_ids (seen [] x asked))).ops (find_request id kept) (known_of (seen [] x asked) id)
-told_of x asked kept [] has is =
+kept_as_known x asked kept [] has is =
     subst (λ o. IsKnownBy (state_of (without_ids (seen [] x asked))).ops o None)
     (sym (ap (find_request []) is.requests ∙ none_without x.settings (first_site x.me) asked)) refl
-told_of x asked kept (b ∷ bs) has is =
+kept_as_known x asked kept (b ∷ bs) has is =
     let us = (state_of (without_ids (seen [] x asked))).ops in
     subst (λ ks. IsKnownBy us (find_request (b ∷ bs) ks) (known_of (seen [] x asked) (b ∷ bs))) (sym is.requests)
     (kept_is_known x.settings (first_site x.me) us b bs asked has
     (subst (Replays x.settings (first_site x.me)) (sym is.entries) is.replays) ([], sym (append-nil us)))
 
-lent : (x : SeenAsked) (id : List ℕ) (o : Option (Bor KnownRequest)) → IsKnownBy (state_of (without_ids x)).ops (option_copied o) (known_of x id)
+lent : (x : SeenAsked) (id : List ℕ) (o : Option (Bor KnownRequest))
+    → IsKnownBy (state_of (without_ids x)).ops (option_copied o) (known_of x id)
     → MatchOption o (known_of x id ≡ None) (λ kept. IsKeptAs x id kept.now)
 lent x id None h = h
 lent x id (Some k) h = h
@@ -227,19 +228,21 @@ pub known_found : {bank : List ℕ} (x : SeenSite) (asked : List AskedEntry) (ke
     → option_copied o ≡ find_request id kept → MatchOption o (known_of view id ≡ None) (λ k. IsKeptAs view id k.now)
 known_found {bank} x asked kept view id o has is at e =
     subst (λ (v : SeenAsked). MatchOption o (known_of v id ≡ None) (λ k. IsKeptAs v id k.now)) at
-    (lent (seen bank x asked) id o (subst (λ p. IsKnownBy (state_of (without_ids (seen [] x asked))).ops p (known_of (seen [] x asked) id)) (sym e)
-    (told_of x asked kept id has is)))
+    (lent (seen bank x asked) id o (subst (λ p. IsKnownBy (state_of (without_ids (seen [] x asked))).ops p
+    (known_of (seen [] x asked) id)) (sym e)
+    (kept_as_known x asked kept id has is)))
 
 -- under an id that isn't known nothing is found
 unknown_kept : (us : List Shadow) (o : Option KnownRequest) (known : Option Known) → IsKnownBy us o known → known ≡ None → o ≡ None
 unknown_kept us None known h none = refl
 unknown_kept us (Some r) known h none = absurd (let q : None ≡ Some (known_again us r) = sym none ∙ h in cc)
 
-pub not_found : {bank : List ℕ} (x : SeenSite) (asked : List AskedEntry) (kept : Requests) (view : SeenAsked) (id : List ℕ) → Each HasItsId asked
+pub not_found : {bank : List ℕ} (x : SeenSite) (asked : List AskedEntry) (kept : Requests) (view : SeenAsked)
+    (id : List ℕ) → Each HasItsId asked
     → IsKeeping x asked kept → seen bank x asked ≡ view → known_of view id ≡ None → find_request id kept ≡ None
 not_found x asked kept view id has is at none =
     unknown_kept (state_of (without_ids (seen [] x asked))).ops (find_request id kept) (known_of (seen [] x asked) id)
-    (told_of x asked kept id has is) (ap (λ (v : SeenAsked). known_of v id) at ∙ none)
+    (kept_as_known x asked kept id has is) (ap (λ (v : SeenAsked). known_of v id) at ∙ none)
 
 -- before any event
 pub keep_first : (s : Settings) (me : ℕ) → IsKeeping (first_seen s me) [] []
@@ -337,7 +340,8 @@ still_keeps x new asked after kept kept_after id e reply is h =
     (subst (λ ks. IsKeeping (stepped x e) (asked ++ y ∷ []) ks) (sym requests) (keep_more x asked kept e id is)))
 
 -- the site as clients see it has the entry with its id more
-pub next_seen : {bank : List ℕ} (x new : SeenSite) (asked after : List AskedEntry) (kept kept_after : Requests) (view : SeenAsked) (id : List ℕ)
+pub next_seen : {bank : List ℕ} (x new : SeenSite) (asked after : List AskedEntry) (kept kept_after : Requests)
+    (view : SeenAsked) (id : List ℕ)
     (e : Event) (reply : Reply) → seen bank x asked ≡ view → IsNotedAs x new asked after kept kept_after id e reply
     → seen bank new after ≡ with_more view (with_id id (entry e reply) ∷ [])
 next_seen {bank} x new asked after kept kept_after view id e reply at h =
@@ -347,7 +351,8 @@ next_seen {bank} x new asked after kept kept_after view id e reply at h =
     ∙ ap (λ l. seen bank x l) h.entry_noted ∙ ap (λ (v : SeenAsked). with_more v (with_id id (entry e reply) ∷ [])) at
 
 -- and without its ids it is the site after the event
-pub next_alone : {bank : List ℕ} (x new : SeenSite) (asked after : List AskedEntry) (kept kept_after : Requests) (view : SeenAsked) (id : List ℕ)
+pub next_alone : {bank : List ℕ} (x new : SeenSite) (asked after : List AskedEntry) (kept kept_after : Requests)
+    (view : SeenAsked) (id : List ℕ)
     (e : Event) (reply : Reply) → IsKeeping x asked kept → seen bank x asked ≡ view
     → IsNotedAs x new asked after kept kept_after id e reply → without_ids (seen bank new after) ≡ next_site (without_ids view) e
 next_alone x new asked after kept kept_after view id e reply is at h =
@@ -365,7 +370,7 @@ pub copies_new : (copies : Option (Vec ℕ Global × Event)) (id : List ℕ) (e 
 copies_new None id e kept is none = tt
 copies_new (Some p) id e kept is none = ap (λ t. find_request t kept) is.1 ∙ none
 
--- there is an id where there are copies
+-- there is an id if there are copies
 pub copies_of_id : {P : Type 0} (copies : Option (Vec ℕ Global × Event)) (id : List ℕ) (e : Event) → AreCopies copies id e
     → (id ≢ [] → P) → IfSome copies (λ p. P)
 copies_of_id None id e is f = tt
@@ -391,7 +396,8 @@ next_if_recorded x e h =
     ap (λ b. cond b (next_site x e) x) (both_so (changes_site x.settings (state_of x) e) (is_full x.settings (state_of x)) h).0
 
 -- with the reply that it gives there
-pub reply_if_recorded : (x : SeenSite) (e : Event) → (changes_site x.settings (state_of x) e && not (is_full x.settings (state_of x))) ≡ true
+pub reply_if_recorded : (x : SeenSite) (e : Event) → (changes_site x.settings (state_of x) e && not
+    (is_full x.settings (state_of x))) ≡ true
     → reply_if_changes x.settings (state_of x) e ≡ reply_to x.settings (state_of x) e
 reply_if_recorded x e h =
     let free = free_if_recorded x e h in
@@ -420,7 +426,7 @@ no_id x = by (may_be_asked x)
 
 -- ---- the map
 
--- what holds if a call succeeds holds where it does
+-- what holds if a call succeeds holds if it does
 pub where_ok : {A E P : Type 0} (r : Result A E) → IsOk r → OnOk r P → P
 where_ok (Ok x) is h = h
 where_ok (Err x) is h = absurd (cc)

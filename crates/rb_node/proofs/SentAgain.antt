@@ -184,7 +184,8 @@ line_of_some : (s : Settings) (bank : List ℕ) (ms : List Message) → flat_map
 line_of_some s bank [] = refl
 line_of_some s bank (m ∷ ms) = append-nil (sent_line s bank (m ∷ ms))
 
-lines_of_senders : (s : Settings) (bank : List ℕ) (t : ModelSite) (k : ℕ) (xs : List Entry) → flat_map (sent_line s bank) (senders s t k xs) ≡ resent s bank t k xs
+lines_of_senders : (s : Settings) (bank : List ℕ) (t : ModelSite) (k : ℕ) (xs : List Entry)
+    → flat_map (sent_line s bank) (senders s t k xs) ≡ resent s bank t k xs
 lines_of_senders s bank t k [] = refl
 lines_of_senders s bank t zero (x ∷ xs) =
     flat_map-append (sent_line s bank) (some_of (sent_at s t x.event)) (senders s (after_event s t x.event) zero xs)
@@ -205,7 +206,8 @@ count_senders s t zero (x ∷ xs) =
 count_senders s t (suc k) (x ∷ xs) = count_senders s (after_event s t x.event) k xs
 
 -- lines of the messages of entries
-lines_behind : (s : Settings) (bank : List ℕ) (us : List Shadow) (xs : List SentEntry) → lines_again s bank us xs ≡ flat_map (sent_line s bank) (map (behind us) xs)
+lines_behind : (s : Settings) (bank : List ℕ) (us : List Shadow) (xs : List SentEntry) → lines_again s bank us xs
+    ≡ flat_map (sent_line s bank) (map (behind us) xs)
 lines_behind s bank us [] = refl
 lines_behind s bank us (x ∷ xs) = ap (λ l. sent_line s bank (behind us x) ++ l) (lines_behind s bank us xs)
 
@@ -241,7 +243,8 @@ since x m i low high =
     ap (map (behind us)) (sym kept) ∙ read_kept s t 0 m us x.entries ([], sym (append-nil us))
     ∙ ap (λ k. senders s t k x.entries) (let q : m - 0 ≡ m = omega arith in q) in
     record {
-      lines = λ bank. lines_behind s bank us (drop i (index_of x)) ∙ ap (flat_map (sent_line s bank)) read ∙ lines_of_senders s bank t m x.entries;
+      lines = λ bank. lines_behind s bank us (drop i (index_of x)) ∙ ap (flat_map (sent_line s bank)) read
+          ∙ lines_of_senders s bank t m x.entries;
       count = sym (length-map (drop i (index_of x)) (behind us)) ∙ ap length read ∙ count_senders s t m x.entries;
     }
 

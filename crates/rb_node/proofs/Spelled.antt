@@ -73,7 +73,8 @@ some_is x y e = cc
 pub one_entry : (o : Option (ℕ × AskedEntry)) (me : ℕ) (x y : AskedEntry) → o ≡ Some (me, x) → o ≡ Some (me, y) → x ≡ y
 one_entry o me x y e f = ap (λ (q : ℕ × AskedEntry). q.1) (some_is _ _ (sym e ∙ f))
 
--- what is read from a line that isn't the line of what it is read as, unless its id is known, isn't that of another entry
+-- what is read from a line that isn't the line of what it is read as, unless its id is known, isn't that of another
+-- entry
 pub no_other : (x : SeenAsked) (e : AskedEntry) (line : List ℕ) → asked_entry_on x.settings line ≡ Some (x.me, e)
     → (known_of x e.id ≡ None → line ≢ compact_text (asked_entry_json x.settings x.me e)) → (y : AskedEntry)
     → asked_entry_on x.settings line ≡ Some (x.me, y) → known_of x y.id ≡ None
@@ -82,7 +83,7 @@ no_other x e line on other y read =
     let P : AskedEntry → Type 0 = λ z. known_of x z.id ≡ None → line ≢ compact_text (asked_entry_json x.settings x.me z) in
     subst P (one_entry (asked_entry_on x.settings line) x.me e y on read) other
 
--- where the id of what is read from a line is known, so is that of each entry which is read from it
+-- if the id of what is read from a line is known, so is that of each entry which is read from it
 pub each_known : (x : SeenAsked) (e : AskedEntry) (line : List ℕ) → asked_entry_on x.settings line ≡ Some (x.me, e)
     → known_of x e.id ≢ None → (y : AskedEntry) → asked_entry_on x.settings line ≡ Some (x.me, y) → known_of x y.id ≢ None
 each_known x e line on known y read =
@@ -92,7 +93,8 @@ each_known x e line on known y read =
 -- ---- ids
 
 -- what is read from a line is an entry with an id that it may have, or with none
-pub read_asked : ReadEntriesFit → (s : Settings) (line : List ℕ) (site : ℕ) (x : AskedEntry) → asked_entry_on s line ≡ Some (site, x) → IsAsked x
+pub read_asked : ReadEntriesFit → (s : Settings) (line : List ℕ) (site : ℕ) (x : AskedEntry) → asked_entry_on s line
+    ≡ Some (site, x) → IsAsked x
 unfolding asked_entry_on
 read_asked fit s line site x is = at (is_utf8 line) is
   where
@@ -162,7 +164,7 @@ pub read_from : {A : Type 0} (r : Result A NodeFault) (old : SeenAsked) (new : S
 read_from (Ok v) old new x line on h = (x, h.0, back old.settings old.me x line on h.0, h.1)
 read_from (Err v) old new x line on h = tt
 
--- which entry was replayed, where it is the one on a line
+-- the entry that was replayed, if it is the one on a line
 pub read_on : {A : Type 0} (r : Result A NodeFault) (old : SeenAsked) (new : SeenNode) (x : AskedEntry) (line : List ℕ)
     → asked_entry_on old.settings line ≡ Some (old.me, x) → OnOk r (IsReplayedAs old new x)
     → OnOk r ((y : AskedEntry) × (asked_entry_on old.settings line ≡ Some (old.me, y)) × IsReplayedAs old new y)

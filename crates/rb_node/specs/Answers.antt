@@ -121,8 +121,8 @@ pub record AppliesAll (old new : SeenSite) (names : List OpName) (replies : List
 
 -- ---- the answer
 
--- whether a site records an event: the event changes it; or all are recorded, and the line of its entry isn't longer than a
--- line may be
+-- whether a site records an event: the event changes it; or all are recorded, and the line of its entry isn't longer
+-- than a line may be
 abbrev pub is_kept : Bool → SeenSite → Event → Bool
 is_kept all x e = changes_site x.settings (state_of x) e
     || (all && not (is_long (compact_text (entry_json x.settings x.me (entry e (reply_to x.settings (state_of x) e))))))
@@ -131,12 +131,13 @@ is_kept all x e = changes_site x.settings (state_of x) e
 abbrev pub kept_events : Bool → SeenSite → Event → List Event
 kept_events all x e = if is_kept all x e then e ∷ [] else []
 
--- the reply to an event: where all are recorded each is refused if the history is full; else only what changes the site
+-- the reply to an event: if all are recorded each is refused if the history is full; else only what changes the site
 abbrev pub reply_kept : Bool → SeenSite → Event → Reply
 reply_kept all x e = if all then reply_to x.settings (state_of x) e else reply_if_changes x.settings (state_of x) e
 
--- the site answers the line of an event, whose id, if it has one, isn't known, by this text; these bytes are the lines of
--- the entries that it recorded: of the event, if it is recorded, with its id, if it was made, and of what was applied then
+-- the site answers the line of an event, whose id, if it has one, isn't known, by this text; these bytes are the
+-- lines of the entries that it recorded: of the event, if it is recorded, with its id, if it was made, and of what
+-- was applied then
 pub record IsSiteAnswer (all : Bool) (old new : SeenAsked) (line text entries : List ℕ) : Type 0 where
   pub asked : AskedEvent
   pub is_event : asked_event_on old.settings old.bank line ≡ Some asked

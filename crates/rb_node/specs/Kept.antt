@@ -75,7 +75,8 @@ names_sent [] = []
 names_sent (ShadowMessage v ∷ ms) = v.name ∷ names_sent ms
 names_sent (TokenOnItsWay m ∷ ms) = names_sent ms
 
--- the reply to a request that was made and sent these messages: to one by itself by its operation, and to a batch by the names
+-- the reply to a request that was made and sent these messages: to one by itself by its operation, and to a batch by
+-- the names
 abbrev pub reply_made : Event → List Message → Reply
 reply_made (Submit r) (ShadowMessage v ∷ ms) = Made v.name (label_of v.kind)
 reply_made _ ms = NamesMade (names_sent ms)

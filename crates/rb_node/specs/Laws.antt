@@ -64,8 +64,8 @@ abbrev pub IdsStayOnce : Type 0
 IdsStayOnce = (all : Bool) (old new : SeenAsked) (line text entries : List ℕ) → IsLineAnswer all old new line text entries
     → AreIdsOnce old.asked → AreIdsOnce new.asked
 
--- an answer to a line whose id is that of an entry has the entry's reply and messages, if it is the same request, and is
--- refused else; the site stays as it was
+-- an answer to a line whose id is that of an entry has the entry's reply and messages, if it is the same request, and
+-- is refused else; the site stays as it was
 abbrev pub AnswersAreTheSame : Type 0
 AnswersAreTheSame = (all : Bool) (old new : SeenAsked) (line text entries : List ℕ) → IsLineAnswer all old new line text entries
     → AreIdsOnce old.asked → (asked : AskedEvent) → asked_event_on old.settings old.bank line ≡ Some asked → asked.id ≢ []

@@ -23,7 +23,8 @@ reply_only reply = object
     (member (codes "sends") (array no_items)
     (member (codes "then") (array no_items) no_members)))
 
--- the answer of a bank's site to a question: about the site; or the messages of its last entries, and then of how many entries these are
+-- the answer of a bank's site to a question: about the site; or the messages of its last entries, and then of how
+-- many entries these are
 abbrev pub question_text : List ℕ → SeenSite → Question → List ℕ
 question_text bank x About = line_of (reply_only (one_json (codes "about") (about_json x)))
 question_text bank x (Resend most) =
@@ -37,8 +38,8 @@ pub record IsQuestionAnswer (old new : SeenAsked) (line text entries : List ℕ)
   pub after : new ≡ old
   pub entries_are : entries ≡ []
 
--- the site, which records all events or those that change it, answers a line by this text; these bytes are the lines of the
--- entries that it recorded
+-- the site, which records all events or those that change it, answers a line by this text; these bytes are the lines
+-- of the entries that it recorded
 abbrev pub IsLineAnswer : Bool → SeenAsked → SeenAsked → List ℕ → List ℕ → List ℕ → Type 0
 IsLineAnswer all old new line text entries = IsSiteAnswer all old new line text entries
     ⊎ (IsKnownAnswer old new line text entries

@@ -9,8 +9,8 @@ use Rattle.rb_history.specs.Ids.{AskedEntry}
 use Rattle.rb_node.specs.Answers.{SeenNode}
 use Rattle.rb_node.specs.Asked.{SeenAsked, asked_state, known_of, with_more}
 
--- the history wasn't full, the entry's id wasn't known, the site gives the entry's reply to its event, and it is the site
--- with this entry more, and the messages that it sent
+-- the history wasn't full, the entry's id wasn't known, the site gives the entry's reply to its event, and it is the
+-- site with this entry more, and the messages that it sent
 pub record IsReplayedAs (old : SeenAsked) (new : SeenNode) (x : AskedEntry) : Type 0 where
   pub free : is_full old.settings (asked_state old) ≡ false
   pub unknown : known_of old x.id ≡ None

@@ -45,14 +45,16 @@ pub record IsUnchanging (now : SeenAsked) (x : Entry) : Type 0 where
   pub unchanging : changes_site now.settings (asked_state now) x.event ≡ false
   pub reply : x.reply ≡ reply_to now.settings (asked_state now) x.event
 
--- what follows an event with its id: the line of its entry, if it was recorded; if not, and all are, it is recorded then
+-- what follows an event with its id: the line of its entry, if it was recorded; if not, and all are, it is recorded
+-- then
 abbrev pub Notes : Bool → Bool → SeenAsked → SeenAsked → List ℕ → Entry → List ℕ → List ℕ → Type 0
 Notes true all old new id x entries after =
     (new ≡ old) × (after ≡ entries ++ line_of (asked_entry_json old.settings old.me (with_id id x)))
 Notes false true old new id x entries after = RecordsShort old new x entries after
 Notes false false old new id x entries after = (new ≡ old) × (after ≡ entries)
 
--- one event with its id: the site after it, its reply, and the line of its entry, if it is recorded, behind those before
+-- one event with its id: the site after it, its reply, and the line of its entry, if it is recorded, behind those
+-- before
 pub record StepsKept (all : Bool) (old new : SeenAsked) (id : List ℕ) (e : Event) (reply : Reply) (entries after : List ℕ) : Type 0 where
   pub site : without_ids new ≡ next_sites (without_ids old) (kept_events all (without_ids old) e)
   pub reply_is : reply ≡ reply_kept all (without_ids old) e
@@ -77,7 +79,8 @@ pub record Applies (old new : SeenAsked) (text text_after entries entries_after 
   pub text_is : text_after ≡ text ++ items_text false (items_of (map reply_json replies))
   pub entries_are : (id : List ℕ) → entries_after ≡ entries ++ entry_lines old.settings old.me (map (with_id id) recorded)
 
--- an event of an id that isn't known is answered: the text of the answer behind what was there, and the lines of the entries
+-- an event of an id that isn't known is answered: the text of the answer behind what was there, and the lines of the
+-- entries
 pub record AnswersEvent (all : Bool) (old new : SeenAsked) (id : List ℕ) (e : Event)
     (text text_after entries entries_after : List ℕ) : Type 0 where
   pub mid : SeenSite
@@ -105,7 +108,8 @@ KnownAdds true old id e text after = KnownAdded old id e text after
 KnownAdds false old id e text after = (known_of old id ≡ None) × (after ≡ text)
 
 -- an event with its id is answered, by what is known of the id or as a new one
-pub data AnswersAsked (all : Bool) (old new : SeenAsked) (asked : AskedEvent) (text text_after entries entries_after : List ℕ) : Type 0 where
+pub data AnswersAsked (all : Bool) (old new : SeenAsked) (asked : AskedEvent)
+    (text text_after entries entries_after : List ℕ) : Type 0 where
   New : known_of old asked.id ≡ None → AnswersEvent all old new asked.id asked.event text text_after entries entries_after
       → AnswersAsked all old new asked text text_after entries entries_after
   Again : KnownAdded old asked.id asked.event text text_after → new ≡ old → entries_after ≡ entries

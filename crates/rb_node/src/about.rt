@@ -10,8 +10,8 @@ ghost use Rattle.rb_history.specs.declared.question.Question.TheVariants.{About}
 ghost use Rattle.rb_node.specs.LineAnswers.{question_text};
 
 use crate::Node;
-use rb_history::append_deps;
 use rb_history::write::append::{append, append_number};
+use rb_history::{append_deps, spell};
 use std::alloc::AllocError;
 
 impl Node {
@@ -22,7 +22,7 @@ impl Node {
             ++ (codes ",\"entries\":" ++ (decimal (length self.now.site.asked)
             ++ (codes ",\"epoch\":" ++ decimal (asked_state self.now.site).token.epoch))))) }
     {
-        append(out, "{\"reply\":{\"about\":{\"applied\":")?;
+        append(out, spell!("{" reply ":{" about ":{" applied ":"))?;
         append_deps(
             out,
             self.config.version(),
@@ -30,9 +30,9 @@ impl Node {
         )?;
         append_number(
             out,
-            ",\"entries\":",
+            spell!("," entries ":"),
             self.site.site().len() as u64,
-            ",\"epoch\":",
+            spell!("," epoch ":"),
         )?;
         append_number(out, "", self.site.site().token().epoch() as u64, "")
     }
@@ -46,11 +46,11 @@ impl Node {
         let has_token = self.site.site().token().view().held;
         append_number(
             out,
-            ",\"held\":",
+            spell!("," held ":"),
             self.site.site().inbox().len() as u64,
-            ",\"site\":",
+            spell!("," site ":"),
         )?;
-        append_number(out, "", self.site.site().me() as u64, ",\"token\":")?;
+        append_number(out, "", self.site.site().me() as u64, spell!("," token ":"))?;
         append(out, if has_token { "true" } else { "false" })
     }
 
@@ -61,6 +61,6 @@ impl Node {
     {
         self.append_applied(out)?;
         self.append_held(out)?;
-        append(out, "}},\"sends\":[],\"then\":[]}\n")
+        append(out, spell!("}}," sends ":[]," then ":[]}\n"))
     }
 }

@@ -1,4 +1,6 @@
-//! The line of a request whose id is known, answered.
+//! The line of a request whose id is known, answered. Neither the reply nor the messages of a request are kept: both
+//! are made again of its operations in the ledger. So an id takes the memory of its event, and what is answered once
+//! more can't differ from what other sites were sent.
 ghost use Rattle.std.specs.Prelude.{◌≡◌, ◌≢◌, ◌++◌, ◌∷◌, [], IfOk, OnOk, MatchResult, length, take};
 ghost use Rattle.rb_history.specs.Adds.{Adds};
 ghost use Rattle.rb_history.specs.Ids.{IsIdOrNone};
@@ -13,8 +15,8 @@ use crate::Node;
 use crate::event_line::append_rest;
 use crate::known_request::KnownRequest;
 use crate::resend::push_operations;
-use rb_history::RequestId;
 use rb_history::write::append::{append, append_number};
+use rb_history::{RequestId, spell};
 use rb_kit::List;
 use rb_ledger::OperationList;
 use rb_shadow::OpName;
@@ -97,8 +99,18 @@ fn append_other(out: &mut Vec<u8>, id: &RequestId) -> Result<(), AllocError>
     requires { id.now ≢ [] }
     ensures { Adds result out.old.items out.new.items (line_of (other_request_json id.now)) }
 {
-    append_with_id(out, "{\"id\":\"", id, "\",\"reply\":{\"refused\":")?;
-    append_number(out, "", OTHER_REQUEST, "},\"sends\":[],\"then\":[]}\n")
+    append_with_id(
+        out,
+        spell!("{" id ":\""),
+        id,
+        spell!("\"," reply ":{" refused ":"),
+    )?;
+    append_number(
+        out,
+        "",
+        OTHER_REQUEST,
+        spell!("}," sends ":[]," then ":[]}\n"),
+    )
 }
 
 impl Node {
@@ -117,7 +129,12 @@ impl Node {
         let operations = self.site.site().ledger().entries();
         let messages = messages_again(self.alloc, operations, known.first, known.end)?;
         let reply = reply_again(self.alloc, &known.event, messages.as_slice())?;
-        append_with_id(out, "{\"again\":true,\"id\":\"", id, "\",\"reply\":")?;
+        append_with_id(
+            out,
+            spell!("{" again ":true," id ":\""),
+            id,
+            spell!("\"," reply ":"),
+        )?;
         append_rest(
             out,
             &self.config,

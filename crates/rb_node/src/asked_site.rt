@@ -1,4 +1,7 @@
-//! A site whose entries may have ids, by which requests are found that were made before.
+//! A site whose entries may have ids, by which requests are found that were made before. The ids of all entries are in
+//! a list of which nothing is kept in memory, so that contracts speak of entries alone; a map from ids to requests is
+//! what runs, and the invariant ties it to the list. Whatever may fail comes before the event: an id is noted without
+//! memory.
 ghost use Rattle.std.specs.Prelude.{◌≡◌, ◌<◌, ◌++◌, ◌∷◌, ◌&&◌, [], not, List, ℕ, None, Some, IfOk, OnErr, OnOk, map};
 ghost use Rattle.std.specs.Prelude.{MatchOption, false};
 ghost use Rattle.rb_site.specs.declared.entry.Entry.{Entry as TheEntry};
@@ -87,6 +90,9 @@ impl AskedSite {
     pub fn known(&self, id: &RequestId) -> Option<&KnownRequest>
         ensures { MatchOption result (known_of self.now id.now ≡ None) (λ kept. IsKeptAs self.now id.now kept.now) }
     {
+        if id.as_bytes().is_empty() {
+            return None;
+        }
         request_of(&self.by_id, id)
     }
 

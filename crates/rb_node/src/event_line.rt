@@ -1,4 +1,6 @@
-//! The line of an event, answered.
+//! The line of an event, answered. The answer is written behind those before it, in the order in which its parts come
+//! about, and not made apart and copied. If memory runs out on the way, answers and entries are cut back to what they
+//! were.
 ghost use Rattle.std.specs.Prelude.{◌≡◌, ◌++◌, codes, List, ℕ, Some, None, false, map, length, take, Err, IfErr};
 ghost use Rattle.std.specs.Prelude.{IfNone, IfSome};
 ghost use Rattle.std.specs.Prelude.{OnErr, OnOk, MatchOption, MatchResult, true};
@@ -22,7 +24,7 @@ use crate::other_bank::append_other_bank;
 use crate::{Node, NodeFault};
 use rb_history::write::append::append;
 use rb_history::{
-    BankName, LineFault, RequestId, append_sent_message, append_value, read_event_to,
+    BankName, LineFault, RequestId, append_sent_message, append_value, read_event_to, spell,
 };
 use rb_lines::text_on;
 use rb_money::Config;
@@ -78,11 +80,11 @@ fn append_answer_head(out: &mut Vec<u8>, id: &RequestId) -> Result<(), AllocErro
     ensures id { IsIdOrNone id.now }
 {
     if id.as_bytes().is_empty() {
-        return append(out, "{\"reply\":");
+        return append(out, spell!("{" reply ":"));
     }
-    append(out, "{\"id\":\"")?;
+    append(out, spell!("{" id ":\""))?;
     out.extend_from_slice(id.as_bytes())?;
-    append(out, "\",\"reply\":")
+    append(out, spell!("\"," reply ":"))
 }
 
 /// The reply of an answer, the messages, and the bracket that opens the list of what follows.
@@ -98,9 +100,9 @@ pub(crate) fn append_rest(
         ++ codes ",\"then\":["))) }
 {
     append_value(out, reply)?;
-    append(out, ",\"sends\":[")?;
+    append(out, spell!("," sends ":["))?;
     append_messages(out, config, bank, sent)?;
-    append(out, ",\"then\":[")
+    append(out, spell!("," then ":["))
 }
 
 impl Node {

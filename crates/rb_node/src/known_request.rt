@@ -19,7 +19,9 @@ pub struct KnownRequest {
     pub end: u32,
 }
 
-/// The id as a key of the map, and a copy of the event; `None` if there is no id.
+/// The id as a key of the map, and a copy of the event; `None` if there is no id. It is inlined, as the other calls of
+/// this file are, so that an event without an id costs a test, and not a copy of an event that isn't there.
+#[inline(always)]
 pub(crate) fn copy_asked(
     alloc: Global,
     id: &RequestId,
@@ -38,6 +40,7 @@ pub(crate) fn copy_asked(
 }
 
 /// The request of the id.
+#[inline(always)]
 pub(crate) fn request_of<'m>(
     by_id: &'m IndexMap<Vec<u8>, KnownRequest>,
     id: &RequestId,
@@ -48,6 +51,7 @@ pub(crate) fn request_of<'m>(
 }
 
 /// Memory for one request more, if there is an id.
+#[inline(always)]
 pub(crate) fn reserve_request(
     by_id: &mut IndexMap<Vec<u8>, KnownRequest>,
     id: &RequestId,
@@ -62,6 +66,7 @@ pub(crate) fn reserve_request(
 }
 
 /// Notes a request by an id that isn't known, if it was made, in the capacity that is there.
+#[inline(always)]
 pub(crate) fn note_request(
     by_id: &mut IndexMap<Vec<u8>, KnownRequest>,
     copies: Option<(Vec<u8>, Event)>,

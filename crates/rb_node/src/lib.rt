@@ -41,7 +41,7 @@ pub fn replays_back()
 {
     rb_history::entries_are_read();
     rb_history::lines_are_single();
-    rb_history::named_events_fit();
+    rb_history::read_events_fit();
     rb_history::replies_fit();
 }
 

@@ -3,6 +3,7 @@ ghost use Rattle.std.specs.Prelude.{◌≡◌, ◌++◌, IfErr, OnErr, OnOk};
 ghost use Rattle.rb_node.specs.Answers.{line_of, other_bank_json};
 
 use crate::NodeFault;
+use rb_history::spell;
 use rb_history::write::append::append_number;
 
 /// The refusal of a line of another bank. No refusal of a site has this number.
@@ -17,9 +18,9 @@ pub(crate) fn append_other_bank(answers: &mut Vec<u8>) -> Result<(), NodeFault>
     let before = answers.len();
     match append_number(
         answers,
-        "{\"reply\":{\"refused\":",
+        spell!("{" reply ":{" refused ":"),
         OTHER_BANK,
-        "},\"sends\":[],\"then\":[]}\n",
+        spell!("}," sends ":[]," then ":[]}\n"),
     ) {
         Ok(()) => Ok(()),
         Err(_) => {

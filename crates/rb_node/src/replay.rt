@@ -1,5 +1,5 @@
 //! The line of an entry, replayed. A journal's line is taken only as the site writes it: it is written once more and
-//! compared, so that what is replayed and what the file has can't differ.
+//! compared, so that the replayed entry and the file can't differ.
 ghost use Rattle.std.specs.Prelude.{◌≡◌, ◌≢◌, ◌++◌, Some, None, length, take, Err, IfErr, IfOk, OnOk, OnErr};
 ghost use Rattle.std.specs.Prelude.{MatchResult};
 ghost use Rattle.rb_history.specs.Adds.{Adds};
@@ -14,7 +14,7 @@ ghost use Rattle.rb_node.specs.Replays.{IsNotNext, IsReadBack, IsReplayedAs};
 use crate::event_line::append_messages;
 use crate::{Node, NodeFault};
 use rb_history::write::append::append;
-use rb_history::{BankName, LineFault, RequestId, append_asked_line, read_asked_entry};
+use rb_history::{BankName, LineFault, RequestId, append_asked_line, read_asked_entry, spell};
 use rb_lines::text_on;
 use rb_money::{Config, Refusal};
 use rb_site::{Entry, Event, Message, Reply};
@@ -32,7 +32,7 @@ pub(crate) fn append_sends(
     if messages.is_empty() {
         return Ok(());
     }
-    append(out, "{\"sends\":[")?;
+    append(out, spell!("{" sends ":["))?;
     append_messages(out, config, bank, messages)?;
     append(out, "}\n")
 }
@@ -63,8 +63,8 @@ impl Node {
         }
     }
 
-    /// The next entry of the site's history, from its line. What the entry sent stays to be sent again by
-    /// `append_sent`.
+    /// The next entry of the site's history, from its line. The messages that the entry sent stay, to be sent again
+    /// by `append_sent`.
     ///
     /// Errors: `BadLine` if the line is no entry of this site, or has the id of an entry before; `WrongReply` if the
     /// site gives another reply, or its history is full; `OutOfMemory`. After the last two nothing more may be asked of

@@ -1,4 +1,5 @@
-//! The messages of the last entries, once more, read out of the ledger.
+//! The messages of the last entries, once more, read out of the ledger. A site keeps for each entry that sent any
+//! message which operations of the ledger these were, and not the messages: 20 bytes an entry in place of a journal.
 ghost use Rattle.std.specs.Prelude.{◌≡◌, ◌++◌, OnOk};
 ghost use Rattle.rb_history.specs.Adds.{Adds};
 ghost use Rattle.rb_history.specs.declared.question.Question.TheVariants.{Resend};
@@ -11,6 +12,7 @@ ghost use Rattle.rb_node.specs.declared.sent_entry.Sent.TheVariants.{Operations 
 use crate::Node;
 use crate::replay::append_sends;
 use crate::sent_entry::{Sent, SentEntry};
+use rb_history::spell;
 use rb_history::write::append::append_number;
 use rb_ledger::OperationList;
 use rb_site::Message;
@@ -89,9 +91,9 @@ impl Node {
         self.append_all_again(out, entries)?;
         append_number(
             out,
-            "{\"reply\":{\"resent\":",
+            spell!("{" reply ":{" resent ":"),
             entries.len() as u64,
-            "},\"sends\":[],\"then\":[]}\n",
+            spell!("}," sends ":[]," then ":[]}\n"),
         )
     }
 }

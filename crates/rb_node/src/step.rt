@@ -16,7 +16,7 @@ use rb_site::{Entry, Event, Reply};
 use std::alloc::AllocError;
 
 /// The line of an entry of a site without its line feed, with the id if the entry may have one.
-fn append_entry(
+fn append_recorded(
     out: &mut Vec<u8>,
     config: &Config,
     site: u8,
@@ -93,7 +93,7 @@ impl Node {
             (λ _. take (length entries.old.items) entries.new.items ≡ entries.old.items) }
     {
         if recorded {
-            append_entry(entries, &self.config, self.me(), id, entry)?;
+            append_recorded(entries, &self.config, self.me(), id, entry)?;
             return append(entries, "\n");
         }
         if all {

@@ -12,5 +12,6 @@ loop-message-preserved c =
 
 pub returns : goal.returns
 returns c =
-    c.new.ensures ∙ names_pushed c.loop-message.names.items (names_sent c.args.messages.now) c.args.messages.now c.loop-message.message-index
+    c.new.ensures ∙ names_pushed c.loop-message.names.items (names_sent c.args.messages.now) c.args.messages.now
+    c.loop-message.message-index
     (omega arith) c.loop-message.invariant

@@ -20,5 +20,6 @@ whole r (x ∷ xs) old a b new some front is h =
 
 pub returns-clause-added : goal.returns-clause-added
 returns-clause-added c = whole c.append-3.result c.args.id.now c.args.out.now.items c.append-2.new.out.items
-    c.extend_from_slice.new.self.items c.append-3.new.out.items (c.if-is_empty.ensures ∙ ap (λ (l : List ℕ). length l == 0) c.as_bytes.ensures.same) c.in_ok-append.ensures
+    c.extend_from_slice.new.self.items c.append-3.new.out.items (c.if-is_empty.ensures
+    ∙ ap (λ (l : List ℕ). length l == 0) c.as_bytes.ensures.same) c.in_ok-append.ensures
     (c.in_ok-extend_from_slice.ensures.items ∙ ap (λ l. c.append-2.new.out.items ++ l) c.as_bytes-2.ensures.same) c.append-3.ensures

@@ -15,6 +15,8 @@ returns-then-may_be_asked_by c =
     let map = c.args.by_id.now in
     one_noted c.args.copies p c.args.reply.now c.args.first c.args.end map.entries c.insert-before.new.self.entries c.in-Some.is
     (sym c.may_be_asked_by.ensures ∙ c.if-may_be_asked_by.true)
-    (where_ok c.insert-before.result (c.insert-before.ensures.succeeds (of_copies (λ _. 1 ≤ spare map) c.args.copies p c.in-Some.is c.requires.capacity))
+    (where_ok c.insert-before.result (c.insert-before.ensures.succeeds (of_copies (λ _. 1 ≤ spare map) c.args.copies p
+    c.in-Some.is c.requires.capacity))
     c.insert-before.ensures.entries ∙ insert_entry-new _ map c.in-Some.id _
-    (found c.in-Some.id.items map.entries ∙ of_copies (λ q. find_request q.0.items (by_bytes map.entries) ≡ None) c.args.copies p c.in-Some.is c.requires.new))
+    (found c.in-Some.id.items map.entries ∙ of_copies (λ q. find_request q.0.items (by_bytes map.entries) ≡ None)
+    c.args.copies p c.in-Some.is c.requires.new))

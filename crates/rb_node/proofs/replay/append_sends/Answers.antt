@@ -16,7 +16,7 @@ parts : (sends : List ℕ) → (codes "{\"sends\":[" ++ sends) ++ codes "}\n"
     ≡ (codes "{\"sends\":" ++ ((codes "[" ++ sends) ++ codes "}")) ++ 10 ∷ []
 parts sends = simp append_assoc
 
--- the messages' line, where there are any
+-- the messages' line, if there are any
 whole : {A E : Type 0} (r : Result A E) (s : Settings) (bank : List ℕ) (ms : List Message) (old new : List ℕ) → false ≡ (length ms == 0)
     → Adds r old new ((codes "{\"sends\":[" ++ items_text false (items_of (map (sent_json s bank) ms))) ++ codes "}\n")
     → Adds r old new (sent_line s bank ms)

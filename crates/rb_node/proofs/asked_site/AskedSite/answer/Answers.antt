@@ -22,7 +22,8 @@ the_noted c = record {
   site = c.in_ok-answer.ensures.ok.0;
   reply_is = c.in_ok-answer.ensures.ok.1;
   entry_noted = c.note_entry.ensures
-      ∙ ap (λ (l : List ErasedAsked). map entry_erased l ++ with_id c.args.id.now (record { event = c.args.event.now; reply = c.answer.new.reply }) ∷ [])
+      ∙ ap (λ (l : List ErasedAsked). map entry_erased l ++ with_id c.args.id.now
+      (record { event = c.args.event.now; reply = c.answer.new.reply }) ∷ [])
       c.in_ok-reserve_one.ensures.items;
   copies = c.in_ok-copies.copies;
   are_copies = c.in_ok-copies.ensures;

@@ -17,7 +17,8 @@ is_recorded : (c : goal.After-note_request) → (changes_site c.self.inside.site
 is_recorded c = sym c.in_ok-recorded.ensures.recorded ∙ c.if-not-recorded.false
 
 -- the event was noted
-the_noted : (c : goal.After-note_request) → IsNotedAs c.self.inside.site c.answer_if_changes.new.self (map entry_erased c.self.inside.asked.items)
+the_noted : (c : goal.After-note_request) → IsNotedAs c.self.inside.site c.answer_if_changes.new.self
+    (map entry_erased c.self.inside.asked.items)
     (map entry_erased c.note_entry.new.asked.items) (by_bytes c.self.inside.by_id.entries) (by_bytes c.note_request.new.by_id.entries)
     c.args.id.now c.args.event.now c.answer_if_changes.new.reply
 the_noted c = record {
@@ -25,7 +26,8 @@ the_noted c = record {
   site = c.in_ok-recorded.ensures.ok.0 ∙ next_if_recorded c.self.inside.site c.args.event.now (is_recorded c);
   reply_is = c.in_ok-recorded.ensures.ok.1 ∙ reply_if_recorded c.self.inside.site c.args.event.now (is_recorded c);
   entry_noted = c.note_entry.ensures
-      ∙ ap (λ (l : List ErasedAsked). map entry_erased l ++ with_id c.args.id.now (record { event = c.args.event.now; reply = c.answer_if_changes.new.reply }) ∷ [])
+      ∙ ap (λ (l : List ErasedAsked). map entry_erased l ++ with_id c.args.id.now
+      (record { event = c.args.event.now; reply = c.answer_if_changes.new.reply }) ∷ [])
       c.in_ok-reserve_one.ensures.items;
   copies = c.in_ok-copies.copies;
   are_copies = c.in_ok-copies.ensures;

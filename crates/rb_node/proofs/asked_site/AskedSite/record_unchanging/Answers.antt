@@ -25,8 +25,10 @@ the_noted c = record {
   site = c.in_ok-record_unchanging.ensures.ok;
   reply_is = c.requires.reply ∙ ap (λ (y : SeenSite). reply_to y.settings (state_of y) c.args.event.now) (the_site c);
   entry_noted = c.note_entry.ensures
-      ∙ ap (λ id. map entry_erased c.reserve_one.new.list.items ++ with_id id (entry c.args.event.now c.args.reply.now) ∷ []) c.none-no_id.ensures
-      ∙ ap (λ (l : List ErasedAsked). map entry_erased l ++ with_id [] (entry c.args.event.now c.args.reply.now) ∷ []) c.in_ok-reserve_one.ensures.items;
+      ∙ ap (λ id. map entry_erased c.reserve_one.new.list.items ++ with_id id (entry c.args.event.now c.args.reply.now)
+      ∷ []) c.none-no_id.ensures
+      ∙ ap (λ (l : List ErasedAsked). map entry_erased l ++ with_id [] (entry c.args.event.now c.args.reply.now) ∷ [])
+      c.in_ok-reserve_one.ensures.items;
   copies = None;
   are_copies = refl;
   first = length (state_of c.self.inside.site).ops;
@@ -57,6 +59,7 @@ returns c =
     record {
       ok = next_seen c.self.inside.site c.record_unchanging.new.self (map entry_erased c.self.inside.asked.items)
           (map entry_erased c.note_entry.new.asked.items) (by_bytes c.self.inside.by_id.entries) (by_bytes c.self.inside.by_id.entries)
-          c.args.self.now [] c.args.event.now c.args.reply.now c.self.view_is (the_noted c) ∙ ap (λ (x : AskedEntry). with_more c.args.self.now (x ∷ [])) (no_id one);
+          c.args.self.now [] c.args.event.now c.args.reply.now c.self.view_is (the_noted c)
+          ∙ ap (λ (x : AskedEntry). with_more c.args.self.now (x ∷ [])) (no_id one);
       err = tt;
     }

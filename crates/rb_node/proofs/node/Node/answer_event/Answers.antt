@@ -50,8 +50,10 @@ returns c =
     let text = c.args.text.now.items in
     let s = c.self.inside.config in
     let begun = both text c.append_answer_head.new.out.items c.append_rest.new.out.items (head_text c.args.id.now)
-    (rest_of_front s c.bank.result.now c.in_ok-reply.reply c.as_slice.result.now) c.in_ok-append_answer_head.ensures.added c.in_ok-append_rest.ensures in
-    answered c.append.result c.args.all s c.bank.result.now old mid.site c.apply_ready.new.self.site c.args.id.now c.args.event c.in_ok-reply.reply
+    (rest_of_front s c.bank.result.now c.in_ok-reply.reply c.as_slice.result.now)
+    c.in_ok-append_answer_head.ensures.added c.in_ok-append_rest.ensures in
+    answered c.append.result c.args.all s c.bank.result.now old mid.site c.apply_ready.new.self.site c.args.id.now
+    c.args.event c.in_ok-reply.reply
     c.as_slice.result.now text c.append_rest.new.out.items c.apply_ready.new.text.items c.append.new.out.items
     c.args.entries.now.items c.step.new.entries.items c.apply_ready.new.entries.items
     c.in_ok-append_answer_head.ensures.id

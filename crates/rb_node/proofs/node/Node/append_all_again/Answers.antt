@@ -31,7 +31,8 @@ returns c =
     let site = c.args.self.now.site in
     let entries = c.args.entries.now in
     lines_written site.settings site.bank (asked_state site).ops c.loop-entry.out.items
-    (c.args.out.now.items ++ lines_again site.settings site.bank (asked_state site).ops entries) entries c.loop-entry.entry-index (omega arith)
+    (c.args.out.now.items ++ lines_again site.settings site.bank (asked_state site).ops entries) entries
+    c.loop-entry.entry-index (omega arith)
     c.loop-entry.invariant.written
 
 pub returns-in_err-append_again : goal.returns-in_err-append_again

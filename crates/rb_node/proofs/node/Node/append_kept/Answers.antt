@@ -14,4 +14,5 @@ returns-then-same c = again_added c.append_made.result c.args.self.now.site c.ar
 
 pub returns : goal.returns
 returns c = other_added c.append_other.result c.args.self.now.site c.args.id.now c.args.event.now c.args.known.now
-    c.args.out.now.items c.append_other.new.out.items c.requires (λ e. true≢false (sym (c.same.ensures.1 e) ∙ c.if-same.false)) c.append_other.ensures
+    c.args.out.now.items c.append_other.new.out.items c.requires (λ e. true≢false (sym (c.same.ensures.1 e)
+    ∙ c.if-same.false)) c.append_other.ensures

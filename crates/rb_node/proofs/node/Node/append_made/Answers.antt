@@ -40,19 +40,23 @@ returns c =
     let k = known_again us known in
     let seen : c.self.inside.site ≡ x = ap (λ (v : SeenNode). v.site) c.self.view_is in
     let held : c.entries-operations.result.now.items ≡ us =
-    c.entries-operations.ensures ∙ c.ledger.ensures.entries ∙ ap (λ (y : SeenSite). (state_of y).ops) (c.site.ensures ∙ ap without_ids seen) in
+    c.entries-operations.ensures ∙ c.ledger.ensures.entries ∙ ap (λ (y : SeenSite). (state_of y).ops) (c.site.ensures
+    ∙ ap without_ids seen) in
     let sent : c.in_ok-messages.messages.items ≡ k.sent =
     c.in_ok-messages.ensures ∙ ap (λ (vs : List Shadow). messages_of vs (Operations known.first known.end)) held in
     let reply : c.in_ok-reply.reply ≡ k.reply =
     c.in_ok-reply.ensures ∙ ap (reply_made known.event) (c.as_slice.ensures.value ∙ sent) in
     let s : c.self.inside.config ≡ x.settings = sym c.self.invariant ∙ ap (λ (y : SeenAsked). y.settings) seen in
     let two = both old c.append_with_id.new.out.items c.append_rest.new.out.items (again_head id)
-    (rest_text c.self.inside.config c.bank.result.now c.in_ok-reply.reply c.as_slice-2.result.now) c.in_ok-append_with_id.ensures.added c.in_ok-append_rest.ensures in
+    (rest_text c.self.inside.config c.bank.result.now c.in_ok-reply.reply c.as_slice-2.result.now)
+    c.in_ok-append_with_id.ensures.added c.in_ok-append_rest.ensures in
     then c.append.result old c.append_rest.new.out.items c.append.new.out.items
-    (again_head id ++ rest_text c.self.inside.config c.bank.result.now c.in_ok-reply.reply c.as_slice-2.result.now) (codes "]}\n") _ two c.append.ensures
+    (again_head id ++ rest_text c.self.inside.config c.bank.result.now c.in_ok-reply.reply c.as_slice-2.result.now)
+    (codes "]}\n") _ two c.append.ensures
     (ap (λ r. (again_head id ++ rest_text r c.bank.result.now c.in_ok-reply.reply c.as_slice-2.result.now) ++ codes "]}\n") s
     ∙ ap (λ b. (again_head id ++ rest_text x.settings b c.in_ok-reply.reply c.as_slice-2.result.now) ++ codes "]}\n")
     (c.bank.ensures ∙ ap (λ (y : SeenAsked). y.bank) seen)
     ∙ ap (λ r. (again_head id ++ rest_text x.settings x.bank r c.as_slice-2.result.now) ++ codes "]}\n") reply
-    ∙ ap (λ (ms : List Message). (again_head id ++ rest_text x.settings x.bank k.reply ms) ++ codes "]}\n") (c.as_slice-2.ensures.value ∙ sent)
+    ∙ ap (λ (ms : List Message). (again_head id ++ rest_text x.settings x.bank k.reply ms) ++ codes "]}\n")
+    (c.as_slice-2.ensures.value ∙ sent)
     ∙ again_line x.settings x.bank id k (an_id id c.requires c.in_ok-append_with_id.ensures.id))

@@ -25,7 +25,8 @@ returns c =
     let first = c.saturating_sub-skipped.result in
     let seen : without_ids c.self.inside.site ≡ site = ap (λ (v : SeenNode). without_ids v.site) c.self.view_is in
     let skipped : first ≡ length site.entries - most =
-    c.saturating_sub-skipped.ensures ∙ ap (λ n. n - most) (c.len.ensures ∙ ap (λ (y : SeenSite). length y.entries) (c.site.ensures ∙ seen)) in
+    c.saturating_sub-skipped.ensures ∙ ap (λ n. n - most) (c.len.ensures
+    ∙ ap (λ (y : SeenSite). length y.entries) (c.site.ensures ∙ seen)) in
     let lines : lines_again site.settings bank (state_of site).ops since ≡ sent_again bank most site =
     subst (λ (y : SeenSite). lines_again y.settings bank (state_of y).ops since ≡ resent y.settings bank (first_site y.me) first y.entries)
     (c.site-2.ensures ∙ seen) (c.sent_since-entries.ensures.lines bank)

@@ -9,9 +9,10 @@ returns-then-recorded c =
     let old = c.args.self.now.site in
     let seen : c.self.inside.site ≡ old = ap (λ (v : SeenNode). v.site) c.self.view_is in
     noted-line c.append.result c.args.recorded c.args.all old old c.args.id.now c.args.entry.now
-    c.self.inside.config c.me.result c.args.self.now.sent c.args.self.now.sent c.args.entries.now.items c.append_entry.new.out.items c.append.new.out.items
+    c.self.inside.config c.me.result c.args.self.now.sent c.args.self.now.sent c.args.entries.now.items
+    c.append_recorded.new.out.items c.append.new.out.items
     (sym c.if-recorded.true) refl refl
-    (sym c.self.invariant ∙ ap (λ (y : SeenAsked). y.settings) seen) c.me.ensures c.in_ok-append_entry.ensures c.append.ensures
+    (sym c.self.invariant ∙ ap (λ (y : SeenAsked). y.settings) seen) c.me.ensures c.in_ok-append_recorded.ensures c.append.ensures
 
 pub returns-then-all : goal.returns-then-all
 returns-then-all c = noted-short _ c.record_if_short.result c.args.recorded c.args.all c.args.self.now.site

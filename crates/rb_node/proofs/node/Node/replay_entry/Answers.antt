@@ -29,7 +29,8 @@ returns-then-is_full c =
     record {
       replayed = tt;
       bad = other_fault _ WrongReply BadLine refl refl;
-      wrong = λ e. inl (ap (λ (y : SeenSite). is_full y.settings (state_of y)) (sym (c.site.ensures ∙ ap without_ids seen)) ∙ sym c.if-is_full.ensures);
+      wrong = λ e. inl (ap (λ (y : SeenSite). is_full y.settings (state_of y))
+          (sym (c.site.ensures ∙ ap without_ids seen)) ∙ sym c.if-is_full.ensures);
       refusals = tt;
     }
 

@@ -31,7 +31,8 @@ returns-then-ne c =
     record {
       replayed = tt;
       bad = λ e. (
-        λ unknown spelled. other_bytes c.as_slice.result.now c.args.line.now c.if-ne.ensures (c.as_slice.ensures.value ∙ written ∙ sym spelled),
+        λ unknown spelled. other_bytes c.as_slice.result.now c.args.line.now c.if-ne.ensures (c.as_slice.ensures.value
+            ∙ written ∙ sym spelled),
         c.self.view_is,
       );
       wrong = other_fault _ BadLine WrongReply refl refl;

@@ -28,7 +28,8 @@ note-requires c =
     let e = c.args.event in
     let seen : c.self.inside.site ≡ old = ap (λ (v : SeenNode). v.site) c.self.view_is in
     let ok = c.in_ok-recorded.ensures.ok in
-    still-unchanging c.args.all c.in_ok-recorded.recorded old c.answer_if_changes.new.self c.args.id.now e c.answer_if_changes.new.reply ok.0
+    still-unchanging c.args.all c.in_ok-recorded.recorded old c.answer_if_changes.new.self c.args.id.now e
+    c.answer_if_changes.new.reply ok.0
     (c.in_ok-recorded.ensures.recorded
     ∙ ap (λ (y : SeenAsked). changes_site y.settings (asked_state y) e && not (is_full y.settings (asked_state y))) seen)
     (c.if-refuses.ensures ∙ ap (λ (y : SeenAsked). c.args.all && is_full y.settings (asked_state y)) seen)

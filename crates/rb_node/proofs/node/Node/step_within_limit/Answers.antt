@@ -37,7 +37,8 @@ returns c =
             (ok.3 ∙ ap (λ (y : SeenAsked). reply_to y.settings (asked_state y) event) seen)
             (sym c.self.invariant ∙ ap (λ (y : SeenAsked). y.settings) seen)
             (c.me.ensures ∙ ap (λ (y : SeenAsked). y.me) is)
-            (both entries c.append_line.new.out.items c.append.new.out.items (compact_text (entry_json config c.me.result (entry event reply)))
+            (both entries c.append_line.new.out.items c.append.new.out.items
+            (compact_text (entry_json config c.me.result (entry event reply)))
             (codes "\n") c.in_ok-append_line.ensures.ok c.in_ok-append.ensures),
         ok.4 ∙ ap (λ (v : SeenNode). v.sent ++ sent_at v.site.settings (asked_state v.site) event) c.self.view_is,
       );

@@ -1,5 +1,5 @@
 use Rattle.rb_node.proofs.Recorded.{may-tagged, none-tagged}
-use Rattle.rb_node.proofs.step.append_entry.Goals as goal
+use Rattle.rb_node.proofs.step.append_recorded.Goals as goal
 
 pub returns-then-may_be_asked : goal.returns-then-may_be_asked
 returns-then-may_be_asked c = may-tagged c.append_asked_line.result c.args.config.now c.args.site c.args.id.now c.args.entry.now
