@@ -91,6 +91,7 @@ bindings: build
 test: toolchain
 	examples/tools/from_rows.py --check
 	tests/closure.py --check
+	tests/sizes.py
 	tests/wrong_bodies.py --check
 	tests/plain_words.py --check
 	bindings/declarations.py --check
