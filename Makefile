@@ -18,7 +18,7 @@ help:
 	@echo '  make test          the gate; about an hour; less than a minute if nothing changed since'
 	@echo '                     (docs/CHANGING.md)'
 	@echo '  make bindings      the library for C, Rust and Python (bindings/), their tests and the shop of examples/shop;'
-	@echo '                     wants gcc or clang, and cargo'
+	@echo '                     wants gcc or clang, and cargo; after make test it proves one crate, some minutes in all'
 	@echo
 	@echo 'While you change something:'
 	@echo '  make check         proves every crate, over what earlier checks kept'
@@ -82,8 +82,9 @@ examples: build
 	@tests/tools.py crates/rbbank/out/rbbank
 
 # The library in bindings/out, its tests in each language, the same answers by each of them, and the shop. What is
-# missing is said, and ends it in a status.
-bindings: build
+# missing is said, and ends it in a status. If the gate built the program of these sources, it isn't built again.
+bindings:
+	@test "$$(examples/tools/bank.py 2> /dev/null)" = 'the proved program' || $(MAKE) --no-print-directory build
 	@bindings/build.py
 	@bindings/check.py crates/rbbank/out/rbbank
 
@@ -96,6 +97,7 @@ test: toolchain
 	tests/plain_words.py --check
 	bindings/declarations.py --check
 	rt ci
+	@bindings/build.py --record
 	@tests/refuse.py --gate crates/rb_tests/out/rb_tests_tests crates/rb_tests_runs/out/rb_tests_runs_tests
 	@examples/tools/bank.py --record crates/rbbank/out/rbbank
 	@examples/tools/check.py --quiet crates/rbbank/out/rbbank

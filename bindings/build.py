@@ -1,21 +1,32 @@
 #!/usr/bin/env python3
 """Builds the library for C, Rust and Python in bindings/out: librbbank.a, with all that it needs beside the system's C
-library, and librbbank.so. It proves crates/rb_capi and the crates below it first, over what earlier checks kept.
+library, and librbbank.so. Nothing is built that isn't proved.
 
-usage: build.py
+usage: build.py              builds it: if the gate proved the crates below rb_capi as they are, over what it proved,
+                             and then only rb_capi is proved once more; else by `rt lib`, over what earlier checks kept
+       build.py --record     notes that the gate proved these sources, and which libraries it made of them
 """
+import hashlib
 import os
+import re
 import shutil
 import subprocess
 import sys
 
 sys.dont_write_bytecode = True
 HERE = os.path.dirname(os.path.abspath(__file__))
-CRATE = os.path.join(os.path.dirname(HERE), "crates", "rb_capi")
+ROOT = os.path.dirname(HERE)
+CRATES = os.path.join(ROOT, "crates")
+CRATE = os.path.join(CRATES, "rb_capi")
 PROVED = os.path.join(CRATE, "out", "librb_capi.a")
+RECORD = os.path.join(CRATE, "out", "gate-record")
 OUT = os.path.join(HERE, "out")
 STATIC = os.path.join(OUT, "librbbank.a")
 SHARED = os.path.join(OUT, "librbbank.so")
+
+
+class Stop(Exception):
+    """Why nothing is built, in words."""
 
 
 def c_compiler():
@@ -27,6 +38,105 @@ def kit():
     """The folder of the toolchain."""
     page = subprocess.run(["rt", "doc"], capture_output=True, text=True, check=True).stdout.strip()
     return os.path.dirname(page)
+
+
+def read(path):
+    with open(path, "rb") as file:
+        return file.read()
+
+
+# ---- what the gate proved
+
+def uses():
+    """What each crate uses, by crates.txt."""
+    text = re.sub("#.*", "", read(os.path.join(ROOT, "crates.txt")).decode())
+    lines = (line.partition(":") for line in text.split("\n"))
+    return {head.split()[0]: tail.split() for head, _, tail in lines if head.strip()}
+
+
+def below(name, known):
+    """The repository's crates below one, each behind those that it uses."""
+    found = []
+    for crate in known[name]:
+        if crate in known:
+            found += [it for it in [*below(crate, known), crate] if it not in found]
+    return found
+
+
+def library(crate):
+    """The folder of a crate's proved library, as `rt ci` and `rt lib` make it."""
+    return os.path.join(CRATES, crate, "out", "rlib", crate + ".rlib")
+
+
+def files(folder):
+    """The paths of all files below a folder, in order."""
+    return sorted(os.path.join(at, name) for at, _, names in os.walk(folder) for name in names)
+
+
+def digest(paths):
+    found = hashlib.sha256()
+    for path in paths:
+        found.update(os.path.relpath(path, ROOT).encode() + b"\0" + hashlib.sha256(read(path)).digest())
+    return found.hexdigest()
+
+
+def state():
+    """What the library would be made from: the sources of its crates, the libraries below it, and the toolchain."""
+    lower = below("rb_capi", uses())
+    parts = [os.path.join(CRATES, crate, part) for crate in [*lower, "rb_capi"] for part in ("src", "specs", "proofs")]
+    sources = [os.path.join(ROOT, "crates.txt"), *(path for part in parts for path in files(part))]
+    libraries = [path for crate in lower for path in files(library(crate))]
+    toolchain = subprocess.run(["rt", "version"], capture_output=True, text=True, check=True).stdout.strip()
+    return f"sources {digest(sources)}\nlibraries {digest(libraries)}\ntoolchain {toolchain}\n"
+
+
+def record():
+    """Notes the state right after `rt ci` passed. A library with a stamp beside it was made by another command, whose
+    work `rt ci` gives back at its end, so nothing is noted then."""
+    lower = below("rb_capi", uses())
+    if os.path.exists(RECORD):
+        os.remove(RECORD)
+    lacking = [crate for crate in lower if not os.path.isdir(library(crate))]
+    if lacking or any(os.path.exists(os.path.join(os.path.dirname(library(crate)), "stamp")) for crate in lower):
+        return
+    os.makedirs(os.path.dirname(RECORD), exist_ok=True)
+    with open(RECORD, "w", encoding="utf-8") as file:
+        file.write(state())
+
+
+def is_recorded():
+    """Whether the gate proved just what is there."""
+    return os.path.exists(RECORD) and read(RECORD).decode() == state()
+
+
+# ---- the library
+
+def over_the_gates():
+    """Proves rb_capi over the libraries that the gate proved, and builds it."""
+    known, tools = uses(), kit()
+    lower = below("rb_capi", known)
+    words = ["--crate-name", "rb_capi", "src/lib.rt"]
+    for name in dict.fromkeys(["std", *known["rb_capi"]]):
+        where = library(name) if name in known else os.path.join(tools, "rlibs", name + ".rlib")
+        words += ["--extern", f"{name}={where}"]
+    for folder in [os.path.join(tools, "rlibs"), *(os.path.dirname(library(crate)) for crate in lower)]:
+        words += ["-L", f"dependency={folder}"]
+    words += ["--antt-project", os.path.join(tools, "rattle", "logic", "antt-project.json")]
+    words += ["--logic-built", os.path.join(tools, "logic_built"), "--toolchain", os.path.join(tools, "toolchain")]
+    words += ["--crate-type", "staticlib", "--links", "rb_capi=", "--backend", "llvm"]
+    words += ["--jobs", str(min(os.cpu_count() or 1, 4)), "-o", PROVED]
+    print("rb_capi is proved and built over the libraries that the gate proved.", flush=True)
+    ran = subprocess.run([os.path.join(tools, "bin", "rattle"), "build", *words], cwd=CRATE, stdout=subprocess.PIPE,
+                         stderr=subprocess.STDOUT, text=True, errors="replace")
+    verdict = [line for line in ran.stdout.split("\n") if line.startswith("logic=proved ")]
+    if ran.returncode != 0 or not verdict:
+        raise Stop(f"{ran.stdout[-3000:]}\nrattle build ended in {ran.returncode}")
+    print(verdict[-1])
+
+
+def by_rt_lib():
+    """Proves whatever isn't proved here yet, and builds the library."""
+    subprocess.run(["rt", "lib"], cwd=CRATE, check=True)
 
 
 def static(parts):
@@ -44,14 +154,18 @@ def shared(compiler):
 
 
 def main():
-    if sys.argv[1:]:
+    words = sys.argv[1:]
+    if words == ["--record"]:
+        record()
+        return 0
+    if words:
         print(__doc__)
-        return 0 if sys.argv[1:] in (["--help"], ["-h"]) else 2
+        return 0 if words in (["--help"], ["-h"]) else 2
     missing = [word for word in ("rt", "ar") if shutil.which(word) is None]
     missing += [] if c_compiler() else ["C compiler"]
     if missing:
-        sys.exit(f"build.py: no {', no '.join(missing)} on PATH, so no library is built")
-    subprocess.run(["rt", "lib"], cwd=CRATE, check=True)
+        raise Stop(f"no {', no '.join(missing)} on PATH, so no library is built")
+    over_the_gates() if is_recorded() else by_rt_lib()
     os.makedirs(OUT, exist_ok=True)
     static([PROVED, os.path.join(kit(), "c", "liblibc_c.a")])
     shared(c_compiler())
@@ -62,5 +176,7 @@ def main():
 if __name__ == "__main__":
     try:
         sys.exit(main())
+    except Stop as why:
+        sys.exit(f"build.py: {why}")
     except subprocess.CalledProcessError as why:
         sys.exit(f"build.py: {why.cmd[0]} ended in {why.returncode}")
