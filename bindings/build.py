@@ -45,6 +45,11 @@ def read(path):
         return file.read()
 
 
+def version():
+    """The version of the library, where it is said."""
+    return re.search(rb'VERSION: &str = "([0-9.]+)"', read(os.path.join(CRATE, "src", "version.rt")))[1].decode()
+
+
 # ---- what the gate proved
 
 def uses():
@@ -148,9 +153,14 @@ def static(parts):
 
 
 def shared(compiler):
-    """The same as a library that is loaded as a program runs, which needs nothing but the C library."""
-    whole = ["-Wl,--whole-archive", STATIC, "-Wl,--no-whole-archive", "-Wl,--no-undefined"]
+    """The same as a library that is loaded as a program runs, which needs nothing but the C library. What is linked
+    with it asks for it by its name with the first number of the version."""
+    name = os.path.basename(SHARED) + "." + version().partition(".")[0]
+    whole = ["-Wl,--whole-archive", STATIC, "-Wl,--no-whole-archive", "-Wl,--no-undefined", f"-Wl,-soname,{name}"]
     subprocess.run([compiler, "-shared", "-o", SHARED, *whole], check=True)
+    named = os.path.join(OUT, name)
+    if not os.path.lexists(named):
+        os.symlink(os.path.basename(SHARED), named)
 
 
 def main():

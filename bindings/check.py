@@ -58,9 +58,10 @@ def stored(path, otherwise=b""):
 def compiled(name, *flags):
     """A program of bindings/c, linked with the library, or None where the compiler refuses it."""
     out = os.path.join(build.OUT, name + ("-asan" if flags else ""))
-    strict = ["-std=c11", "-D_DEFAULT_SOURCE", "-Wall", "-Wextra", "-Wpedantic", "-Werror", "-O1", "-g"]
+    strict = ["-std=c11", "-D_DEFAULT_SOURCE", "-Wall", "-Wextra", "-Wpedantic", "-Werror", "-O1", "-g", "-pthread"]
+    wanted = f'-DRBBANK_WANTED_VERSION="{build.version()}"'
     source = os.path.join(HERE, "c", name + ".c")
-    _, errors, status = run([build.c_compiler(), *strict, *flags, "-o", out, source, build.STATIC])
+    _, errors, status = run([build.c_compiler(), *strict, wanted, *flags, "-o", out, source, build.STATIC])
     if status != 0:
         print(errors.decode(), file=sys.stderr)
         return None
@@ -74,10 +75,12 @@ def of_c():
     refused = compiled("refused", "-fsanitize=address", "-Wl,--wrap=malloc,--wrap=realloc")
     yield "C, each allocation refused, under AddressSanitizer", passes([refused])
     yield "C, example.c", example()
+    yield "C, restart.c", restart()
 
 
 def example():
-    """Whether the example prints what the bank and the site answer, and leaves the journal that the site has."""
+    """Whether the example prints what the bank and the site answer, and leaves the journal that the site has; a second
+    time it leaves the journal as it is."""
     program = compiled("example")
     if program is None:
         return False
@@ -85,10 +88,39 @@ def example():
         journal = os.path.join(folder, "journal")
         found = run([program, journal])
         kept = stored(journal)
+        again = run([program, journal])
+        left = stored(journal)
     site = stored(os.path.join(EXAMPLES, "sites", "site_deposit.site.expected")).splitlines(keepends=True)[0]
     entry = stored(os.path.join(EXAMPLES, "sites", "site_deposit.site.journal")).splitlines(keepends=True)[1]
-    replies = b'{"kind":"deposit","name":"B0.1"}\n{"held":"B0.1"}\n{"applied":"B0.1"}\n{"balance":500}\n'
-    return found == (replies + site, b"", 0) and kept.splitlines(keepends=True)[1:] == [entry]
+    replies = (b'{"kind":"deposit","name":"B0.1"}\n{"held":"B0.1"}\ncolumn 30: not JSON\n{"applied":"B0.1"}\n'
+               b'{"balance":500}\n')
+    first = found == (replies + site, b"", 0) and kept.splitlines(keepends=True)[1:] == [entry]
+    return first and again == (replies, b"example: status -1\n", 1) and left == kept
+
+
+def restart():
+    """Whether a site goes on from its journal, and what a crash left behind its last line is cut off."""
+    program = compiled("restart")
+    if program is None:
+        return False
+    with tempfile.TemporaryDirectory() as folder:
+        journal = os.path.join(folder, "journal")
+        _, sent, _ = run([program, "0", journal], b'{"deposit":["ann",500]}\n{"pass":1}\n')
+        before = stored(journal)
+        with open(journal, "ab") as file:
+            file.write(b'{"event":')
+        found, again, status = run([program, "0", journal], b'{"balance":"ann"}\n{"balance"')
+        kept = stored(journal)
+        another = run([program, "1", journal])
+        with open(journal, "ab") as file:
+            file.write(b"\t")
+        sealed = run([program, "0", journal])
+    answer = b'{"reply":{"balance":500},"sends":[],"then":[]}\ncolumn 10: JSON that isn\'t whole\n'
+    entry = b'{"event":{"balance":"ann"},"reply":{"balance":500},"site":0}\n'
+    return ((found, again, status) == (answer, sent, 0) and kept == before + entry
+            and re.fullmatch(rb'to all: \{"shadow":.*\}\nto 1: \{"token":\[1,1,0\]\}\n', sent) is not None
+            and sealed == (b"", b"restart: the journal is sealed, and no site goes on from it\n", 1)
+            and another == (b"", b"restart: the journal has a line that isn't the site's next entry\n", 1))
 
 
 def of_rust():

@@ -1,12 +1,13 @@
 #!/usr/bin/env python3
-"""Compares the declarations of the library's calls with its exports: names, order and widths.
+"""Compares the declarations of the library's calls with its exports: names, order and widths; and the version.
 
 usage: declarations.py             the table of calls
        declarations.py --check     nothing, or what is different, with status 1
 
 The exports are the `extern "C"` functions of crates/rb_capi/src; the declarations are those of c/rbbank.h,
-rust/src/c.rs and python/rbbank.py. What an export takes is compared as C passes it: a slice is a pointer and a length,
-the allocator is nothing, and a handle is one pointer, to a struct of one pointer.
+rust/src/c.rs and python/rbbank. What an export takes is compared as C passes it: a slice is a pointer and a length,
+the allocator is nothing, and a handle is one pointer, to a struct of one pointer. The version is that of
+crates/rb_capi/src/version.rt: rust/Cargo.toml has to say the same.
 """
 import ctypes
 import glob
@@ -18,26 +19,29 @@ sys.dont_write_bytecode = True
 HERE = os.path.dirname(os.path.abspath(__file__))
 EXPORTS = os.path.join(os.path.dirname(HERE), "crates", "rb_capi", "src")
 sys.path.insert(0, os.path.join(HERE, "python"))
+import build
 import rbbank
 
 # What a call takes or returns, in the words of each language.
 OF_EXPORTS = {
     "Global": [], "&[u8]": ["bytes in", "usize"], "&mut [u8]": ["bytes out", "usize"],
-    "&[usize]": ["usizes in", "usize"], "&mut usize": ["usize out"], "&mut u64": ["u64 out"], "usize": ["usize"],
-    "u8": ["u8"], "i32": ["i32"], "": ["nothing"],
+    "&[usize]": ["usizes in", "usize"], "&mut usize": ["usize out"], "&mut u64": ["u64 out"], "&mut u8": ["u8 out"],
+    "usize": ["usize"], "u8": ["u8"], "i32": ["i32"], "": ["nothing"],
 }
 OF_C = {
-    "const uint8_t *": "bytes in", "uint8_t *": "bytes out", "const size_t *": "usizes in", "size_t *": "usize out",
-    "uint64_t *": "u64 out", "size_t": "usize", "uint8_t": "u8", "int32_t": "i32", "void": "nothing",
+    "const char *": "bytes in", "char *": "bytes out", "const size_t *": "usizes in", "size_t *": "usize out",
+    "uint64_t *": "u64 out", "uint8_t *": "u8 out", "size_t": "usize", "uint8_t": "u8", "int32_t": "i32",
+    "void": "nothing",
 }
 OF_RUST = {
     "*mut Handle": "handle", "*const u8": "bytes in", "*mut u8": "bytes out", "*const usize": "usizes in",
-    "*mut usize": "usize out", "*mut u64": "u64 out", "usize": "usize", "u8": "u8", "i32": "i32", "": "nothing",
+    "*mut usize": "usize out", "*mut u64": "u64 out", "&mut u8": "u8 out", "usize": "usize", "u8": "u8", "i32": "i32",
+    "": "nothing",
 }
 OF_PYTHON = {
     ctypes.POINTER(ctypes.c_void_p): "handle", ctypes.c_char_p: "bytes", ctypes.POINTER(ctypes.c_size_t): "u64s",
-    ctypes.POINTER(ctypes.c_uint64): "u64s", ctypes.c_size_t: "u64", ctypes.c_uint64: "u64", ctypes.c_uint8: "u8",
-    ctypes.c_int32: "i32", None: "nothing",
+    ctypes.POINTER(ctypes.c_uint64): "u64s", ctypes.POINTER(ctypes.c_uint8): "u8s", ctypes.c_size_t: "u64",
+    ctypes.c_uint64: "u64", ctypes.c_uint8: "u8", ctypes.c_int32: "i32", None: "nothing",
 }
 
 
@@ -95,16 +99,23 @@ def of_python():
 
 def as_python_has_it(kinds):
     """ctypes knows no `const`, and lengths as numbers of 64 bits."""
-    return [re.sub("^u64s? .*", "u64s", re.sub("^bytes .*", "bytes", kind).replace("usize", "u64")) for kind in kinds]
+    known = (re.sub("^bytes .*", "bytes", kind).replace("usize", "u64") for kind in kinds)
+    return [re.sub("^(u64|u8)s? .*", r"\1s", kind) for kind in known]
+
+
+def version_of_rust():
+    return re.search(r'(?m)^version = "(.*)"$', read(HERE, "rust", "Cargo.toml"))[1]
 
 
 def differences():
     """What isn't the same, in words."""
+    if version_of_rust() != build.version():
+        yield f"rust/Cargo.toml has the version {version_of_rust()}; crates/rb_capi/src/version.rt {build.version()}"
     made, in_c, in_rust, in_python = exports(), of_c(), of_rust(), of_python()
     if not made:
         yield "crates/rb_capi/src has no export"
         return
-    for where, found in [("c/rbbank.h", in_c), ("rust/src/c.rs", in_rust), ("python/rbbank.py", in_python)]:
+    for where, found in [("c/rbbank.h", in_c), ("rust/src/c.rs", in_rust), ("python/rbbank", in_python)]:
         for name in sorted(made.keys() ^ found.keys()):
             yield f"{name}: " + (f"not in {where}" if name in made else f"in {where}, and no export")
         if list(found) != list(in_c):

@@ -1,6 +1,8 @@
-/* A bank of two sites in one process, and one site with a journal. Prints each reply.
+/* A bank of two sites in one process, and one site with a new journal. Prints each reply.
  *
  *     cc -I bindings/c bindings/c/example.c bindings/out/librbbank.a -o example && ./example site.journal
+ *
+ * restart.c goes on from a journal that is there.
  */
 #include "rbbank.h"
 
@@ -8,31 +10,34 @@
 #include <string.h>
 #include <unistd.h>
 
+#define TEXT(text) (text), strlen(text)
+
 static const char CONFIG[] = "{\"accounts\":[[\"ann\",0],[\"bob\",1000]],\"sites\":2,\"version\":1}";
 
-/* Prints what a call keeps, however long it is, through a buffer of any size. */
-static void print_reply(struct rbbank *bank) {
-    uint8_t part[16];
-    size_t from = 0, n;
-    while ((n = rbbank_reply(bank, from, part, sizeof part)) > 0) {
-        fwrite(part, 1, n, stdout);
-        from += n;
-    }
+/* Says why a line isn't taken. */
+static void print_fault(const char *line) {
+    char why[64];
+    size_t column, length = rbbank_error(TEXT(line), why, sizeof why, &column);
+    printf("column %zu: %.*s\n", column, (int)length, why);
 }
 
 static int a_bank(void) {
     static const char *const commands[] = {
         "{\"deposit\":[\"ann\",500],\"site\":0}",
         "{\"deliver\":1,\"site\":1}",
+        "{\"deposit\":[\"ann\",500,\"site\":0}",
         "{\"apply\":\"B0.1\",\"site\":1}",
         "{\"balance\":\"ann\",\"site\":1}",
     };
+    char reply[4096];
     struct rbbank bank = {0};
-    int32_t status = rbbank_open(&bank, (const uint8_t *)CONFIG, strlen(CONFIG));
-    for (size_t i = 0; status == RBBANK_OK && i < sizeof commands / sizeof *commands; i++) {
-        status = rbbank_answer(&bank, (const uint8_t *)commands[i], strlen(commands[i]));
+    int32_t status = rbbank_open(&bank, TEXT(CONFIG));
+    for (size_t i = 0; status != RBBANK_NO_MEMORY && i < sizeof commands / sizeof *commands; i++) {
+        status = rbbank_answer(&bank, TEXT(commands[i]));
         if (status == RBBANK_OK)
-            print_reply(&bank);
+            fwrite(reply, 1, rbbank_reply(&bank, reply, sizeof reply), stdout);
+        else if (status == RBBANK_BAD_LINE)
+            print_fault(commands[i]);
     }
     rbbank_close(&bank);
     return status;
@@ -40,28 +45,26 @@ static int a_bank(void) {
 
 /* Adds the entries of the last call to the journal, and waits until they are on the disk. */
 static int keep_entries(struct rbbank_site *site, FILE *journal) {
-    uint8_t part[4096];
-    size_t from = 0, n;
-    while ((n = rbbank_site_entries(site, from, part, sizeof part)) > 0) {
-        if (fwrite(part, 1, n, journal) != n)
-            return -1;
-        from += n;
-    }
+    char entries[4096];
+    size_t length = rbbank_site_entries(site, entries, sizeof entries);
+    if (length > sizeof entries || fwrite(entries, 1, length, journal) != length)
+        return -1;
     return fflush(journal) == 0 && fsync(fileno(journal)) == 0 ? 0 : -1;
 }
 
 static int a_site(const char *path) {
     static const char event[] = "{\"deposit\":[\"ann\",500]}";
-    uint8_t answer[4096];
+    char answer[4096];
     struct rbbank_site site = {0};
-    FILE *journal = fopen(path, "w");
-    int32_t status = rbbank_site_open(&site, 0, (const uint8_t *)CONFIG, strlen(CONFIG));
+    /* With "x" a journal that is there is left as it is, and this fails: "w" alone would cut it to nothing. */
+    FILE *journal = fopen(path, "wbx");
+    int32_t status = rbbank_site_open(&site, 0, TEXT(CONFIG));
     if (journal == NULL || status != RBBANK_OK || keep_entries(&site, journal) != 0)
         status = status != RBBANK_OK ? status : -1;
-    else if ((status = rbbank_site_answer(&site, (const uint8_t *)event, strlen(event))) == RBBANK_OK) {
+    else if ((status = rbbank_site_answer(&site, TEXT(event))) == RBBANK_OK) {
         /* First the journal, then the answer: whoever has seen it can rely on it. */
         if ((status = keep_entries(&site, journal)) == 0)
-            fwrite(answer, 1, rbbank_site_reply(&site, 0, answer, sizeof answer), stdout);
+            fwrite(answer, 1, rbbank_site_reply(&site, answer, sizeof answer), stdout);
     }
     rbbank_site_close(&site);
     if (journal != NULL)

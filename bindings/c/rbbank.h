@@ -1,18 +1,24 @@
-/* The core of the bank, for C: sites that answer lines, and the four runs from bytes to bytes.
+/* The core of the bank, for C: sites that answer lines, and four whole runs.
  *
  * Lines, limits, refusals and statuses are those of docs/FORMAT.md. What each call does is proved of the code behind
  * it (crates/rb_capi). The rest is the caller's to keep:
  *
  * - A handle begins with all bytes zero (`struct rbbank bank = {0};`). It is never copied, compared or looked into;
  *   two copies of one handle would end one bank twice. It may be moved: the old place is then forgotten.
- * - One call at a time on a handle, and from one thread at a time. Two handles know nothing of each other.
+ * - A handle may go to another thread, and is used by one at a time: a caller that shares one has a lock round each
+ *   call on it, and round a call with the reading of its answer. Two handles know nothing of each other, and may be
+ *   used at once.
  * - Each pointer has as many bytes behind it as its length says, for the time of the call alone: nothing that is
- *   passed is kept. With a length of 0 the pointer isn't followed. What is written (`out`, `written`, `number`,
- *   `journal`) overlaps nothing else that is passed.
+ *   passed is kept. With a length of 0 the pointer isn't followed. What is written (`out`, `written`, `number` ..)
+ *   overlaps nothing else that is passed.
  * - A handle that was opened is closed, else its memory is lost. Closing twice, and a zeroed handle, are fine.
  *
- * No call has another condition: any bytes are answered. A line is passed without its line feed, and has at most
- * 1,048,576 bytes if the program's limit is to hold. Nothing is printed, no file is opened, no thread started.
+ * Text is UTF-8 with a length, and has no NUL at its end. No call has another condition: any bytes are answered. A line
+ * is passed without its line feed, and has at most 1,048,576 bytes if the program's limit is to hold. Nothing is
+ * printed, no file is opened, no thread started.
+ *
+ * A call that copies a text to `out`, of `capacity` bytes, gives the length of the whole text. As much of it as fits is
+ * at the beginning of `out`, and the rest of `out` stays. So `rbbank_reply(&bank, NULL, 0)` is how long the reply is.
  */
 #ifndef RBBANK_H
 #define RBBANK_H
@@ -24,14 +30,24 @@
 extern "C" {
 #endif
 
+/* Copies the library's version, such as "2.0.0". */
+size_t rbbank_version(char *out, size_t capacity);
+
+/* Copies why a line isn't taken, as far as its text says: "not UTF-8", "not JSON", "JSON that isn't whole" or "JSON,
+ * but no line that is taken here"; 0 if memory ran out. It is asked after RBBANK_BAD_LINE, with the same line. For the
+ * second and the third `*column` is which byte of the line, from 1, the reader of JSON came to; else, and at no byte,
+ * 0. */
+size_t rbbank_error(const char *line, size_t length, char *out, size_t capacity, size_t *column);
+
 /* What calls on a handle return. */
 enum {
     RBBANK_OK = 0,
     RBBANK_NONE = 1,     /* the handle is zeroed or closed, by its caller or by a status below: nothing happened */
     RBBANK_BAD_LINE = 2, /* no command, no event, no entry of this site: nothing changed; no configuration: closed */
     RBBANK_REFUSED = 3,  /* rbbank_site_open: no such site; rbbank_site_replay: the site gives another reply than the
-                            entry has, or its history is full: closed */
-    RBBANK_NO_MEMORY = 4 /* memory ran out: the handle is closed, and the last answer is lost */
+                            entry has, or its history is full: closed; rbbank_site_send: no such message */
+    RBBANK_NO_MEMORY = 4 /* memory ran out: the handle is closed, and the last answer is lost; rbbank_site_send:
+                            nothing has changed */
 };
 
 /* ---- All sites of a bank, with the messages between them, as `rbbank script` has them */
@@ -42,16 +58,15 @@ struct rbbank {
 
 /* Opens the bank of a configuration's line, before any command. A bank that the handle had is ended first.
  * 0, 2 (no configuration) or 4; after 2 and 4 the handle is closed. */
-int32_t rbbank_open(struct rbbank *bank, const uint8_t *config, size_t length);
+int32_t rbbank_open(struct rbbank *bank, const char *config, size_t length);
 
 /* Gives the bank a command's line, such as {"deposit":["ann",500],"site":0}. 0: the reply is kept, a refusal too, and
  * can be read by rbbank_reply; 1; 2 (no command): nothing has changed, the reply that was kept before neither; 4. */
-int32_t rbbank_answer(struct rbbank *bank, const uint8_t *line, size_t length);
+int32_t rbbank_answer(struct rbbank *bank, const char *line, size_t length);
 
-/* Copies the kept reply, which has one line feed, at its end, from byte `from` (0 and up) on: how many bytes were
- * copied, 0 to `length`. Fewer than `length`: that was the rest. It is kept until rbbank_answer returns 0 or 4, or the
- * bank is opened or closed. */
-size_t rbbank_reply(struct rbbank *bank, size_t from, uint8_t *out, size_t length);
+/* Copies the kept reply, which has one line feed, at its end; 0 if there is none. It is kept until rbbank_answer
+ * returns 0 or 4, or the bank is opened or closed. */
+size_t rbbank_reply(struct rbbank *bank, char *out, size_t capacity);
 
 /* Ends the bank, and gives its memory back. The handle is zeroed, and may be opened again. */
 void rbbank_close(struct rbbank *bank);
@@ -66,7 +81,7 @@ struct rbbank_site {
  * journal's first line. If a journal is there, compare: one that begins with another line is another bank's, and
  * its entries might be replayed here all the same. A site that the handle had is ended first.
  * 0, 2 (no configuration), 3 (the configuration has no such site) or 4; after 2, 3 and 4 the handle is closed. */
-int32_t rbbank_site_open(struct rbbank_site *site, uint8_t me, const uint8_t *config, size_t length);
+int32_t rbbank_site_open(struct rbbank_site *site, uint8_t me, const char *config, size_t length);
 
 /* Gives the site an event's line: any command but "deliver", without its site, or a message of another site. 0: the
  * answer {"reply":..,"sends":[..],"then":[..]} is kept, and so are its entries; 1; 2 (no event, and no question):
@@ -78,21 +93,32 @@ int32_t rbbank_site_open(struct rbbank_site *site, uint8_t me, const uint8_t *co
  * until it has a reply.
  * A question changes nothing and has no entries: {"about":"site"}, or {"resend":N}, N 0 to 100,000,000, whose answer
  * has a line {"sends":[..]} before its last for each of the last N entries that sent any message. */
-int32_t rbbank_site_answer(struct rbbank_site *site, const uint8_t *line, size_t length);
+int32_t rbbank_site_answer(struct rbbank_site *site, const char *line, size_t length);
 
 /* Copies the kept answer, as rbbank_reply does. After a replay it is the line {"sends":[..]} of what the entry sent,
  * and nothing if it sent nothing. */
-size_t rbbank_site_reply(struct rbbank_site *site, size_t from, uint8_t *out, size_t length);
+size_t rbbank_site_reply(struct rbbank_site *site, char *out, size_t capacity);
 
 /* Copies the lines that the kept answer adds to the journal, each with its line feed, as rbbank_reply does; none if
  * it recorded nothing, and none after a replay. After an open it is the configuration's line, with all eight keys. */
-size_t rbbank_site_entries(struct rbbank_site *site, size_t from, uint8_t *out, size_t length);
+size_t rbbank_site_entries(struct rbbank_site *site, char *out, size_t capacity);
+
+/* For which site a message is that goes to each other one. */
+#define RBBANK_EACH_OTHER_SITE 255
+
+/* Copies the message of this index, from 0, of the kept answer, without a line feed: it is the line that a receiver is
+ * to be given as an event, word for word. `*length` is how many bytes it has, and `*to` the site that it is for, or
+ * RBBANK_EACH_OTHER_SITE. The messages of several lines, as a `resend` is answered by, are counted through all of them.
+ * Each call reads the answer again, up to the message.
+ * 0; 1; 3 (the answer has no such message); 4. After 1, 3 and 4 `*length` is 0, and `out` as it was. */
+int32_t rbbank_site_send(struct rbbank_site *site, size_t index, char *out, size_t capacity, size_t *length,
+                         uint8_t *to);
 
 /* Gives a site that was opened again the next line of its journal, behind the first; it may have an id. 0; 1; 2 (no
  * entry of this site, or the id of an entry before): nothing has changed; 3 (the site gives another reply than the
  * entry has, or its history is full): the handle is closed; 4. The entry may be spelled in any way, but the program
  * takes a journal's line only as it writes it. */
-int32_t rbbank_site_replay(struct rbbank_site *site, const uint8_t *line, size_t length);
+int32_t rbbank_site_replay(struct rbbank_site *site, const char *line, size_t length);
 
 /* Ends the site, and gives its memory back. The handle is zeroed, and may be opened again. */
 void rbbank_site_close(struct rbbank_site *site);
@@ -107,15 +133,15 @@ void rbbank_site_close(struct rbbank_site *site);
  * bytes `out` has to have; with 4 it is 0. */
 
 /* Commands in, replies out: `rbbank script`. */
-int32_t rbbank_script(const uint8_t *input, size_t length, uint8_t *out, size_t capacity, size_t *written,
+int32_t rbbank_script(const char *input, size_t length, char *out, size_t capacity, size_t *written,
                       uint64_t *number);
 
 /* The histories of a bank's sites in; an order of all of it, or the fault: `rbbank audit`. */
-int32_t rbbank_audit(const uint8_t *input, size_t length, uint8_t *out, size_t capacity, size_t *written,
+int32_t rbbank_audit(const char *input, size_t length, char *out, size_t capacity, size_t *written,
                      uint64_t *number);
 
 /* The histories of either version in, of version 2 out: `rbbank migrate`. */
-int32_t rbbank_migrate(const uint8_t *input, size_t length, uint8_t *out, size_t capacity, size_t *written,
+int32_t rbbank_migrate(const char *input, size_t length, char *out, size_t capacity, size_t *written,
                        uint64_t *number);
 
 /* What rbbank_close_books returns, beside 0, RBBANK_BAD_LINE and RBBANK_NO_MEMORY. */
@@ -148,8 +174,8 @@ enum {
  * `*number` is with 0 and 1 how many lines were written, 1; with 2 and 7 the number of the line in its journal, from
  * 1; with 3 how many bytes `out` has to have; with 8 how many sites the configuration has; with 10 and 11 which of the
  * names it is, from 0; else 0. `*journal` is with 2, 5, 6 and 7 which journal it is, from 0; else 0. */
-int32_t rbbank_close_books(uint8_t sites, const uint8_t *names, size_t names_length, const uint8_t *journals,
-                           size_t journals_length, const size_t *lengths, size_t count, uint8_t *out,
+int32_t rbbank_close_books(uint8_t sites, const char *names, size_t names_length, const char *journals,
+                           size_t journals_length, const size_t *lengths, size_t count, char *out,
                            size_t capacity, size_t *written, uint64_t *number, uint64_t *journal);
 
 #ifdef __cplusplus

@@ -25,7 +25,7 @@ static const char *const EVENTS[] = {
 static const char ENTRY[] = "{\"event\":{\"deposit\":[\"ann\",500]},"
                             "\"reply\":{\"kind\":\"deposit\",\"name\":\"B0.1\"},\"site\":0}";
 #define EACH(list, i) for (size_t i = 0; i < sizeof(list) / sizeof *(list); i++)
-#define BYTES(text) (const uint8_t *)(text), strlen(text)
+#define TEXT(text) (text), strlen(text)
 
 static long left = -1; /* allocations until one is refused; none is while it is below 0 */
 static int refused;
@@ -59,34 +59,56 @@ static int fits(int32_t status, const void *handle, int was_open) {
 
 static int a_bank(void) {
     struct rbbank bank = {0};
-    uint8_t out[64];
-    int32_t status = rbbank_open(&bank, BYTES(CONFIG));
+    char out[64];
+    int32_t status = rbbank_open(&bank, TEXT(CONFIG));
     int fine = fits(status, bank.at, 1);
     EACH(COMMANDS, i) {
         int was_open = bank.at != NULL;
-        status = rbbank_answer(&bank, BYTES(COMMANDS[i]));
+        status = rbbank_answer(&bank, TEXT(COMMANDS[i]));
         fine = fits(status, bank.at, was_open) && fine;
-        fine = (rbbank_reply(&bank, 0, out, sizeof out) > 0) == (bank.at != NULL) && fine;
+        fine = (rbbank_reply(&bank, out, sizeof out) > 0) == (bank.at != NULL) && fine;
     }
     rbbank_close(&bank);
     return fine;
 }
 
+/* Whether the first message is given, or memory ran out, and the site is as it was. */
+static int a_send(struct rbbank_site *site) {
+    char out[400];
+    size_t length;
+    uint8_t to;
+    void *before = site->at;
+    int32_t status = rbbank_site_send(site, 0, out, sizeof out, &length, &to);
+    int fine = site->at == before && (status == RBBANK_OK) == (length > 0);
+    if (before == NULL)
+        return fine && status == RBBANK_NONE;
+    return fine && (status == RBBANK_OK || (status == RBBANK_NO_MEMORY && refused));
+}
+
+/* Whether a line's fault is said, or memory ran out. */
+static int an_error(void) {
+    char out[100];
+    size_t column, length = rbbank_error(TEXT("{\"deposit\":[\"ann\",}"), out, sizeof out, &column);
+    return length > 0 ? column > 0 : refused;
+}
+
 static int a_site(void) {
     struct rbbank_site site = {0};
-    uint8_t out[64];
-    int32_t status = rbbank_site_open(&site, 0, BYTES(CONFIG));
+    char out[64];
+    int32_t status = rbbank_site_open(&site, 0, TEXT(CONFIG));
     int fine = fits(status, site.at, 1);
     EACH(EVENTS, i) {
         int was_open = site.at != NULL;
-        status = rbbank_site_answer(&site, BYTES(EVENTS[i]));
+        status = rbbank_site_answer(&site, TEXT(EVENTS[i]));
         fine = fits(status, site.at, was_open) && fine;
-        fine = (rbbank_site_entries(&site, 0, out, sizeof out) > 0) == (site.at != NULL) && fine;
+        fine = (rbbank_site_entries(&site, out, sizeof out) > 0) == (site.at != NULL) && fine;
+        fine = (i != 0 || a_send(&site)) && fine;
     }
-    status = rbbank_site_open(&site, 0, BYTES(CONFIG));
+    fine = an_error() && fine;
+    status = rbbank_site_open(&site, 0, TEXT(CONFIG));
     fine = fits(status, site.at, 1) && fine;
     int was_open = site.at != NULL;
-    status = rbbank_site_replay(&site, BYTES(ENTRY));
+    status = rbbank_site_replay(&site, TEXT(ENTRY));
     fine = fits(status, site.at, was_open) && fine;
     rbbank_site_close(&site);
     return fine;
@@ -94,17 +116,17 @@ static int a_site(void) {
 
 static int whole_runs(void) {
     char lines[1000];
-    uint8_t out[4000];
+    char out[4000];
     size_t written = 0, length = (size_t)snprintf(lines, sizeof lines, "%s\n", CONFIG);
     uint64_t number;
     EACH(COMMANDS, i)
         length += (size_t)snprintf(lines + length, sizeof lines - length, "%s\n", COMMANDS[i]);
-    int32_t status = rbbank_script((uint8_t *)lines, length, out, sizeof out, &written, &number);
+    int32_t status = rbbank_script(lines, length, out, sizeof out, &written, &number);
     int fine = status == 0 ? number == sizeof COMMANDS / sizeof *COMMANDS : status == 4 && refused;
     length = (size_t)snprintf(lines, sizeof lines, "%s\n%s\n", CONFIG, ENTRY);
-    status = rbbank_audit((uint8_t *)lines, length, out, sizeof out, &written, &number);
+    status = rbbank_audit(lines, length, out, sizeof out, &written, &number);
     fine = (status == 0 ? number == 1 : status == 4 && refused) && fine;
-    status = rbbank_migrate((uint8_t *)lines, length, out, sizeof out, &written, &number);
+    status = rbbank_migrate(lines, length, out, sizeof out, &written, &number);
     return (status == 0 ? number == 2 : status == 4 && refused) && fine;
 }
 
@@ -115,10 +137,10 @@ static const char HEAD[] = "{\"accounts\":[[\"ann\",900]],\"blue\":1000000,\"epo
 static int closed_books(void) {
     static char journals[2 * sizeof HEAD];
     static const size_t lengths[] = {sizeof HEAD - 1, sizeof HEAD - 1};
-    uint8_t out[1000];
+    char out[1000];
     size_t written, length = (size_t)snprintf(journals, sizeof journals, "%s%s", HEAD, HEAD);
     uint64_t number, journal;
-    int32_t status = rbbank_close_books(3, BYTES("eve\nzed\n"), (uint8_t *)journals, length, lengths, 2, out,
+    int32_t status = rbbank_close_books(3, TEXT("eve\nzed\n"), journals, length, lengths, 2, out,
                                         sizeof out, &written, &number, &journal);
     return status == 0 ? written > 0 && number == 1 : status == 4 && written == 0 && number == 0 && refused;
 }

@@ -17,7 +17,7 @@
 #include <string.h>
 
 struct text {
-    uint8_t *bytes;
+    char *bytes;
     size_t length;
 };
 
@@ -63,7 +63,7 @@ static int is_blank(struct text line) {
 
 static int next_line(struct text all, struct line *line) {
     while (line->rest < all.length) {
-        uint8_t *at = all.bytes + line->rest, *end = memchr(at, '\n', all.length - line->rest);
+        char *at = all.bytes + line->rest, *end = memchr(at, '\n', all.length - line->rest);
         size_t length = end == NULL ? all.length - line->rest : (size_t)(end - at);
         line->text = (struct text){at, length};
         line->rest += length + 1;
@@ -74,13 +74,13 @@ static int next_line(struct text all, struct line *line) {
     return 0;
 }
 
-typedef int32_t running(const uint8_t *, size_t, uint8_t *, size_t, size_t *, uint64_t *);
+typedef int32_t running(const char *, size_t, char *, size_t, size_t *, uint64_t *);
 
 /* A whole run, with a larger output where the first is too short. */
 static int whole(running *call, struct text all) {
     size_t capacity = all.length, written;
     uint64_t number;
-    uint8_t *out = larger(NULL, capacity + 1);
+    char *out = larger(NULL, capacity + 1);
     int32_t status = call(all.bytes, all.length, out, capacity, &written, &number);
     if (status == 3) {
         capacity = (size_t)number;
@@ -94,13 +94,12 @@ static int whole(running *call, struct text all) {
     return status;
 }
 
+/* Prints a reply, by a buffer of its length. */
 static void print_reply(struct rbbank *bank) {
-    uint8_t part[100];
-    size_t from = 0, n;
-    while ((n = rbbank_reply(bank, from, part, sizeof part)) > 0) {
-        fwrite(part, 1, n, stdout);
-        from += n;
-    }
+    size_t length = rbbank_reply(bank, NULL, 0);
+    char *reply = larger(NULL, length + 1);
+    fwrite(reply, 1, rbbank_reply(bank, reply, length), stdout);
+    free(reply);
 }
 
 static void first_line(struct text all, struct line *line) {
@@ -133,41 +132,34 @@ static int bank(struct text all, int odd) {
 static int calls(struct text all, long count) {
     struct line line = {0};
     struct rbbank bank = {0};
-    uint8_t reply[4096];
+    char reply[4096];
     first_line(all, &line);
     int32_t status = rbbank_open(&bank, line.text.bytes, line.text.length);
     if (!next_line(all, &line))
         stop("no command", 0, "");
     for (long i = 0; i < count && status == RBBANK_OK; i++) {
         status = rbbank_answer(&bank, line.text.bytes, line.text.length);
-        if (rbbank_reply(&bank, 0, reply, sizeof reply) == 0)
+        if (rbbank_reply(&bank, reply, sizeof reply) == 0)
             status = 1;
     }
     rbbank_close(&bank);
     return status;
 }
 
-static void print_site(struct rbbank_site *site) {
-    uint8_t part[100];
-    size_t from = 0, n;
-    while ((n = rbbank_site_reply(site, from, part, sizeof part)) > 0) {
-        fwrite(part, 1, n, stdout);
-        from += n;
-    }
-}
-
-typedef size_t copying(struct rbbank_site *, size_t, uint8_t *, size_t);
+typedef size_t copying(struct rbbank_site *, char *, size_t);
 
 /* Adds all that a copying call has to a text. */
 static struct text with(struct text text, copying *call, struct rbbank_site *site) {
-    size_t from = 0, n, size = 100;
-    do {
-        text.bytes = larger(text.bytes, text.length + size);
-        n = call(site, from, text.bytes + text.length, size);
-        text.length += n;
-        from += n;
-    } while (n == size);
+    size_t length = call(site, NULL, 0);
+    text.bytes = larger(text.bytes, text.length + length + 1);
+    text.length += call(site, text.bytes + text.length, length);
     return text;
+}
+
+static void print_site(struct rbbank_site *site) {
+    struct text answer = with((struct text){NULL, 0}, rbbank_site_reply, site);
+    fwrite(answer.bytes, 1, answer.length, stdout);
+    free(answer.bytes);
 }
 
 static struct text entries_of(struct rbbank_site *site) {
@@ -185,7 +177,7 @@ static void keep_entries(struct rbbank_site *site, FILE *journal) {
 static size_t whole_lines(struct text journal) {
     size_t end = 0;
     while (end < journal.length && journal.bytes[end] == '{') {
-        uint8_t *at = memchr(journal.bytes + end, '\n', journal.length - end);
+        char *at = memchr(journal.bytes + end, '\n', journal.length - end);
         if (at == NULL)
             break;
         end = (size_t)(at - journal.bytes) + 1;

@@ -1,6 +1,7 @@
 /* Each call once, and each status that a caller can bring about. Prints what is wrong; ends in 0 where nothing is. */
 #include "rbbank.h"
 
+#include <pthread.h>
 #include <stdio.h>
 #include <stdlib.h>
 #include <string.h>
@@ -11,54 +12,58 @@ static const char MADE[] = "{\"kind\":\"deposit\",\"name\":\"B0.1\"}\n";
 static const char EVENT[] = "{\"deposit\":[\"ann\",500]}";
 static int wrong;
 
-#define BYTES(text) (const uint8_t *)(text), strlen(text)
+#define TEXT(text) (text), strlen(text)
 #define WANTED(fact) ((fact) ? (void)0 : (wrong++, (void)printf("test.c:%d: not so: %s\n", __LINE__, #fact)))
 
-typedef size_t copying(void *handle, size_t from, uint8_t *out, size_t length);
+typedef size_t copying(void *handle, char *out, size_t capacity);
 
-static size_t bank_reply(void *bank, size_t from, uint8_t *out, size_t length) {
-    return rbbank_reply(bank, from, out, length);
+static size_t version(void *none, char *out, size_t capacity) {
+    (void)none;
+    return rbbank_version(out, capacity);
 }
 
-static size_t site_reply(void *site, size_t from, uint8_t *out, size_t length) {
-    return rbbank_site_reply(site, from, out, length);
+static size_t bank_reply(void *bank, char *out, size_t capacity) {
+    return rbbank_reply(bank, out, capacity);
 }
 
-static size_t site_entries(void *site, size_t from, uint8_t *out, size_t length) {
-    return rbbank_site_entries(site, from, out, length);
+static size_t site_reply(void *site, char *out, size_t capacity) {
+    return rbbank_site_reply(site, out, capacity);
 }
 
-/* Whether what is kept is this text, by buffers of each size up to its length and one more. */
+static size_t site_entries(void *site, char *out, size_t capacity) {
+    return rbbank_site_entries(site, out, capacity);
+}
+
+/* Whether what is kept is this text, by buffers of each size up to its length and one more: each gets as much as fits,
+ * and no byte behind that changes. */
 static int keeps(copying *call, void *handle, const char *text) {
     size_t length = strlen(text);
-    for (size_t size = 1; size <= length + 1; size++) {
-        uint8_t *part = malloc(size);
-        size_t from = 0, n;
-        int same = 1;
-        do {
-            n = call(handle, from, part, size);
-            same = same && n <= size && from + n <= length && memcmp(part, text + from, n) == 0;
-            from += n;
-        } while (same && n == size);
-        free(part);
-        if (!same || from != length)
+    for (size_t size = 0; size <= length + 1; size++) {
+        char *out = malloc(size + 1);
+        memset(out, 'z', size + 1);
+        size_t n = call(handle, out, size), fits = length < size ? length : size;
+        int same = n == length && memcmp(out, text, fits) == 0 && out[fits] == 'z' && out[size] == 'z';
+        free(out);
+        if (!same)
             return 0;
     }
-    return call(handle, 0, NULL, 0) == 0 && call(handle, length, (uint8_t[1]){0}, 1) == 0 &&
-           call(handle, SIZE_MAX, (uint8_t[1]){0}, 1) == 0;
+    return call(handle, NULL, 0) == length;
 }
 
 /* A handle of nothing: each call answers. */
 static void of_nothing(void) {
     struct rbbank bank = {0};
     struct rbbank_site site = {0};
-    uint8_t out[4] = "abc";
-    WANTED(rbbank_answer(&bank, BYTES(DEPOSIT)) == RBBANK_NONE);
-    WANTED(rbbank_reply(&bank, 0, out, sizeof out) == 0);
-    WANTED(rbbank_site_answer(&site, BYTES(EVENT)) == RBBANK_NONE);
-    WANTED(rbbank_site_replay(&site, BYTES(EVENT)) == RBBANK_NONE);
-    WANTED(rbbank_site_reply(&site, 0, out, sizeof out) == 0);
-    WANTED(rbbank_site_entries(&site, 0, out, sizeof out) == 0);
+    char out[4] = "abc";
+    size_t length = 9;
+    uint8_t to = 9;
+    WANTED(rbbank_answer(&bank, TEXT(DEPOSIT)) == RBBANK_NONE);
+    WANTED(rbbank_reply(&bank, out, sizeof out) == 0);
+    WANTED(rbbank_site_answer(&site, TEXT(EVENT)) == RBBANK_NONE);
+    WANTED(rbbank_site_replay(&site, TEXT(EVENT)) == RBBANK_NONE);
+    WANTED(rbbank_site_reply(&site, out, sizeof out) == 0);
+    WANTED(rbbank_site_entries(&site, out, sizeof out) == 0);
+    WANTED(rbbank_site_send(&site, 0, out, sizeof out, &length, &to) == RBBANK_NONE && length == 0);
     WANTED(memcmp(out, "abc", 4) == 0);
     rbbank_close(&bank);
     rbbank_site_close(&site);
@@ -67,27 +72,27 @@ static void of_nothing(void) {
 
 static void a_bank(void) {
     struct rbbank bank = {0}, other = {0};
-    WANTED(rbbank_open(&bank, BYTES(DEPOSIT)) == RBBANK_BAD_LINE && bank.at == NULL);
+    WANTED(rbbank_open(&bank, TEXT(DEPOSIT)) == RBBANK_BAD_LINE && bank.at == NULL);
     WANTED(rbbank_open(&bank, NULL, 0) == RBBANK_BAD_LINE);
-    WANTED(rbbank_open(&bank, BYTES(CONFIG)) == RBBANK_OK && bank.at != NULL);
-    WANTED(rbbank_open(&other, BYTES(CONFIG)) == RBBANK_OK);
+    WANTED(rbbank_open(&bank, TEXT(CONFIG)) == RBBANK_OK && bank.at != NULL);
+    WANTED(rbbank_open(&other, TEXT(CONFIG)) == RBBANK_OK);
     WANTED(keeps(bank_reply, &bank, ""));
-    WANTED(rbbank_answer(&bank, BYTES(DEPOSIT)) == RBBANK_OK && keeps(bank_reply, &bank, MADE));
-    WANTED(rbbank_answer(&bank, BYTES("{\"balance\":\"ann\"}")) == RBBANK_BAD_LINE);
-    WANTED(rbbank_answer(&bank, BYTES("\xff")) == RBBANK_BAD_LINE && keeps(bank_reply, &bank, MADE));
-    WANTED(rbbank_answer(&bank, BYTES("{\"balance\":\"ann\",\"site\":0}")) == RBBANK_OK);
+    WANTED(rbbank_answer(&bank, TEXT(DEPOSIT)) == RBBANK_OK && keeps(bank_reply, &bank, MADE));
+    WANTED(rbbank_answer(&bank, TEXT("{\"balance\":\"ann\"}")) == RBBANK_BAD_LINE);
+    WANTED(rbbank_answer(&bank, TEXT("\xff")) == RBBANK_BAD_LINE && keeps(bank_reply, &bank, MADE));
+    WANTED(rbbank_answer(&bank, TEXT("{\"balance\":\"ann\",\"site\":0}")) == RBBANK_OK);
     WANTED(keeps(bank_reply, &bank, "{\"balance\":500}\n"));
-    WANTED(rbbank_answer(&other, BYTES("{\"balance\":\"ann\",\"site\":0}")) == RBBANK_OK);
+    WANTED(rbbank_answer(&other, TEXT("{\"balance\":\"ann\",\"site\":0}")) == RBBANK_OK);
     WANTED(keeps(bank_reply, &other, "{\"balance\":0}\n"));
     /* A second opening ends the first bank. */
-    WANTED(rbbank_open(&bank, BYTES(CONFIG)) == RBBANK_OK);
-    WANTED(rbbank_answer(&bank, BYTES(DEPOSIT)) == RBBANK_OK && keeps(bank_reply, &bank, MADE));
-    WANTED(rbbank_open(&other, BYTES("{}")) == RBBANK_BAD_LINE && other.at == NULL);
-    WANTED(rbbank_answer(&other, BYTES(DEPOSIT)) == RBBANK_NONE);
+    WANTED(rbbank_open(&bank, TEXT(CONFIG)) == RBBANK_OK);
+    WANTED(rbbank_answer(&bank, TEXT(DEPOSIT)) == RBBANK_OK && keeps(bank_reply, &bank, MADE));
+    WANTED(rbbank_open(&other, TEXT("{}")) == RBBANK_BAD_LINE && other.at == NULL);
+    WANTED(rbbank_answer(&other, TEXT(DEPOSIT)) == RBBANK_NONE);
     rbbank_close(&bank);
     rbbank_close(&bank);
     rbbank_close(&other);
-    WANTED(bank.at == NULL && rbbank_answer(&bank, BYTES(DEPOSIT)) == RBBANK_NONE);
+    WANTED(bank.at == NULL && rbbank_answer(&bank, TEXT(DEPOSIT)) == RBBANK_NONE);
 }
 
 #define LIMITS "\"blue\":1000000,\"epoch\":4000000000,\"history\":100000000,\"inbox\":4096,\"red\":1000000,"
@@ -100,50 +105,153 @@ static void a_bank(void) {
 static void a_site(void) {
     struct rbbank_site site = {0};
     char answer[600], entry[200];
-    WANTED(rbbank_site_open(&site, 0, BYTES("{}")) == RBBANK_BAD_LINE);
-    WANTED(rbbank_site_open(&site, 2, BYTES(CONFIG)) == RBBANK_REFUSED && site.at == NULL);
-    WANTED(rbbank_site_open(&site, 255, BYTES(CONFIG)) == RBBANK_REFUSED);
-    WANTED(rbbank_site_open(&site, 0, BYTES(CONFIG)) == RBBANK_OK);
+    WANTED(rbbank_site_open(&site, 0, TEXT("{}")) == RBBANK_BAD_LINE);
+    WANTED(rbbank_site_open(&site, 2, TEXT(CONFIG)) == RBBANK_REFUSED && site.at == NULL);
+    WANTED(rbbank_site_open(&site, 255, TEXT(CONFIG)) == RBBANK_REFUSED);
+    WANTED(rbbank_site_open(&site, 0, TEXT(CONFIG)) == RBBANK_OK);
     WANTED(keeps(site_entries, &site, HEAD) && keeps(site_reply, &site, ""));
-    WANTED(rbbank_site_answer(&site, BYTES(EVENT)) == RBBANK_OK);
+    WANTED(rbbank_site_answer(&site, TEXT(EVENT)) == RBBANK_OK);
     snprintf(answer, sizeof answer, "{\"reply\":{\"kind\":\"deposit\",\"name\":\"B0.1\"},%s,\"then\":[]}\n", SENT);
     snprintf(entry, sizeof entry, "%s\n", ENTRY);
     WANTED(keeps(site_reply, &site, answer) && keeps(site_entries, &site, entry));
-    WANTED(rbbank_site_answer(&site, BYTES(DEPOSIT)) == RBBANK_BAD_LINE);
+    WANTED(rbbank_site_answer(&site, TEXT(DEPOSIT)) == RBBANK_BAD_LINE);
     WANTED(keeps(site_reply, &site, answer) && keeps(site_entries, &site, entry));
     rbbank_site_close(&site);
     rbbank_site_close(&site);
     WANTED(site.at == NULL);
 }
 
+/* Whether a site's message of this index is this text for this site, by buffers of each size. */
+static int sends(struct rbbank_site *site, size_t index, const char *text, uint8_t wanted) {
+    size_t length = strlen(text), found;
+    uint8_t to;
+    for (size_t size = 0; size <= length + 1; size++) {
+        char *out = malloc(size + 1);
+        out[size] = 'z';
+        int32_t status = rbbank_site_send(site, index, out, size, &found, &to);
+        int same = status == RBBANK_OK && found == length && to == wanted && out[size] == 'z' &&
+                   memcmp(out, text, length < size ? length : size) == 0;
+        free(out);
+        if (!same)
+            return 0;
+    }
+    return 1;
+}
+
+/* Whether a site's answer has just so many messages. */
+static int sends_in_all(struct rbbank_site *site, size_t count) {
+    size_t length;
+    uint8_t to;
+    char out[2] = "a";
+    for (size_t i = 0; i < count; i++)
+        if (rbbank_site_send(site, i, NULL, 0, &length, &to) != RBBANK_OK || length == 0)
+            return 0;
+    return rbbank_site_send(site, count, out, 2, &length, &to) == RBBANK_REFUSED && length == 0 && out[0] == 'a' &&
+           rbbank_site_send(site, SIZE_MAX, out, 2, &length, &to) == RBBANK_REFUSED;
+}
+
+static void messages(void) {
+    struct rbbank_site site = {0}, other = {0};
+    char text[400];
+    size_t length;
+    uint8_t to;
+    WANTED(rbbank_site_open(&site, 0, TEXT(CONFIG)) == RBBANK_OK && sends_in_all(&site, 0));
+    WANTED(rbbank_site_open(&other, 1, TEXT(CONFIG)) == RBBANK_OK);
+    WANTED(rbbank_site_answer(&site, TEXT(EVENT)) == RBBANK_OK && sends_in_all(&site, 1));
+    WANTED(sends(&site, 0, SHADOW, RBBANK_EACH_OTHER_SITE));
+    /* A message is given on as it is. */
+    WANTED(rbbank_site_send(&site, 0, text, sizeof text, &length, &to) == RBBANK_OK);
+    WANTED(rbbank_site_answer(&other, text, length) == RBBANK_OK && sends_in_all(&other, 0));
+    static const char batch[] = "{\"batch\":[{\"deposit\":[\"ann\",1]},{\"deposit\":[\"ann\",2]}]}";
+    WANTED(rbbank_site_answer(&site, TEXT(batch)) == RBBANK_OK && sends_in_all(&site, 2));
+    WANTED(rbbank_site_answer(&site, TEXT("{\"balance\":\"ann\"}")) == RBBANK_OK && sends_in_all(&site, 0));
+    /* The token is for one site. */
+    WANTED(rbbank_site_answer(&site, TEXT("{\"pass\":1}")) == RBBANK_OK && sends_in_all(&site, 1));
+    WANTED(sends(&site, 0, "{\"token\":[1,1,0]}", 1));
+    /* Those of a resend, through all its lines. */
+    WANTED(rbbank_site_answer(&site, TEXT("{\"resend\":100}")) == RBBANK_OK && sends_in_all(&site, 4));
+    WANTED(sends(&site, 0, SHADOW, RBBANK_EACH_OTHER_SITE) && sends(&site, 3, "{\"token\":[1,1,0]}", 1));
+    rbbank_site_close(&site);
+    rbbank_site_close(&other);
+}
+
+/* Whether the fault of a line is this. */
+static int is_fault(const char *line, size_t length, const char *text, size_t wanted) {
+    size_t column = SIZE_MAX, all = strlen(text);
+    for (size_t size = 0; size <= all + 1; size++) {
+        char *out = malloc(size + 1);
+        out[size] = 'z';
+        size_t n = rbbank_error(line, length, out, size, &column);
+        int same = n == all && column == wanted && out[size] == 'z' && memcmp(out, text, all < size ? all : size) == 0;
+        free(out);
+        if (!same)
+            return 0;
+    }
+    return 1;
+}
+
+static void errors(void) {
+    WANTED(is_fault(TEXT("{\"deposit\":[\"ann\",500]"), "JSON that isn't whole", 22));
+    WANTED(is_fault(TEXT(""), "JSON that isn't whole", 0));
+    WANTED(is_fault(TEXT("{\"deposit\":[\"ann\" 500]}"), "not JSON", 19));
+    WANTED(is_fault(TEXT("deposit 500"), "not JSON", 1));
+    WANTED(is_fault(TEXT("{\"deposits\":[\"ann\",500]}"), "JSON, but no line that is taken here", 0));
+    WANTED(is_fault(TEXT("{\"\xff\":1}"), "not UTF-8", 0));
+    WANTED(is_fault(NULL, 0, "JSON that isn't whole", 0));
+}
+
+/* What another thread does with the handles that it is given: nothing else has them meanwhile. */
+static void *with_handles(void *given) {
+    struct rbbank_site *site = given;
+    WANTED(rbbank_site_answer(site, TEXT(EVENT)) == RBBANK_OK && sends_in_all(site, 1));
+    rbbank_site_close(&site[1]);
+    WANTED(rbbank_site_open(&site[1], 1, TEXT(CONFIG)) == RBBANK_OK);
+    return NULL;
+}
+
+/* Handles go to another thread and come back. */
+static void another_thread(void) {
+    struct rbbank_site sites[2] = {{0}, {0}};
+    pthread_t thread;
+    WANTED(rbbank_site_open(&sites[0], 0, TEXT(CONFIG)) == RBBANK_OK);
+    WANTED(rbbank_site_answer(&sites[0], TEXT(EVENT)) == RBBANK_OK);
+    WANTED(rbbank_site_open(&sites[1], 0, TEXT(CONFIG)) == RBBANK_OK);
+    WANTED(pthread_create(&thread, NULL, with_handles, sites) == 0 && pthread_join(thread, NULL) == 0);
+    WANTED(rbbank_site_answer(&sites[0], TEXT("{\"balance\":\"ann\"}")) == RBBANK_OK);
+    WANTED(keeps(site_reply, &sites[0], "{\"reply\":{\"balance\":1000},\"sends\":[],\"then\":[]}\n"));
+    WANTED(rbbank_site_answer(&sites[1], TEXT("{\"balance\":\"ann\"}")) == RBBANK_OK);
+    rbbank_site_close(&sites[0]);
+    rbbank_site_close(&sites[1]);
+}
+
 static void a_replay(void) {
     struct rbbank_site site = {0};
     char text[600];
-    WANTED(rbbank_site_open(&site, 0, BYTES(CONFIG)) == RBBANK_OK);
-    WANTED(rbbank_site_replay(&site, BYTES("{\"event\":{\"balance\":\"ann\"},\"reply\":{\"balance\":0},\"site\":1}"))
+    WANTED(rbbank_site_open(&site, 0, TEXT(CONFIG)) == RBBANK_OK);
+    WANTED(rbbank_site_replay(&site, TEXT("{\"event\":{\"balance\":\"ann\"},\"reply\":{\"balance\":0},\"site\":1}"))
            == RBBANK_BAD_LINE);
-    WANTED(rbbank_site_replay(&site, BYTES(ENTRY)) == RBBANK_OK);
+    WANTED(rbbank_site_replay(&site, TEXT(ENTRY)) == RBBANK_OK);
     snprintf(text, sizeof text, "{%s}\n", SENT);
     WANTED(keeps(site_reply, &site, text) && keeps(site_entries, &site, ""));
-    WANTED(rbbank_site_answer(&site, BYTES("{\"balance\":\"ann\"}")) == RBBANK_OK);
+    WANTED(rbbank_site_answer(&site, TEXT("{\"balance\":\"ann\"}")) == RBBANK_OK);
     WANTED(keeps(site_reply, &site, "{\"reply\":{\"balance\":500},\"sends\":[],\"then\":[]}\n"));
-    WANTED(rbbank_site_replay(&site, BYTES(ENTRY)) == RBBANK_REFUSED && site.at == NULL);
-    WANTED(rbbank_site_replay(&site, BYTES(ENTRY)) == RBBANK_NONE);
+    WANTED(rbbank_site_replay(&site, TEXT(ENTRY)) == RBBANK_REFUSED && site.at == NULL);
+    WANTED(rbbank_site_replay(&site, TEXT(ENTRY)) == RBBANK_NONE);
     rbbank_site_close(&site);
 }
 
-typedef int32_t running(const uint8_t *, size_t, uint8_t *, size_t, size_t *, uint64_t *);
+typedef int32_t running(const char *, size_t, char *, size_t, size_t *, uint64_t *);
 
 /* Whether a run gives this status and number, and this text, by a buffer of each size. One that is too short gets a
  * prefix, and the number is the length. */
 static int runs(running *call, const char *input, int32_t status, uint64_t number, const char *text) {
     size_t length = strlen(text);
     for (size_t size = 0; size <= length + 1; size++) {
-        uint8_t *out = malloc(size + 1);
+        char *out = malloc(size + 1);
         size_t written = SIZE_MAX;
         uint64_t found = UINT64_MAX;
         out[size] = 'z';
-        int32_t given = call(BYTES(input), out, size, &written, &found);
+        int32_t given = call(TEXT(input), out, size, &written, &found);
         int same = written <= size && memcmp(out, text, written) == 0 && out[size] == 'z';
         same = same && (size < length ? given == 3 && written == size && found == length
                                       : given == status && written == length && found == number);
@@ -174,7 +282,7 @@ static void whole_runs(void) {
 
 /* The texts one behind another, and their lengths, each in memory of just that size. */
 struct journals {
-    uint8_t *bytes;
+    char *bytes;
     size_t length, *lengths, count;
 };
 
@@ -196,11 +304,11 @@ struct found {
 };
 
 /* What closing the books finds, by a buffer of this size. */
-static struct found books(uint8_t sites, const char *names, struct journals all, uint8_t *out, size_t size,
+static struct found books(uint8_t sites, const char *names, struct journals all, char *out, size_t size,
                           size_t *written) {
-    struct found found = {0, UINT64_MAX, UINT64_MAX, (char *)out};
+    struct found found = {0, UINT64_MAX, UINT64_MAX, out};
     *written = SIZE_MAX;
-    found.status = rbbank_close_books(sites, BYTES(names), all.bytes, all.length, all.lengths, all.count, out, size,
+    found.status = rbbank_close_books(sites, TEXT(names), all.bytes, all.length, all.lengths, all.count, out, size,
                                       written, &found.number, &found.journal);
     return found;
 }
@@ -211,7 +319,7 @@ static int closes(uint8_t sites, const char *names, struct journals all, struct 
     size_t length = strlen(wanted.text), written;
     for (size_t size = 0; size <= length + 1; size++) {
         struct found fits = size < length ? (struct found){RBBANK_TOO_SHORT, length, 0, wanted.text} : wanted;
-        uint8_t *out = malloc(size + 1);
+        char *out = malloc(size + 1);
         out[size] = 'z';
         struct found found = books(sites, names, all, out, size, &written);
         int same = found.status == fits.status && found.number == fits.number && found.journal == fits.journal &&
@@ -286,9 +394,13 @@ static void books_not_closed(void) {
 }
 
 int main(void) {
+    WANTED(keeps(version, NULL, RBBANK_WANTED_VERSION));
     of_nothing();
     a_bank();
     a_site();
+    messages();
+    errors();
+    another_thread();
     a_replay();
     whole_runs();
     closed_books();

@@ -2,6 +2,9 @@
 import copy
 import doctest
 import json
+import os
+import subprocess
+import sys
 import threading
 import unittest
 
@@ -73,18 +76,74 @@ class Banks(unittest.TestCase):
                 thread.join()
             self.assertEqual(sorted(names), sorted(f"B0.{n}" for n in range(1, 2001)))
 
+    def test_a_handle_goes_to_another_thread(self):
+        bank, site = rbbank.Bank(CONFIG), rbbank.Site(0, CONFIG)
+        site.answer(EVENT)
+
+        def there():
+            bank.answer(DEPOSIT)
+            site.answer(EVENT)
+            rbbank.Site(1, CONFIG).close()
+
+        thread = threading.Thread(target=there)
+        thread.start()
+        thread.join()
+        self.assertEqual(bank.reply(), MADE)
+        self.assertEqual(json.loads(site.answer('{"balance":"ann"}'))["reply"], {"balance": 1000})
+        closing = threading.Thread(target=bank.close)
+        closing.start()
+        closing.join()
+        self.assertRaises(rbbank.Closed, bank.answer, DEPOSIT)
+        self.assertEqual(bank.reply(), "")
+
+    def test_why_a_line_is_not_taken(self):
+        with rbbank.Bank(CONFIG) as bank:
+            for line, text, column in [
+                ('{"deposit":["ann",500]', "column 22: JSON that isn't whole", 22),
+                ("deposit 500", "column 1: not JSON", 1),
+                ("{}", "JSON, but no line that is taken here", None),
+                (b"\xff", "not UTF-8", None),
+            ]:
+                with self.assertRaises(rbbank.BadLine) as bad:
+                    bank.answer(line)
+                self.assertEqual((str(bad.exception), bad.exception.column), (text, column))
+        self.assertRaisesRegex(rbbank.BadLine, "column 2: not JSON", rbbank.Bank, "{]")
+
+    def test_version(self):
+        self.assertRegex(rbbank.version(), r"^\d+\.\d+\.\d+$")
+
+    def test_no_library(self):
+        code = "import rbbank; rbbank.version()"
+        found = subprocess.run([sys.executable, "-c", code], env=os.environ | {"RBBANK_LIB": "/nowhere"},
+                               capture_output=True, text=True)
+        last = found.stderr.splitlines()[-1]
+        self.assertRegex(last, r"^OSError: rbbank finds no library: .*/nowhere/librbbank.so.*make bindings")
+
 
 class Sites(unittest.TestCase):
 
     def test_a_message_comes(self):
         with rbbank.Site(0, CONFIG) as home, rbbank.Site(1, CONFIG) as other:
-            message = json.loads(home.answer(EVENT))["sends"][0]
-            taken = other.answer(json.dumps(message, separators=(",", ":")))
+            answer = home.answer(EVENT)
+            (message,) = home.sends()
+            self.assertEqual((message.to, f'"sends":[{message.line}]' in answer), (None, True))
+            taken = other.answer(message.line)
             self.assertEqual(taken, '{"reply":{"held":"B0.1"},"sends":[],"then":[{"applied":"B0.1"}]}')
             self.assertEqual(other.entries().count(b"\n"), 2)
             self.assertRaises(rbbank.BadLine, other.answer, DEPOSIT)
             other.answer('{"balance":"ann"}')
             self.assertEqual(other.entries(), b'{"event":{"balance":"ann"},"reply":{"balance":500},"site":1}\n')
+
+    def test_each_message_of_an_answer(self):
+        with rbbank.Site(0, CONFIG) as site:
+            self.assertEqual(site.sends(), [])
+            site.answer('{"batch":[{"deposit":["ann",1]},{"deposit":["ann",2]}]}')
+            self.assertEqual([json.loads(line)["shadow"]["name"] for line, _ in site.sends()], ["B0.1", "B0.2"])
+            site.answer('{"pass":1}')
+            self.assertEqual(site.sends(), [('{"token":[1,1,0]}', 1)])
+            site.answer('{"resend":9}')
+            self.assertEqual([to for _, to in site.sends()], [None, None, 1])
+        self.assertRaises(rbbank.Closed, site.sends)
 
     def test_a_journal_is_replayed(self):
         with rbbank.Site(0, CONFIG) as site:

@@ -164,12 +164,11 @@ fn site(words: &[String], input: &str) -> Result<(), Stop> {
     };
     keep(&kept);
     for (number, line) in lines {
-        match site.answer(line).map(str::to_owned) {
-            Ok(answer) => {
-                keep(site.entries());
-                write(&format!("{answer}\n"));
-            }
-            Err(_) => write(&format!("{{\"bad\":\"line\",\"line\":{number}}}\n")),
+        if site.answer(line).is_ok() {
+            keep(site.entries());
+            write(&format!("{}\n", site.reply()));
+        } else {
+            write(&format!("{{\"bad\":\"line\",\"line\":{number}}}\n"));
         }
     }
     keep(" ");

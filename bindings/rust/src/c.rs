@@ -7,6 +7,9 @@ pub struct Handle {
     at: *mut c_void,
 }
 
+/// In place of a site's number: each other site.
+pub const EACH_OTHER_SITE: u8 = 255;
+
 impl Handle {
     /// A handle of nothing.
     pub const NONE: Handle = Handle {
@@ -15,19 +18,30 @@ impl Handle {
 }
 
 extern "C" {
+    pub fn rbbank_version(out: *mut u8, capacity: usize) -> usize;
+    pub fn rbbank_error(
+        line: *const u8,
+        length: usize,
+        out: *mut u8,
+        capacity: usize,
+        column: *mut usize,
+    ) -> usize;
     pub fn rbbank_open(bank: *mut Handle, config: *const u8, length: usize) -> i32;
     pub fn rbbank_answer(bank: *mut Handle, line: *const u8, length: usize) -> i32;
-    pub fn rbbank_reply(bank: *mut Handle, from: usize, out: *mut u8, length: usize) -> usize;
+    pub fn rbbank_reply(bank: *mut Handle, out: *mut u8, capacity: usize) -> usize;
     pub fn rbbank_close(bank: *mut Handle);
     pub fn rbbank_site_open(site: *mut Handle, me: u8, config: *const u8, length: usize) -> i32;
     pub fn rbbank_site_answer(site: *mut Handle, line: *const u8, length: usize) -> i32;
-    pub fn rbbank_site_reply(site: *mut Handle, from: usize, out: *mut u8, length: usize) -> usize;
-    pub fn rbbank_site_entries(
+    pub fn rbbank_site_reply(site: *mut Handle, out: *mut u8, capacity: usize) -> usize;
+    pub fn rbbank_site_entries(site: *mut Handle, out: *mut u8, capacity: usize) -> usize;
+    pub fn rbbank_site_send(
         site: *mut Handle,
-        from: usize,
+        index: usize,
         out: *mut u8,
-        length: usize,
-    ) -> usize;
+        capacity: usize,
+        length: *mut usize,
+        to: &mut u8,
+    ) -> i32;
     pub fn rbbank_site_replay(site: *mut Handle, line: *const u8, length: usize) -> i32;
     pub fn rbbank_site_close(site: *mut Handle);
     pub fn rbbank_script(

@@ -1,24 +1,20 @@
 //! Banks and sites.
 use crate::c::{self, Handle};
 use crate::{AnswerError, OpenError, ReplayError};
+use std::fmt;
 
-/// A call that copies what is kept, from a place on.
-type Copying = unsafe extern "C" fn(*mut Handle, usize, *mut u8, usize) -> usize;
+/// A call that copies what is kept, and gives its length.
+type Copying = unsafe extern "C" fn(*mut Handle, *mut u8, usize) -> usize;
 
 /// All that a copying call has, in `text`, which only grows.
 fn copy<'a>(handle: &mut Handle, call: Copying, text: &'a mut Vec<u8>) -> &'a str {
-    let mut length = 0;
     loop {
-        if length == text.len() {
-            text.resize(2 * length.max(128), 0);
-        }
-        let rest = &mut text[length..];
-        // SAFETY: the handle is a zeroed or an opened one, as only calls of the library write it; `rest` is that long.
-        let count = unsafe { call(handle, length, rest.as_mut_ptr(), rest.len()) };
-        length += count;
-        if count < rest.len() {
+        // SAFETY: the handle is a zeroed or an opened one, as only calls of the library write it; `text` is that long.
+        let length = unsafe { call(handle, text.as_mut_ptr(), text.len()) };
+        if length <= text.len() {
             return std::str::from_utf8(&text[..length]).expect("the library writes ASCII");
         }
+        text.resize(length.next_power_of_two(), 0);
     }
 }
 
@@ -55,9 +51,36 @@ fn replayed(status: i32) -> Result<(), ReplayError> {
 }
 
 /// All sites of a configuration, with the messages between them. Dropping it ends it.
+///
+/// It may go to another thread, and is used by one at a time: it is `Send`, and not `Sync`.
+///
+/// ```
+/// let mut bank = rbbank::Bank::open(r#"{"accounts":[["ann",0]],"sites":2,"version":1}"#)?;
+/// let bank = std::thread::spawn(move || {
+///     bank.answer(r#"{"deposit":["ann",500],"site":0}"#).map(str::to_owned).map(|_| bank)
+/// });
+/// let mut bank = bank.join().expect("it doesn't panic")?;
+/// assert_eq!(bank.answer(r#"{"balance":"ann","site":0}"#)?, r#"{"balance":500}"#);
+/// # Ok::<(), Box<dyn std::error::Error>>(())
+/// ```
+///
+/// ```compile_fail
+/// fn shared<T: Sync>() {}
+/// shared::<rbbank::Bank>();
+/// ```
 pub struct Bank {
     handle: Handle,
     text: Vec<u8>,
+}
+
+// SAFETY: the library keeps nothing of a thread's: its memory is the C library's, which any thread may give back, and
+// two handles share nothing. Each call on a handle takes `&mut self`, so one thread at a time uses it.
+unsafe impl Send for Bank {}
+
+impl fmt::Debug for Bank {
+    fn fmt(&self, f: &mut fmt::Formatter<'_>) -> fmt::Result {
+        f.debug_struct("Bank").finish_non_exhaustive()
+    }
 }
 
 impl Bank {
@@ -90,11 +113,21 @@ impl Bank {
     pub fn answer(&mut self, command: &str) -> Result<&str, AnswerError> {
         // SAFETY: the handle was opened, and the line is that long.
         answered(unsafe { c::rbbank_answer(&mut self.handle, command.as_ptr(), command.len()) })?;
-        Ok(without_line_feed(copy(
-            &mut self.handle,
-            c::rbbank_reply,
-            &mut self.text,
-        )))
+        Ok(self.reply())
+    }
+
+    /// The same, as a text of one's own.
+    ///
+    /// # Errors
+    ///
+    /// As those of [`answer`](Bank::answer).
+    pub fn answer_owned(&mut self, command: &str) -> Result<String, AnswerError> {
+        self.answer(command).map(str::to_owned)
+    }
+
+    /// The last answer once more; empty if there was none, or the bank ended.
+    pub fn reply(&mut self) -> &str {
+        without_line_feed(copy(&mut self.handle, c::rbbank_reply, &mut self.text))
     }
 }
 
@@ -117,9 +150,12 @@ impl Drop for Bank {
 /// let configuration = r#"{"accounts":[["ann",0]],"sites":2,"version":1}"#;
 /// let mut site = Site::open(0, configuration)?;
 /// let mut journal = site.entries().to_owned();
-/// let answer = site.answer(r#"{"deposit":["ann",500]}"#)?.to_owned();
+/// site.answer(r#"{"deposit":["ann",500]}"#)?;
 /// journal += site.entries(); // and only now is the answer sent
-/// assert!(answer.starts_with(r#"{"reply":{"kind":"deposit","name":"B0.1"},"sends":[{"shadow":{"#));
+/// assert!(site.reply().starts_with(r#"{"reply":{"kind":"deposit","name":"B0.1"},"sends":[{"shadow":{"#));
+/// let message = site.sends()?.remove(0);
+/// assert_eq!(message.to, None); // each other site
+/// Site::open(1, configuration)?.answer(&message.line)?;
 ///
 /// let mut again = Site::open(0, configuration)?; // after a crash
 /// assert!(journal.starts_with(again.entries()), "another bank's journal");
@@ -129,9 +165,34 @@ impl Drop for Bank {
 /// assert_eq!(again.answer(r#"{"balance":"ann"}"#)?, r#"{"reply":{"balance":500},"sends":[],"then":[]}"#);
 /// # Ok::<(), Box<dyn std::error::Error>>(())
 /// ```
+///
+/// It may go to another thread, and is used by one at a time: it is `Send`, and not `Sync`.
+///
+/// ```compile_fail
+/// fn shared<T: Sync>() {}
+/// shared::<rbbank::Site>();
+/// ```
 pub struct Site {
     handle: Handle,
     text: Vec<u8>,
+}
+
+// SAFETY: as for a bank.
+unsafe impl Send for Site {}
+
+impl fmt::Debug for Site {
+    fn fmt(&self, f: &mut fmt::Formatter<'_>) -> fmt::Result {
+        f.debug_struct("Site").finish_non_exhaustive()
+    }
+}
+
+/// A message of a site's answer.
+#[derive(Clone, Debug, PartialEq, Eq)]
+pub struct Message {
+    /// Its line, word for word that of the event that a receiver is given.
+    pub line: String,
+    /// The site that it is for, or each other one.
+    pub to: Option<u8>,
 }
 
 impl Site {
@@ -174,11 +235,64 @@ impl Site {
     pub fn answer(&mut self, event: &str) -> Result<&str, AnswerError> {
         // SAFETY: the handle was opened, and the line is that long.
         answered(unsafe { c::rbbank_site_answer(&mut self.handle, event.as_ptr(), event.len()) })?;
-        Ok(without_line_feed(copy(
-            &mut self.handle,
-            c::rbbank_site_reply,
-            &mut self.text,
-        )))
+        Ok(self.reply())
+    }
+
+    /// The same, as a text of one's own.
+    ///
+    /// # Errors
+    ///
+    /// As those of [`answer`](Site::answer).
+    pub fn answer_owned(&mut self, event: &str) -> Result<String, AnswerError> {
+        self.answer(event).map(str::to_owned)
+    }
+
+    /// What the last answer or replay gave once more; empty if there was none, or the site ended.
+    pub fn reply(&mut self) -> &str {
+        without_line_feed(copy(&mut self.handle, c::rbbank_site_reply, &mut self.text))
+    }
+
+    /// The messages of the last answer or replay, on all its lines.
+    ///
+    /// # Errors
+    ///
+    /// `OutOfMemory`, after which the site is as it was; `Ended`.
+    pub fn sends(&mut self) -> Result<Vec<Message>, AnswerError> {
+        let mut messages = Vec::new();
+        while let Some(message) = self.message(messages.len())? {
+            messages.push(message);
+        }
+        Ok(messages)
+    }
+
+    /// The message of an index, if there is one.
+    fn message(&mut self, index: usize) -> Result<Option<Message>, AnswerError> {
+        let (mut length, mut to) = (0, 0);
+        loop {
+            // SAFETY: the handle was opened, and the text is that long.
+            let status = unsafe {
+                c::rbbank_site_send(
+                    &mut self.handle,
+                    index,
+                    self.text.as_mut_ptr(),
+                    self.text.len(),
+                    &mut length,
+                    &mut to,
+                )
+            };
+            match status {
+                0 if length <= self.text.len() => break,
+                0 => self.text.resize(length.next_power_of_two(), 0),
+                1 => return Err(AnswerError::Ended),
+                3 => return Ok(None),
+                _ => return Err(AnswerError::OutOfMemory),
+            }
+        }
+        let line = std::str::from_utf8(&self.text[..length]).expect("the library writes ASCII");
+        Ok(Some(Message {
+            line: line.to_owned(),
+            to: (to != c::EACH_OTHER_SITE).then_some(to),
+        }))
     }
 
     /// The lines that the last answer adds to the journal, each with its line feed, none if it recorded nothing;
@@ -196,11 +310,7 @@ impl Site {
     pub fn replay(&mut self, entry: &str) -> Result<&str, ReplayError> {
         // SAFETY: the handle was opened, and the line is that long.
         replayed(unsafe { c::rbbank_site_replay(&mut self.handle, entry.as_ptr(), entry.len()) })?;
-        Ok(without_line_feed(copy(
-            &mut self.handle,
-            c::rbbank_site_reply,
-            &mut self.text,
-        )))
+        Ok(self.reply())
     }
 }
 

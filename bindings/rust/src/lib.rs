@@ -15,15 +15,17 @@
 //! [`migrate`] and [`close`] are whole runs. Lines, limits and refusals are those of docs/FORMAT.md; a refusal is a
 //! reply, and no error.
 //!
-//! Neither is `Send` or `Sync`: what is proved of the library speaks of calls one after another in one thread, and its
-//! memory isn't shown to be that of any thread. A bank may be moved, and it is ended when it is dropped.
+//! Either may go to another thread, and is used by one at a time: they are `Send`, and not `Sync`. They are ended when
+//! they are dropped.
 #![deny(missing_docs)]
 
 mod c;
 mod errors;
 mod handles;
 mod runs;
+mod texts;
 
 pub use errors::{AnswerError, CloseError, OpenError, ReplayError, RunError};
-pub use handles::{Bank, Site};
+pub use handles::{Bank, Message, Site};
 pub use runs::{audit, close, migrate, script, Audit, Books};
+pub use texts::{fault_of, version, LineFault};

@@ -1,7 +1,7 @@
 //! Each call once, and each error that a caller can bring about.
 use rbbank::{
-    audit, close, migrate, script, AnswerError, Audit, Bank, Books, CloseError, OpenError,
-    ReplayError, RunError, Site,
+    audit, close, fault_of, migrate, script, AnswerError, Audit, Bank, Books, CloseError, Message,
+    OpenError, ReplayError, RunError, Site,
 };
 
 const CONFIG: &str = r#"{"accounts":[["ann",0]],"sites":2,"version":1}"#;
@@ -73,21 +73,93 @@ fn a_site_sends_and_another_receives() {
         Site::open(0, CONFIG).unwrap(),
         Site::open(1, CONFIG).unwrap(),
     );
-    let answer = home.answer(r#"{"deposit":["ann",500]}"#).unwrap();
-    let message = answer
-        .split_once(r#""sends":["#)
-        .unwrap()
-        .1
-        .strip_suffix(r#"],"then":[]}"#)
-        .unwrap()
-        .to_owned();
-    let taken = other.answer(&message);
+    let answer = home.answer_owned(r#"{"deposit":["ann",500]}"#).unwrap();
+    assert_eq!(home.reply(), answer);
+    let Message { line, to } = home.sends().unwrap().remove(0);
+    assert!(to.is_none() && answer.contains(&format!(r#""sends":[{line}]"#)));
+    let taken = other.answer(&line);
     assert_eq!(
         taken,
         Ok(r#"{"reply":{"held":"B0.1"},"sends":[],"then":[{"applied":"B0.1"}]}"#)
     );
     assert_eq!(other.entries().lines().count(), 2);
     assert_eq!(other.answer(DEPOSIT), Err(AnswerError::BadLine));
+}
+
+#[test]
+fn each_message_of_an_answer() {
+    let mut site = Site::open(0, CONFIG).unwrap();
+    assert_eq!(site.sends(), Ok(Vec::new()));
+    let names = |site: &mut Site| site.sends().map(|messages| messages.len());
+    site.answer(r#"{"batch":[{"deposit":["ann",1]},{"deposit":["ann",2]}]}"#)
+        .unwrap();
+    assert_eq!(names(&mut site), Ok(2));
+    site.answer(r#"{"pass":1}"#).unwrap();
+    let token = Message {
+        line: r#"{"token":[1,1,0]}"#.to_owned(),
+        to: Some(1),
+    };
+    assert_eq!(site.sends(), Ok(vec![token.clone()]));
+    site.answer(r#"{"resend":9}"#).unwrap();
+    assert_eq!(names(&mut site), Ok(3));
+    assert_eq!(site.sends().unwrap()[2], token);
+    site.answer(r#"{"balance":"ann"}"#).unwrap();
+    assert_eq!(site.sends(), Ok(Vec::new()));
+}
+
+#[test]
+fn a_handle_goes_to_another_thread_and_back() {
+    fn moves<T: Send>() {}
+    moves::<Bank>();
+    moves::<Site>();
+    let mut bank = Bank::open(CONFIG).unwrap();
+    let mut site = Site::open(0, CONFIG).unwrap();
+    let event = r#"{"deposit":["ann",500]}"#;
+    site.answer(event).unwrap();
+    let there = std::thread::spawn(move || {
+        bank.answer_owned(DEPOSIT).unwrap();
+        site.answer_owned(event).unwrap();
+        drop(Site::open(1, CONFIG));
+        (bank, site)
+    });
+    let (mut bank, mut site) = there.join().unwrap();
+    assert_eq!(bank.reply(), MADE);
+    assert_eq!(
+        site.answer(r#"{"balance":"ann"}"#),
+        Ok(r#"{"reply":{"balance":1000},"sends":[],"then":[]}"#)
+    );
+    // Many at once, each a thread's own.
+    let answers: Vec<_> = (0..8)
+        .map(|_| {
+            std::thread::spawn(|| {
+                let mut bank = Bank::open(CONFIG).unwrap();
+                for _ in 0..500 {
+                    bank.answer(DEPOSIT).unwrap();
+                }
+                bank.answer_owned(r#"{"balance":"ann","site":0}"#)
+            })
+        })
+        .collect();
+    for answer in answers {
+        assert_eq!(
+            answer.join().unwrap(),
+            Ok(r#"{"balance":250000}"#.to_owned())
+        );
+    }
+}
+
+#[test]
+fn why_a_line_is_not_taken() {
+    let fault = |line| fault_of(line).to_string();
+    assert_eq!(
+        fault(r#"{"deposit":["ann",500]"#),
+        "column 22: JSON that isn't whole"
+    );
+    assert_eq!(fault("deposit 500"), "column 1: not JSON");
+    assert_eq!(fault("{}"), "JSON, but no line that is taken here");
+    assert_eq!(fault_of("{}").column, None);
+    assert!(format!("{:?}", Bank::open(CONFIG).unwrap()).starts_with("Bank"));
+    assert!(format!("{:?}", Site::open(1, CONFIG).unwrap()).starts_with("Site"));
 }
 
 #[test]
@@ -166,12 +238,11 @@ fn journals(received: bool) -> [Vec<u8>; 2] {
     for (journal, site) in journals.iter_mut().zip(&mut sites) {
         *journal += site.entries();
     }
-    let answer = sites[0].answer(r#"{"deposit":["ann",500]}"#).unwrap();
-    let sent = answer.split_once(r#""sends":["#).unwrap().1;
-    let message = sent.strip_suffix(r#"],"then":[]}"#).unwrap().to_owned();
+    sites[0].answer(r#"{"deposit":["ann",500]}"#).unwrap();
     journals[0] += sites[0].entries();
     if received {
-        sites[1].answer(&message).unwrap();
+        let message = sites[0].sends().unwrap().remove(0);
+        sites[1].answer(&message.line).unwrap();
         journals[1] += sites[1].entries();
     }
     journals.map(|journal| (journal + "\t").into_bytes())

@@ -1,4 +1,5 @@
 mod ClosedInMemory
 mod CutBytes
+mod Messages
 mod RawBoxValues
 mod SlotValues

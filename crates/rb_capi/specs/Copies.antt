@@ -1,7 +1,11 @@
--- A kept text, copied to C from a place on.
-use Rattle.std.specs.Prelude.{◌≡◌, ℕ, ◌-◌, List, ◌++◌, length, min, take, drop}
+-- A text, copied to C.
+use Rattle.std.specs.Prelude.{◌≡◌, ℕ, List, ◌++◌, length, take, drop}
 
--- n bytes were copied: those of the text from this place on, as many as there are and fit; the others are as before
-pub record Copies (text : List ℕ) (from : ℕ) (old new : List ℕ) (n : ℕ) : Type 0 where
-  pub count : n ≡ min (length text - from) (length old)
-  pub bytes : new ≡ take n (drop from text) ++ drop n old
+-- a buffer once a text was put at its beginning, as much of it as there is capacity for: what is behind it stays
+abbrev pub buffer_with : List ℕ → List ℕ → List ℕ
+buffer_with text before = take (length before) text ++ drop (length text) before
+
+-- the text was put at the buffer's beginning, as much of it as fits, and n is how many bytes the whole text has
+pub record Copies (text old new : List ℕ) (n : ℕ) : Type 0 where
+  pub buffer : new ≡ buffer_with text old
+  pub length_is : n ≡ length text

@@ -1,9 +1,10 @@
 -- How a run from memory to memory ends, and what C finds then.
-use Rattle.std.specs.Prelude.{◌≡◌, ◌≢◌, ℕ, ℤ, pos, List, [], ◌++◌, length, take, drop, min, nat_le, Result, Ok, Err, if◌then◌else◌}
+use Rattle.std.specs.Prelude.{◌≡◌, ◌≢◌, ℕ, ℤ, pos, List, [], length, min, nat_le, Result, Ok, Err, if◌then◌else◌}
 use Rattle.rb_lines.specs.declared.fault.ScriptFault.{ScriptFault}
 use Rattle.rb_lines.specs.declared.fault.ScriptFault.TheVariants.{NoConfig, BadConfig, BadLine, LongLine, Read, Write, OutOfMemory, Gather}
 use Rattle.rb_lines.specs.Messages.{status_of}
 use Rattle.rb_capi.specs.declared.ending.Ending.{Ending}
+use Rattle.rb_capi.specs.Copies.{buffer_with}
 
 -- the number of the line that is wrong, or 0 if none is
 abbrev pub number_of_line : ScriptFault → ℕ
@@ -58,10 +59,6 @@ pub record IsInMemory {A : Type 0} (r : Result A ScriptFault) : Type 0 where
   pub no_write : r ≢ Err Write
 
 -- ---- what C finds
-
--- a buffer once a text was put at its beginning, as much of it as there is capacity for: what is behind it stays
-abbrev pub buffer_with : List ℕ → List ℕ → List ℕ
-buffer_with text before = take (length before) text ++ drop (length text) before
 
 -- a run wrote this text and ended so, and C finds the text at the beginning of the buffer, how many bytes were written,
 -- the number and the status of the run; if the buffer is too short for the whole text, the status of a failed write,

@@ -5,5 +5,7 @@ pub mod Copies
 pub mod Endings
 pub mod Migrate
 pub mod Script
+pub mod Sends
 pub mod Sites
 pub mod Slots
+pub mod Texts

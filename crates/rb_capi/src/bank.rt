@@ -9,7 +9,7 @@ ghost use Rattle.rb_capi.specs.Banks.{SeenBank, first_bank, kept_answer, next_ba
 ghost use Rattle.rb_capi.specs.Copies.{Copies};
 
 use crate::bank_handle::BankHandle;
-use crate::copy::copy_from;
+use crate::copy::copy_text;
 use rb_history::{LineFault, append_reply, open_command, open_config};
 use rb_world::LeanWorld;
 use std::alloc::Global;
@@ -129,22 +129,17 @@ pub extern "C" fn rbbank_answer(alloc: Global, bank: &mut BankHandle, line: &[u8
     }
 }
 
-/// Copies the kept answer from its byte `from` (0 is the first) on, as much of it as fits: how many bytes these were.
-/// There is none to copy if there is no bank, nothing was answered, or `from` is at the answer's end or behind it.
+/// Copies the kept answer to the beginning of `out`, as much of it as fits: how many bytes the whole answer has. That
+/// is 0 if there is no bank or nothing was answered.
 #[unsafe(no_mangle)]
-pub extern "C" fn rbbank_reply(
-    alloc: Global,
-    bank: &mut BankHandle,
-    from: usize,
-    out: &mut [u8],
-) -> usize
-    ensures copied { Copies (kept_answer bank.old.value) from out.old out.new result }
+pub extern "C" fn rbbank_reply(alloc: Global, bank: &mut BankHandle, out: &mut [u8]) -> usize
+    ensures copied { Copies (kept_answer bank.old.value) out.old out.new result }
     ensures same { bank.new.value ≡ bank.old.value }
 {
     let Some(kept) = bank.take(alloc) else {
-        return 0;
+        return copy_text(&[], out);
     };
-    let n = copy_from(kept.answer.as_slice(), from, out);
+    let n = copy_text(kept.answer.as_slice(), out);
     bank.put(kept);
     n
 }

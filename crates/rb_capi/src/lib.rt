@@ -11,14 +11,18 @@ mod copy;
 mod ending;
 mod journals;
 mod kept_site;
+mod line_error;
 mod migrate;
 mod names;
 mod not_closed;
 mod raw_box;
 mod script;
+mod sent;
 mod site;
 mod site_handle;
+mod site_send;
 mod slot;
+mod version;
 
 ghost use Rattle.rb_history.specs.Banks.{MessagesAreRead};
 

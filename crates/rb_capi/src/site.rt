@@ -8,7 +8,7 @@ ghost use Rattle.rb_capi.specs.Copies.{Copies};
 ghost use Rattle.rb_capi.specs.Sites.{AnswersSiteLine, IsNoEntryLine, IsWrongEntry, ReplaysEntryLine, SeenKept};
 ghost use Rattle.rb_capi.specs.Sites.{first_kept, kept_entries, kept_text};
 
-use crate::copy::copy_from;
+use crate::copy::copy_text;
 use crate::kept_site::KeptSite;
 use crate::site_handle::SiteHandle;
 use rb_node::NodeFault;
@@ -129,22 +129,17 @@ pub extern "C" fn rbbank_site_replay(alloc: Global, site: &mut SiteHandle, line:
     }
 }
 
-/// Copies the kept answer from its byte `from` (0 is the first) on, as much of it as fits: how many bytes these were.
-/// There is none to copy if there is no site, nothing was answered, or `from` is at the answer's end or behind it.
+/// Copies the kept answer to the beginning of `out`, as much of it as fits: how many bytes the whole answer has. That
+/// is 0 if there is no site or nothing was answered.
 #[unsafe(no_mangle)]
-pub extern "C" fn rbbank_site_reply(
-    alloc: Global,
-    site: &mut SiteHandle,
-    from: usize,
-    out: &mut [u8],
-) -> usize
-    ensures copied { Copies (kept_text site.old.value) from out.old out.new result }
+pub extern "C" fn rbbank_site_reply(alloc: Global, site: &mut SiteHandle, out: &mut [u8]) -> usize
+    ensures copied { Copies (kept_text site.old.value) out.old out.new result }
     ensures same { site.new.value ≡ site.old.value }
 {
     let Some(kept) = site.take(alloc) else {
-        return 0;
+        return copy_text(&[], out);
     };
-    let n = copy_from(kept.answer.as_slice(), from, out);
+    let n = copy_text(kept.answer.as_slice(), out);
     site.put(kept);
     n
 }
@@ -152,19 +147,14 @@ pub extern "C" fn rbbank_site_reply(
 /// The same of the kept entries: the lines for the site's journal of the last answer, each with its line feed; after an
 /// open the line of the configuration.
 #[unsafe(no_mangle)]
-pub extern "C" fn rbbank_site_entries(
-    alloc: Global,
-    site: &mut SiteHandle,
-    from: usize,
-    out: &mut [u8],
-) -> usize
-    ensures copied { Copies (kept_entries site.old.value) from out.old out.new result }
+pub extern "C" fn rbbank_site_entries(alloc: Global, site: &mut SiteHandle, out: &mut [u8]) -> usize
+    ensures copied { Copies (kept_entries site.old.value) out.old out.new result }
     ensures same { site.new.value ≡ site.old.value }
 {
     let Some(kept) = site.take(alloc) else {
-        return 0;
+        return copy_text(&[], out);
     };
-    let n = copy_from(kept.entries.as_slice(), from, out);
+    let n = copy_text(kept.entries.as_slice(), out);
     site.put(kept);
     n
 }

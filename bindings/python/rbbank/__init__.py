@@ -17,8 +17,13 @@ A site is one of them, whose messages and journal are the caller's to carry and 
 b'{"event":{"balance":"ann"},"reply":{"balance":0},"site":1}\\n'
 
 `script`, `audit`, `migrate` and `close` are whole runs. Lines, limits and refusals are those of docs/FORMAT.md; a
-refusal is a reply, and no exception. The library is librbbank.so: in the folder that the environment's RBBANK_LIB
-names, else in ../out beside this module (`make bindings` makes it), else where the system finds libraries.
+refusal is a reply, and no exception.
+
+A bank or a site may go to another thread, and is used by one at a time: calls of several threads wait for each other.
+
+The library is librbbank.so: in the folder that the environment's RBBANK_LIB names, else beside this module, as a wheel
+has it, else in bindings/out (`make bindings` makes it), else where the system finds libraries. Without one the first
+call raises OSError, in a sentence.
 """
 from __future__ import annotations
 
@@ -28,10 +33,11 @@ import threading
 import typing
 import weakref
 
-__all__ = ["Audit", "BadLine", "Bank", "Books", "CloseFault", "Closed", "LineFault", "NoSuchSite", "Site", "WrongReply",
-           "audit", "close", "migrate", "script"]
+__all__ = ["Audit", "BadLine", "Bank", "Books", "CloseFault", "Closed", "LineFault", "Message", "NoSuchSite", "Site",
+           "WrongReply", "audit", "close", "migrate", "script", "version"]
 
 Line = typing.Union[str, bytes]
+_Self = typing.TypeVar("_Self", bound="_Handle")
 
 
 class Closed(RuntimeError):
@@ -39,15 +45,29 @@ class Closed(RuntimeError):
 
 
 class BadLine(ValueError):
-    """The line is no configuration, command, event or entry of this site. Nothing has changed."""
+    """The line is no configuration, command, event or entry of this site. Nothing has changed.
+
+    Its text says why, as far as that of the line says it; `column` is which byte of the line, from 1, the reader of
+    JSON came to, where it isn't JSON, else None.
+    """
+
+    def __init__(self, why: str = "", column: int | None = None) -> None:
+        super().__init__(f"column {column}: {why}" if column else why)
+        self.column = column
 
 
 class NoSuchSite(ValueError):
     """The configuration has no site of that number."""
 
+    def __init__(self, why: str = "the configuration has no such site") -> None:
+        super().__init__(why)
+
 
 class WrongReply(ValueError):
     """The site gives another reply than the entry has, or its history is full. The site is closed."""
+
+    def __init__(self, why: str = "another reply than the entry has, or a full history") -> None:
+        super().__init__(why)
 
 
 class LineFault(BadLine):
@@ -59,6 +79,13 @@ class LineFault(BadLine):
     def __init__(self, line: int, written: str) -> None:
         super().__init__(f"line {line}" if line else "no configuration")
         self.line, self.written = line, written
+
+
+class Message(typing.NamedTuple):
+    """A message of a site's answer: its line, word for word that of the event that a receiver is given, and the site
+    that it is for, or None for each other one."""
+    line: str
+    to: int | None
 
 
 class Audit(typing.NamedTuple):
@@ -94,21 +121,24 @@ class CloseFault(ValueError):
 _HANDLE = ctypes.POINTER(ctypes.c_void_p)
 _SIZES = ctypes.POINTER(ctypes.c_size_t)
 _NUMBERS = ctypes.POINTER(ctypes.c_uint64)
-_TAKES = [_HANDLE, ctypes.c_char_p, ctypes.c_size_t]
-_COPIES = [_HANDLE, ctypes.c_size_t, ctypes.c_char_p, ctypes.c_size_t]
+_BYTES = ctypes.POINTER(ctypes.c_uint8)
 _TEXT = [ctypes.c_char_p, ctypes.c_size_t]
+_TAKES = [_HANDLE, *_TEXT]
 _RUNS = [*_TEXT, *_TEXT, _SIZES, _NUMBERS]
 _CLOSES = [ctypes.c_uint8, *_TEXT, *_TEXT, _SIZES, ctypes.c_size_t, *_TEXT, _SIZES, _NUMBERS, _NUMBERS]
 # Each call of bindings/c/rbbank.h: what it returns, and what it takes.
 CALLS: dict[str, tuple[typing.Any, list[typing.Any]]] = {
+    "rbbank_version": (ctypes.c_size_t, _TEXT),
+    "rbbank_error": (ctypes.c_size_t, [*_TEXT, *_TEXT, _SIZES]),
     "rbbank_open": (ctypes.c_int32, _TAKES),
     "rbbank_answer": (ctypes.c_int32, _TAKES),
-    "rbbank_reply": (ctypes.c_size_t, _COPIES),
+    "rbbank_reply": (ctypes.c_size_t, _TAKES),
     "rbbank_close": (None, [_HANDLE]),
-    "rbbank_site_open": (ctypes.c_int32, [_HANDLE, ctypes.c_uint8, ctypes.c_char_p, ctypes.c_size_t]),
+    "rbbank_site_open": (ctypes.c_int32, [_HANDLE, ctypes.c_uint8, *_TEXT]),
     "rbbank_site_answer": (ctypes.c_int32, _TAKES),
-    "rbbank_site_reply": (ctypes.c_size_t, _COPIES),
-    "rbbank_site_entries": (ctypes.c_size_t, _COPIES),
+    "rbbank_site_reply": (ctypes.c_size_t, _TAKES),
+    "rbbank_site_entries": (ctypes.c_size_t, _TAKES),
+    "rbbank_site_send": (ctypes.c_int32, [_HANDLE, ctypes.c_size_t, *_TEXT, _SIZES, _BYTES]),
     "rbbank_site_replay": (ctypes.c_int32, _TAKES),
     "rbbank_site_close": (None, [_HANDLE]),
     "rbbank_script": (ctypes.c_int32, _RUNS),
@@ -117,8 +147,9 @@ CALLS: dict[str, tuple[typing.Any, list[typing.Any]]] = {
     "rbbank_close_books": (ctypes.c_int32, _CLOSES),
 }
 _FILE = "librbbank.so"
-_PART = 4096  # bytes that are copied at once
+_PART = 4096  # bytes that are copied without a buffer of the text's own length
 _OK, _NONE, _BAD_LINE, _REFUSED, _NO_MEMORY = range(5)
+_EACH_OTHER_SITE = 255
 _loaded: dict[str, typing.Any] = {}
 
 
@@ -127,8 +158,18 @@ def _path() -> str:
     folder = os.environ.get("RBBANK_LIB")
     if folder:
         return os.path.join(folder, _FILE)
-    beside = os.path.join(os.path.dirname(os.path.abspath(__file__)), "..", "out", _FILE)
-    return beside if os.path.exists(beside) else _FILE
+    here = os.path.dirname(os.path.abspath(__file__))
+    beside = [os.path.join(here, _FILE), os.path.join(here, "..", "..", "out", _FILE)]
+    return next(filter(os.path.exists, beside), _FILE)
+
+
+def _library(kind: type[ctypes.CDLL]) -> ctypes.CDLL:
+    """The library, or an error in words."""
+    try:
+        return kind(_path())
+    except OSError as why:
+        raise OSError(f"rbbank finds no library: {why}. `make bindings` makes {_FILE} in bindings/out; "
+                      "the environment's RBBANK_LIB may name another folder") from None
 
 
 def _call(name: str) -> typing.Any:
@@ -138,7 +179,7 @@ def _call(name: str) -> typing.Any:
     """
     if name not in _loaded:
         result, takes = CALLS[name]
-        call = (ctypes.PyDLL if takes[0] is _HANDLE else ctypes.CDLL)(_path())[name]
+        call = _library(ctypes.PyDLL if takes[0] is _HANDLE else ctypes.CDLL)[name]
         call.restype, call.argtypes = result, takes
         _loaded[name] = call
     return _loaded[name]
@@ -146,6 +187,29 @@ def _call(name: str) -> typing.Any:
 
 def _bytes(line: Line) -> bytes:
     return line.encode() if isinstance(line, str) else line
+
+
+def version() -> str:
+    """The library's version."""
+    return _copied(_call("rbbank_version")).decode()
+
+
+def _copied(call: typing.Callable[[typing.Any, int], int]) -> bytes:
+    """The whole text of a call that copies as much as fits, and gives the length."""
+    out = ctypes.create_string_buffer(_PART)
+    length = call(out, _PART)
+    if length > _PART:
+        out = ctypes.create_string_buffer(length)
+        call(out, length)
+    return ctypes.string_at(out, length)
+
+
+def _bad_line(line: bytes) -> BadLine:
+    """Why this line isn't taken."""
+    column = ctypes.c_size_t()
+    error = _call("rbbank_error")
+    why = _copied(lambda out, size: int(error(line, len(line), out, size, ctypes.byref(column))))
+    return BadLine(why.decode(), column.value or None)
 
 
 class _Handle:
@@ -162,24 +226,22 @@ class _Handle:
         self._finalizer = weakref.finalize(self, _call(self._prefix + "close"), self._ref)
         self._answer, self._reply = _call(self._prefix + "answer"), _call(self._prefix + "reply")
 
-    def _status(self, status: int, refusal: type[ValueError] = BadLine) -> None:
+    def _raise(self, status: int, line: bytes, refusal: type[ValueError] = BadLine) -> typing.NoReturn:
         """Raises what a status means that isn't 0."""
         if status == _NONE:
             raise Closed("it is closed")
         if status == _BAD_LINE:
-            raise BadLine("no such line is taken here")
+            raise _bad_line(line)
         if status == _REFUSED:
             raise refusal()
-        if status != _OK:
-            raise MemoryError("it is closed now")
+        raise MemoryError("it is closed now")
 
     def _kept(self, call: typing.Any) -> bytes:
-        """All that one of the copying calls has, in parts."""
-        text, count = b"", _PART
-        while count == _PART:
-            count = call(self._ref, len(text), self._part, _PART)
-            text += self._view[:count]
-        return text
+        """All that one of the copying calls has."""
+        length = call(self._ref, self._part, _PART)
+        if length <= _PART:
+            return bytes(self._view[:length])
+        return _copied(lambda out, size: int(call(self._ref, out, size)))
 
     def answer(self, line: Line) -> str:
         """Gives it a line, and returns the line that it answers, without a line feed.
@@ -190,7 +252,12 @@ class _Handle:
         with self._lock:
             status = self._answer(self._ref, data, len(data))
             if status != _OK:
-                self._status(status)
+                self._raise(status, data)
+            return self._kept(self._reply)[:-1].decode()
+
+    def reply(self) -> str:
+        """The last answer once more, without a line feed; empty if there was none, or it is closed."""
+        with self._lock:
             return self._kept(self._reply)[:-1].decode()
 
     def close(self) -> None:
@@ -198,7 +265,7 @@ class _Handle:
         with self._lock:
             self._finalizer()
 
-    def __enter__(self):
+    def __enter__(self: _Self) -> _Self:
         return self
 
     def __exit__(self, *_: object) -> None:
@@ -214,7 +281,9 @@ class Bank(_Handle):
         """Raises BadLine if the line is no configuration, and MemoryError."""
         super().__init__()
         data = _bytes(configuration)
-        self._status(_call("rbbank_open")(self._ref, data, len(data)))
+        status = _call("rbbank_open")(self._ref, data, len(data))
+        if status != _OK:
+            self._raise(status, data)
 
 
 class Site(_Handle):
@@ -238,16 +307,42 @@ class Site(_Handle):
     def __init__(self, me: int, configuration: Line) -> None:
         """Raises BadLine if the line is no configuration, NoSuchSite, and MemoryError."""
         if not 0 <= me <= 255:
-            raise NoSuchSite(f"{me}")
+            raise NoSuchSite
         super().__init__()
         data = _bytes(configuration)
-        self._status(_call("rbbank_site_open")(self._ref, me, data, len(data)), NoSuchSite)
+        status = _call("rbbank_site_open")(self._ref, me, data, len(data))
+        if status != _OK:
+            self._raise(status, data, NoSuchSite)
 
     def entries(self) -> bytes:
         """The lines for the journal, each with its line feed: of the configuration after the opening, and of the last
         answer's entries, none if it recorded nothing, and none after a replay."""
         with self._lock:
             return self._kept(_call("rbbank_site_entries"))
+
+    def sends(self) -> list[Message]:
+        """The messages of the last answer or replay, on all its lines. Raises Closed; MemoryError, after which the site
+        is as it was."""
+        messages: list[Message] = []
+        with self._lock:
+            while (message := self._message(len(messages))) is not None:
+                messages.append(message)
+        return messages
+
+    def _message(self, index: int) -> Message | None:
+        """The message of an index, if there is one."""
+        length, to = ctypes.c_size_t(), ctypes.c_uint8()
+
+        def given(out: typing.Any, size: int) -> int:
+            status = _call("rbbank_site_send")(self._ref, index, out, size, ctypes.byref(length), ctypes.byref(to))
+            if status == _NONE:
+                raise Closed("it is closed")
+            if status == _NO_MEMORY:
+                raise MemoryError
+            return length.value
+
+        line = _copied(given).decode()
+        return Message(line, None if to.value == _EACH_OTHER_SITE else to.value) if line else None
 
     def replay(self, entry: Line) -> str:
         """Gives it the next line of its journal, in any spelling, and returns the line `{"sends":[..]}` of what the
@@ -258,7 +353,9 @@ class Site(_Handle):
         """
         data = _bytes(entry)
         with self._lock:
-            self._status(_call("rbbank_site_replay")(self._ref, data, len(data)), WrongReply)
+            status = _call("rbbank_site_replay")(self._ref, data, len(data))
+            if status != _OK:
+                self._raise(status, data, WrongReply)
             return self._kept(self._reply)[:-1].decode()
 
 
