@@ -1,5 +1,5 @@
-.PHONY: help demo try play play-test build install test toolchain check examples bench bindings refuse wrong-bodies \
-	crash disk wires broker
+.PHONY: help demo try play play-test build install install-libs test toolchain check examples bench bindings refuse \
+	wrong-bodies crash disk wires broker
 
 help:
 	@echo 'At once:'
@@ -14,6 +14,8 @@ help:
 	@echo '                     OPEN=stale_token begins with this run of examples/'
 	@echo '  make install PREFIX=/usr/local'
 	@echo '                     copies the program, its manual page and completions for three shells, after make build'
+	@echo '  make install-libs PREFIX=/usr/local'
+	@echo '                     copies the library for C with its header and a file for pkg-config, after make bindings'
 	@echo '  make examples      every example, and every case of tests/cases, through the program, after make build'
 	@echo '  make test          the gate; about an hour; less than a minute if nothing changed since'
 	@echo '                     (docs/CHANGING.md)'
@@ -68,6 +70,19 @@ install:
 	@test -x crates/rbbank/out/rbbank || { echo 'there is no program yet: make build'; exit 1; }
 	@install -D -m 755 crates/rbbank/out/rbbank "$(DESTDIR)$(PREFIX)/bin/rbbank"
 	@examples/tools/from_help.py "$(DESTDIR)$(PREFIX)/bin/rbbank" "$(DESTDIR)$(PREFIX)"
+
+# The library for C, its header and what pkg-config says of it, below PREFIX. The version is the library's.
+LIBRARY_VERSION := $(shell sed -n 's/.*VERSION: &str = "\(.*\)";/\1/p' crates/rb_capi/src/version.rt)
+SHARED := librbbank.so.$(firstword $(subst ., ,$(LIBRARY_VERSION)))
+install-libs:
+	@test -f bindings/out/librbbank.so || { echo 'there is no library yet: make bindings'; exit 1; }
+	@install -D -m 644 bindings/c/rbbank.h "$(DESTDIR)$(PREFIX)/include/rbbank.h"
+	@install -D -m 644 bindings/out/librbbank.a "$(DESTDIR)$(PREFIX)/lib/librbbank.a"
+	@install -D -m 755 bindings/out/librbbank.so "$(DESTDIR)$(PREFIX)/lib/$(SHARED)"
+	@ln -sf $(SHARED) "$(DESTDIR)$(PREFIX)/lib/librbbank.so"
+	@install -d "$(DESTDIR)$(PREFIX)/lib/pkgconfig"
+	@sed -e 's|@PREFIX@|$(PREFIX)|' -e 's|@VERSION@|$(LIBRARY_VERSION)|' bindings/c/rbbank.pc.in \
+		> "$(DESTDIR)$(PREFIX)/lib/pkgconfig/rbbank.pc"
 
 # Every script, all histories and migrations of examples/, and the cases of tests/cases, through the program.
 examples: build

@@ -76,6 +76,8 @@ def of_c():
     yield "C, each allocation refused, under AddressSanitizer", passes([refused])
     yield "C, example.c", example()
     yield "C, restart.c", restart()
+    if shutil.which("pkg-config"):
+        yield "C, installed, with pkg-config", installed()
 
 
 def example():
@@ -123,15 +125,59 @@ def restart():
             and another == (b"", b"restart: the journal has a line that isn't the site's next entry\n", 1))
 
 
+def installed():
+    """Whether a program is built by what `make install-libs` copied and pkg-config says, with either library."""
+    with tempfile.TemporaryDirectory() as folder:
+        if not passes(["make", "--no-print-directory", "install-libs", f"PREFIX={folder}"], ROOT):
+            return False
+        found = os.environ | {"PKG_CONFIG_PATH": os.path.join(folder, "lib", "pkgconfig")}
+
+        def said(word):
+            words = ["pkg-config", word, "rbbank"]
+            return subprocess.run(words, env=found, capture_output=True, text=True).stdout.split()
+
+        source, program = os.path.join(HERE, "c", "example.c"), os.path.join(folder, "example")
+        libraries = os.path.join(folder, "lib")
+        same = [said("--modversion") == [build.version()]]
+        for link in ([*said("--libs"), "-Wl,-rpath," + libraries], [os.path.join(libraries, "librbbank.a")]):
+            words = [build.c_compiler(), "-D_DEFAULT_SOURCE", *said("--cflags"), "-o", program, source, *link]
+            same.append(passes(words) and run([program])[2] == 0)
+        return all(same)
+
+
 def of_rust():
     crate = os.path.join(HERE, "rust")
     yield "Rust, tests and documentation", passes(["cargo", "test", "--offline", "--quiet"], crate)
     yield "Rust, no warning", passes(["cargo", "build", "--offline", "--quiet", "--all-targets"], crate, quiet=True)
+    pages = ["cargo", "doc", "--offline", "--quiet", "--no-deps"]
+    yield "Rust, no warning of its pages", passes(pages, crate, quiet=True)
+    if shutil.which("cargo-clippy"):
+        words = ["cargo", "clippy", "--offline", "--quiet", "--all-targets", "--", "-D", "warnings"]
+        yield "Rust, no warning of clippy", passes(words, crate)
 
 
 def of_python():
     folder = os.path.join(HERE, "python")
     yield "Python, tests and documentation", passes([sys.executable, "test_rbbank.py"], folder)
+    if shutil.which("mypy"):
+        yield "Python, types", passes(["mypy", "--cache-dir", os.devnull, "rbbank"], folder)
+    yield "Python, a wheel without a network", wheel(folder)
+
+
+def wheel(folder):
+    """Whether the wheel is built, and has the library with it."""
+    with tempfile.TemporaryDirectory() as path:
+        words = ["wheel", "--quiet", "--no-index", "--no-deps", "--no-build-isolation", "--wheel-dir", path, "."]
+        if not passes([sys.executable, "-m", "pip", *words], folder):
+            return False
+        wheels, there = glob.glob(os.path.join(path, "*.whl")), os.path.join(path, "installed")
+        words = ["install", "--quiet", "--no-index", "--target", there, *wheels]
+        if not passes([sys.executable, "-m", "pip", *words]):
+            return False
+        alone = {name: said for name, said in ENVIRONMENT.items() if name != "RBBANK_LIB"} | {"PYTHONPATH": there}
+        code = "import rbbank; print(rbbank.__file__, rbbank.version())"
+        done = subprocess.run([sys.executable, "-c", code], env=alone, cwd=path, capture_output=True, text=True)
+        return done.stdout.split() == [os.path.join(there, "rbbank", "__init__.py"), build.version()]
 
 
 def passes(words, folder=None, quiet=False):

@@ -65,7 +65,7 @@ PAGES = {
     "README.md": (900, 14),
     "bench/README.md": (1800, 20),
     "bench/plain/README.md": (460, 17),
-    "bindings/README.md": (712, 21),
+    "bindings/README.md": (739, 21),
     "crates/*/README.md": (480, 21),
     "docs/ARCHITECTURE.md": (1500, 17),
     "docs/CHANGING.md": (2500, 17),
