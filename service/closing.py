@@ -38,7 +38,7 @@ class Period:
     """A period of a bank: its name, and its files at a site."""
 
     def __init__(self, folder: str, bank: str, number: int) -> None:
-        self.folder, self.bank, self.number, self.name = folder, bank, number, f"{bank}-{number:04}"
+        self.folder, self.bank, self.number, self.name = folder, bank, number, f"{bank}.{number:04}"
 
     def path(self, what: str) -> str:
         return os.path.join(self.folder, f"{self.number:04}.{what}")

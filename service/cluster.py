@@ -188,6 +188,18 @@ class Bank:
         with open(os.path.join(self.folder, f"{site}.log"), "ab") as out:
             self.running[site] = subprocess.Popen(words, stdout=out, stderr=out, stdin=subprocess.DEVNULL)
 
+    def child(self, site: int) -> int | None:
+        """The process of the proved program under a service."""
+        parent = self.running[site]
+        for pid in filter(str.isdigit, os.listdir("/proc")):
+            try:
+                with open(f"/proc/{pid}/stat") as file:
+                    if parent and file.read().rpartition(")")[2].split()[1] == str(parent.pid):
+                        return int(pid)
+            except OSError:
+                pass
+        return None
+
     def get(self, site: int, path: str) -> Any:
         with urllib.request.urlopen(f"http://{self.http[site]}{path}", timeout=10) as reply:
             return json.load(reply)

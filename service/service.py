@@ -89,6 +89,7 @@ class Service:
             Period(self.folder, bank["name"], 1).begin(me, bank["config"])
         self.listeners: set[asyncio.Queue[str]] = set()
         self.statuses: Counter[int] = Counter()
+        self.asking: dict[str, asyncio.Task[Json]] = {}  # requests under way, by their ids
         self.ends = asyncio.Event()
         self.close_task: asyncio.Task[Json] | None = None
         self.open_period()
@@ -127,7 +128,7 @@ class Service:
             event = self.checked(event, key, may)
             if (known := self.known(event)) is not None:
                 return known
-            answer = await asyncio.wait_for(self.passing.ask(lambda: self.ask(event), TOKEN), ANSWER)
+            answer = await asyncio.wait_for(asyncio.shield(self.once(event)), ANSWER)
         except No as why:
             return why.args[0], {"error": why.args[1]}
         except asyncio.TimeoutError:
@@ -135,6 +136,17 @@ class Service:
         if "bad" in answer:
             return 400, {"error": "no event as docs/FORMAT.md has it"}
         return status_of(answer["reply"])
+
+    def once(self, event: Json) -> asyncio.Task[Json]:
+        """Asks the site. A request that is under way isn't asked beside itself."""
+        key = event.get("id")
+        if (task := self.asking.get(key) if isinstance(key, str) else None) and task.get_name() == compact(event):
+            return task
+        task = asyncio.create_task(self.passing.ask(lambda: self.ask(event), TOKEN), name=compact(event))
+        if isinstance(key, str) and key not in self.asking:
+            self.asking[key] = task
+            task.add_done_callback(lambda _: self.asking.pop(key))
+        return task
 
     def checked(self, event: Any, key: str | None, may: set[str]) -> Json:
         """The event with its key, if it is one that the client may ask for. The site looks at the rest."""
@@ -239,8 +251,9 @@ class Service:
         site, good = self.site, self.site.up and not self.ends.is_set()
         child = site.process.pid if site.up and site.process else None
         return self.says(200 if good else 503, {
-            "bank": self.period.name, "broker": bool(self.wires.url), "child": child, "entries": site.entries,
-            "given": len(site.given), "held": len(self.view.held), "site": self.me, "up": site.up,
+            "applied": self.view.applied, "bank": self.period.name, "behind": sum(self.passing.behind.values()),
+            "broker": bool(self.wires.url), "child": child, "closing": self.closing.mark is not None,
+            "entries": site.entries, "given": len(site.given), "held": len(self.view.held), "site": self.me, "up": site.up,
             "unread": sum(self.wires.depth.values()), "unsent": self.wires.unconfirmed(), "waiting": len(site.waiting)})
 
     async def metrics(self, request: web.Request) -> web.Response:
