@@ -121,7 +121,7 @@ class Run:
         """A request by its key, at times twice at a time."""
         self.told[key] = told = Told(site, event)
         if self.pick.random() < 0.05:
-            replies = await asyncio.gather(*(self.asks(site, event, key) for _ in range(2)))
+            replies = list(await asyncio.gather(*(self.asks(site, event, key) for _ in range(2))))
             self.same(key, *replies)
         else:
             replies = [await self.asks(site, event, key)]
@@ -129,9 +129,8 @@ class Run:
         return told.reply
 
     def same(self, key: str, first: Json, second: Json) -> None:
-        """A request that was made has one reply. One that was refused may be made when it is asked again."""
-        if {"refused"}.isdisjoint(first) and (first.keys() - {"bank"}, names_of(first)) != (
-                second.keys() - {"bank"}, names_of(second)):
+        """A request that was made has one reply."""
+        if names_of(first) and without(first) != without(second):
             raise Wrong(f"{key}: {self.told[key].event} was answered {first}, and then {second}")
         self.count["asked twice"] += 1
 
@@ -150,6 +149,7 @@ class Run:
         while not self.is_over:
             if period != self.period:
                 period, mine, made = self.period, [], []
+            self.number += 1
             chance, key = self.pick.random(), f"c{number}-{self.number}"
             if chance < 0.1:
                 await self.asks(home, {"balance": self.pick.choice(ACCOUNTS)}, None)
@@ -167,9 +167,10 @@ class Run:
 
     async def several(self, site: int, key: str) -> None:
         """Some requests at once, in a list."""
-        events = [{"deposit": [self.pick.choice(ACCOUNTS), 1 + n], "id": f"{key}.{n}"} for n in range(3)]
-        for event, reply in zip(events, await self.asks(site, events, None)):
-            told = self.told[event["id"]] = Told(site, event)
+        events: list[Json] = [{"deposit": [self.pick.choice(ACCOUNTS), 1 + n], "id": f"{key}.{n}"} for n in range(3)]
+        for told in (asked := [Told(site, event) for event in events]):
+            self.told[told.event["id"]] = told
+        for told, reply in zip(asked, await self.asks(site, events, None)):
             told.reply = reply
 
     # ---- kills
@@ -226,23 +227,22 @@ class Run:
             await asyncio.to_thread(self.broker.wait, node)
 
     async def closes(self) -> None:
-        """Has the books closed, and asks again until they are."""
-        until = time.monotonic() + self.asked.patience
-        asked = {"accounts": [f"new-{self.period}"], "bank": self.name, "patience": 20}
+        """Has the books closed, by close.py, which is killed at times, until they are."""
+        until, archive = time.monotonic() + self.asked.patience, os.path.join(self.bank.folder, "archive")
+        words = [sys.executable, f"{cluster.HERE}/close.py", self.bank.file, self.name, archive, "--patience", "20",
+                 "--account", f"new-{self.period}"]
         while time.monotonic() < until:
-            try:
-                timeout = aiohttp.ClientTimeout(60)
-                async with self.session.post(f"http://{self.bank.http[0]}/close", json=asked, timeout=timeout) as got:
-                    said = await got.json()
-                if got.status == 200:
-                    self.period += 1
-                    if said["bank"] != self.name:
-                        raise Wrong(f"{asked} is answered {said}")
-                    return
-                self.count["closings given up"] += 1
-            except FAULTS:
-                self.count["closings asked again"] += 1
-            await asyncio.sleep(0.2)
+            with open(os.path.join(self.bank.folder, "close.log"), "ab") as out:
+                process = subprocess.Popen(words, stdout=out, stderr=out)
+            left = self.pick.choice([0.5, 2, 1000])
+            while process.poll() is None and left > 0:
+                await asyncio.sleep(0.1)
+                left -= 0.1
+            process.kill()
+            if process.wait() == 0:
+                self.period += 1
+                return
+            self.count["closings killed" if process.returncode < 0 else "closings given up"] += 1
         raise Wrong(f"{self.name} wasn't closed in {self.asked.patience} s: {await self.everyone()}")
 
     # ---- the end
@@ -259,7 +259,7 @@ class Run:
 
     async def drains(self) -> None:
         """Waits until nothing is on its way."""
-        until, quiet, before = time.monotonic() + self.asked.patience, 0, [0]
+        until, quiet, before, now = time.monotonic() + self.asked.patience, 0, [0], await self.everyone()
         while quiet < 3:
             if time.monotonic() > until:
                 queues = self.broker.ctl(0, "list_queues", "name", "leader", "online", "messages_ready",
@@ -448,8 +448,8 @@ def tried(asked: argparse.Namespace, seed: int, folder: str) -> str:
             f" each in the journals once, as it was answered\n  {count['children']} children, {count['services']} "
             f"services and {count['nodes']} nodes of the broker killed, {count['held']} services held;"
             f" {count['replies lost']:,} replies lost,\n  {count['told to wait']:,} told to wait, {count['asked twice']:,}"
-            f" asked twice; closings asked again {count['closings asked again']}, given up"
-            f" {count['closings given up']}; the longest wait {run.slowest:.1f} s\n  drained in {drained:.1f} s;"
+            f" asked twice; {count['closings killed']} closings killed, {count['closings given up']} given up; the longest"
+            f" wait {run.slowest:.1f} s\n  drained in {drained:.1f} s;"
             f" all sites have {compact(balances)}\n  after {operations:,} operations; the audits order {entries:,} entries")
 
 

@@ -25,7 +25,7 @@ from typing import Any
 from aiohttp import web
 
 import metrics
-from closing import Closing, Open, Period, last_period, requests_of
+from closing import Closing, Period, last_period, requests_of
 from passing import Passing
 from site_child import Fault, Site, compact
 from view import Json, View
@@ -35,7 +35,7 @@ HERE = os.path.dirname(os.path.abspath(__file__))
 MAY = {"balance": "read", "statement": "read", "asof": "read", "deposit": "ask", "withdraw": "ask", "interest": "ask",
        "transfer": "ask", "pass": "ask", "cancel": "cancel", "batch": "ask"}  # what a client has to be allowed
 FREE = ("/", "/health", "/events")  # paths that anyone may ask; of events each is looked at
-PATHS = {"/close": "close", "/closing": "service", "/journal": "service"}  # those that take more than `read`
+PATHS = {"/closing": "close", "/journal": "close"}  # those that take more than `read`
 KEY = re.compile(r"[A-Za-z0-9._:-]{1,64}")
 MOST_WAITING = 20_000  # events that wait for the site, beyond which clients are sent away
 MOST_UNCONFIRMED = 1_000_000  # messages that wait for the broker, the same
@@ -60,8 +60,6 @@ class Clients:
         if path:
             with open(path) as file:
                 self.rows = json.load(file)
-        own = (row["token"] for row in self.rows.values() if "service" in row["may"])
-        self.own = next(own, "")  # what this service shows the others
 
     def may(self, request: web.Request) -> set[str]:
         """What the client of a request may do: anything, if no token is configured. Each token is compared whole."""
@@ -89,9 +87,8 @@ class Service:
             Period(self.folder, bank["name"], 1).begin(me, bank["config"])
         self.listeners: set[asyncio.Queue[str]] = set()
         self.statuses: Counter[int] = Counter()
-        self.asking: dict[str, asyncio.Task[Json]] = {}  # requests under way, by their ids
+        self.asking: dict[str, tuple[str, asyncio.Task[Json]]] = {}  # requests under way, by their ids
         self.ends = asyncio.Event()
-        self.close_task: asyncio.Task[Json] | None = None
         self.open_period()
 
     def open_period(self) -> None:
@@ -99,14 +96,17 @@ class Service:
         period = last_period(self.folder, self.bank["name"])
         if period is None:
             raise Fault(f"{self.folder}: no bank; --new begins one")
-        config, me, before = period.config(), self.me, period.other(-1)
+        with open(period.path("bank")) as file:
+            config, me, before = json.load(file), self.me, period.other(-1)
         self.period, self.view, self.earlier = period, View(config, me), requests_of(before.journal(me))
         self.wires = Wires(me, config["sites"], self.bank["broker"], period.name,
                            before.name if period.number > 1 else None, period.path("confirmed"))
-        words = [self.bank["program"], "site", "--me", str(me), "--bank", period.name]
-        self.site = Site(words, period.journal(me), config, self.view, self.wires.send, self.wires.saved())
+        words = [self.bank["program"], "site", "--me", str(me)]
+        self.site = Site(words, period.name, period.journal(me), config, self.view, self.wires.send,
+                         self.wires.saved())
         self.passing = Passing(me, config["sites"], self.site, self.view, self.wires.news)
-        self.closing = Closing(period, self.site, me, self.urls, self.clients.own)
+        self.closing = Closing(period, self.site, me)
+        log.info("%s", period.name)
         self.site.hears, self.wires.site = self.passing.answered, self.site
         self.wires.says, self.wires.hears = self.passing.says, self.passing.hears
 
@@ -138,14 +138,14 @@ class Service:
         return status_of(answer["reply"])
 
     def once(self, event: Json) -> asyncio.Task[Json]:
-        """Asks the site. A request that is under way isn't asked beside itself."""
-        key = event.get("id")
-        if (task := self.asking.get(key) if isinstance(key, str) else None) and task.get_name() == compact(event):
-            return task
-        task = asyncio.create_task(self.passing.ask(lambda: self.ask(event), TOKEN), name=compact(event))
-        if isinstance(key, str) and key not in self.asking:
-            self.asking[key] = task
-            task.add_done_callback(lambda _: self.asking.pop(key))
+        """Asks the site. A request that is under way isn't asked beside itself, since it may be refused yet."""
+        key, line = str(event.get("id")), compact(event)
+        before, task = self.asking.get(key, ("", None))
+        if task is None or before != line:
+            task = asyncio.create_task(self.passing.ask(lambda: self.ask(event), TOKEN))
+            if "id" in event:
+                self.asking[key] = line, task
+                task.add_done_callback(lambda done: self.asking.pop(key, None))
         return task
 
     def checked(self, event: Any, key: str | None, may: set[str]) -> Json:
@@ -167,10 +167,10 @@ class Service:
         line = self.earlier.get(event.get("id", ""))
         if line is None or event.get("bank") == self.period.name:
             return None
-        entry = json.loads(line)
+        entry: Json = json.loads(line)
         if entry["event"] != {verb: given for verb, given in event.items() if verb not in ("id", "bank")}:
             return status_of({"refused": 25})
-        return 200, entry["reply"] | {"bank": self.period.other(-1).name}
+        return 200, dict(entry["reply"], bank=self.period.other(-1).name)
 
     async def post(self, request: web.Request) -> web.Response:
         key, may = request.headers.get("Idempotency-Key"), self.clients.may(request)
@@ -262,43 +262,17 @@ class Service:
 
     # ---- closing
 
-    async def close(self, request: web.Request) -> web.Response:
-        """Closes the books of the period that the client names, once, however often it asks."""
-        asked = parsed(await request.read())
-        if self.me != 0:
-            raise No(409, f"site 0 closes the books: {self.urls[0]}/close")
-        if not isinstance(asked, dict) or "bank" not in asked:
-            raise No(400, 'wanted: {"bank":"' + self.period.name + '"}, and "accounts" that are added')
-        if asked["bank"] == self.period.other(-1).name:
-            return self.says(200, {"bank": self.period.name, "closed": asked["bank"], "config": self.site.config})
-        if asked["bank"] != self.period.name:
-            raise No(409, f"this is {self.period.name}")
-        try:
-            return self.says(200, await asyncio.shield(self.closes(asked)))
-        except Open as why:
-            raise No(409, str(why)) from None
-
-    def closes(self, asked: Json) -> asyncio.Task[Json]:
-        """The closing that is under way or done, else a new one."""
-        if self.close_task is None or self.close_task.done() and not self.closing.next.is_set():
-            words = [word for name in asked.get("accounts", []) for word in ("--account", str(name))]
-            self.close_task = asyncio.create_task(
-                self.closing.close(self.bank["program"], words, float(asked.get("patience", 120))))
-        return self.close_task
-
     async def step(self, request: web.Request) -> web.Response:
-        """What site 0 has this service do to close the books, and what others ask it of that."""
-        if request.method == "GET":
-            return self.says(200, self.closing.says())
-        try:
-            return self.says(200, await self.closing.step(parsed(await request.read())))
-        except Open as why:
-            raise No(409, str(why)) from None
+        """A step of close.py."""
+        said = await self.closing.step(parsed(await request.read()))
+        return self.says(200, said) if isinstance(said, dict) else self.says(409, {"error": said})
 
     async def journal(self, request: web.Request) -> web.FileResponse:
-        if request.query.get("bank") != self.period.name or not self.closing.mark:
+        """The journal of the period that is being closed, or of the one before."""
+        name, before = request.query.get("bank"), self.period.other(-1)
+        if name != before.name and (name != self.period.name or not self.closing.mark):
             raise No(409, f"the books of {self.period.name} aren't being closed")
-        return web.FileResponse(self.site.journal)
+        return web.FileResponse(self.site.journal if name == self.period.name else before.journal(self.me))
 
     # ---- from start to end
 
@@ -333,47 +307,35 @@ class Service:
             web.post("/events", self.post), web.get("/{verb:balance|statement}/{account}", self.question),
             web.get("/state", self.state), web.get("/live", self.live), web.get("/health", self.health),
             web.get("/metrics", self.metrics), web.get("/peers", self.peers), web.get("/", self.console),
-            web.post("/close", self.close), web.post("/closing", self.step), web.get("/closing", self.step),
-            web.get("/journal", self.journal), web.options("/{any:.*}", self.console)])
+            web.post("/closing", self.step), web.get("/journal", self.journal),
+            web.options("/{any:.*}", self.console)])
         return app
 
     async def child(self) -> None:
+        """The site's children, until the period ends."""
         await self.site.run()
         self.closing.ended.set()
         if not self.ends.is_set() and not self.closing.mark:
             raise Fault(f"{self.site.journal} is sealed, and its books aren't being closed")
+        await self.closing.next.wait()
 
     async def serve(self) -> bool:
-        """Serves a period. Whether another one follows."""
-        mark, program = self.closing.mark, self.bank["program"]
-        if self.me == 0 and mark and not mark["sealing"]:
-            self.closing.note(None)  # an attempt to close that ended with its service
-        elif self.me == 0 and mark:
-            self.close_task = asyncio.create_task(self.closing.close(program, mark["words"], 0))
-        child = asyncio.create_task(self.child())
+        """Serves a period, until the service ends, or the next one has begun."""
         parts = [asyncio.create_task(part) for part in (
-            self.wires.run(), self.passing.run(), self.closing.follow(), self.tell())]
-        ends = [asyncio.create_task(event.wait()) for event in (self.ends, self.closing.next)]
-        done: set[asyncio.Task[Any]] = set()
-        while not done & {*ends, *parts} and not (child in done and child.exception()):
-            done, _ = await asyncio.wait({*parts, *ends} | (set() if child.done() else {child}),
-                                         return_when=asyncio.FIRST_COMPLETED)
+            self.child(), self.wires.run(), self.passing.run(), self.tell(), self.closing.next.wait(), self.ends.wait())]
+        await asyncio.wait(parts, return_when=asyncio.FIRST_COMPLETED)
         if self.ends.is_set():
-            await self.orderly_end(child)
-        for task in (*parts, *ends, child):
-            task.cancel()
-        for why in await asyncio.gather(*parts, child, return_exceptions=True):
+            until = time.monotonic() + PATIENCE
+            await self.site.stop(PATIENCE)
+            while time.monotonic() < until and (self.wires.unconfirmed() or not self.closing.ended.is_set()):
+                await asyncio.sleep(0.02)
+            self.wires.save()
+        for part in parts:
+            part.cancel()
+        for why in await asyncio.gather(*parts, return_exceptions=True):
             if isinstance(why, Exception):
                 raise why
         return not self.ends.is_set()
-
-    async def orderly_end(self, child: asyncio.Task[None]) -> None:
-        until = time.monotonic() + PATIENCE
-        await self.site.stop(PATIENCE)
-        while self.wires.unconfirmed() and time.monotonic() < until:
-            await asyncio.sleep(0.02)
-        self.wires.save()
-        await asyncio.wait({child}, timeout=PATIENCE)
 
     async def run(self) -> None:
         for number in signal.SIGTERM, signal.SIGINT:
@@ -383,10 +345,9 @@ class Service:
         await web.TCPSite(runner, self.bank.get("listen", self.host), int(self.port), shutdown_timeout=1,
                           backlog=1024).start()
         try:
-            log.info("%s, site %s at %s", self.period.name, self.me, self.urls[self.me])
+            log.info("site %s at %s", self.me, self.urls[self.me])
             while await self.serve():
                 self.open_period()
-                log.info("%s begins", self.period.name)
         finally:
             for listener in list(self.listeners):
                 self.listeners.discard(listener)

@@ -43,9 +43,9 @@ class Asked:
 
 
 class Site:
-    def __init__(self, words: list[str], journal: str, config: Json, view: View,
+    def __init__(self, words: list[str], name: str, journal: str, config: Json, view: View,
                  send: Callable[[int, list[Json]], None], confirmed: int) -> None:
-        self.words, self.journal, self.config = [*words, "--journal", journal], journal, config
+        self.words, self.name, self.journal, self.config = [*words, "--journal", journal], name, journal, config
         self.view, self.send = view, send
         self.entries = 0  # of the journal, as far as it is answered
         self.told = confirmed  # the entries, from the first on, whose messages were handed on
@@ -93,8 +93,8 @@ class Site:
         self.given.clear()
         self.recent = None
         pipe = asyncio.subprocess.PIPE
-        process = await asyncio.create_subprocess_exec(*self.words, stdin=pipe, stdout=pipe, stderr=pipe)
-        self.process = process
+        self.process = process = await asyncio.create_subprocess_exec(*self.words, "--bank", self.name, stdin=pipe,
+                                                                      stdout=pipe, stderr=pipe)
         giver = asyncio.create_task(self.give(process))
         try:
             await self.hear(process)
@@ -178,14 +178,13 @@ class Site:
 
     # ---- its end
 
-    async def stop(self, patience: float) -> None:
+    async def stop(self, patience: float = float("inf")) -> None:
         """Ends the child at the end of its input, once it has answered what it was asked."""
-        loop = asyncio.get_running_loop()
-        until = loop.time() + patience
-        while (self.waiting or self.given) and loop.time() < until and not self.is_sealed:
+        until = asyncio.get_running_loop().time() + patience
+        while (self.waiting or self.given) and not self.is_sealed and asyncio.get_running_loop().time() < until:
             await asyncio.sleep(0.01)
         self.stopping = True
-        if self.process and self.process.stdin and self.process.returncode is None:
+        if self.process and self.process.stdin:
             self.process.stdin.close()
 
     def size(self) -> int:

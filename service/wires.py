@@ -106,7 +106,7 @@ class Wires:
 
     async def session(self, url: str, connection: AbstractConnection) -> None:
         gone: asyncio.Future[BaseException | None] = asyncio.get_running_loop().create_future()
-        connection.close_callbacks.add(lambda _, why=None: gone.done() or gone.set_result(why))
+        connection.close_callbacks.add(lambda _, why=None: None if gone.done() else gone.set_result(why))
         coming, going, looking = [await connection.channel(on_return_raises=True) for _ in range(3)]
         await coming.set_qos(prefetch_count=PREFETCH)
         for pair in self.pairs():  # both ends make both queues, so nothing is published if there is none
