@@ -63,9 +63,9 @@ class Clients:
 
     def may(self, request: web.Request) -> set[str]:
         """What the client of a request may do: anything, if no token is configured. Each token is compared whole."""
-        given = hashlib.sha256(request.headers.get("Authorization", "").removeprefix("Bearer ").encode()).digest()
-        found = [row["may"] for row in self.rows.values()
-                 if hmac.compare_digest(hashlib.sha256(row["token"].encode()).digest(), given)]
+        given = request.headers.get("Authorization", "").removeprefix("Bearer ").encode(errors="surrogateescape")
+        found = [row["may"] for row in self.rows.values() if hmac.compare_digest(digest(row["token"].encode()),
+                                                                                digest(given))]
         if self.rows and not found:
             raise No(401, "a token is wanted: Authorization: Bearer ...")
         return set(found[0]) if found else {*MAY.values(), *PATHS.values()}
@@ -153,9 +153,9 @@ class Service:
         verbs = event.keys() - {"id", "bank"} if isinstance(event, dict) else set()
         if len(verbs) != 1 or not verbs <= MAY.keys():
             raise No(400, "an event is an object with one of " + ", ".join(MAY))
-        if key is not None and event.setdefault("id", key) != key:
-            raise No(400, "the event has another id than its Idempotency-Key")
         verb, = verbs
+        if key is not None and MAY[verb] != "read" and event.setdefault("id", key) != key:
+            raise No(400, "the event has another id than its Idempotency-Key")
         parts = event[verb] if verb == "batch" and isinstance(event[verb], list) else []
         wanted = {MAY[verb], *(MAY["cancel"] for part in parts if isinstance(part, dict) and "cancel" in part)}
         if not wanted <= may:
@@ -354,6 +354,10 @@ class Service:
                 if not listener.full():
                     listener.put_nowait("{}")
             await runner.cleanup()
+
+
+def digest(token: bytes) -> bytes:
+    return hashlib.sha256(token).digest()
 
 
 def parsed(text: bytes) -> Any:

@@ -93,8 +93,8 @@ class Site:
         self.given.clear()
         self.recent = None
         pipe = asyncio.subprocess.PIPE
-        self.process = process = await asyncio.create_subprocess_exec(*self.words, "--bank", self.name, stdin=pipe,
-                                                                      stdout=pipe, stderr=pipe)
+        self.process = process = await asyncio.create_subprocess_exec(
+            *self.words, "--bank", self.name, "--resend", "0", stdin=pipe, stdout=pipe, stderr=pipe)
         giver = asyncio.create_task(self.give(process))
         try:
             await self.hear(process)

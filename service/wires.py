@@ -145,13 +145,15 @@ class Wires:
             await self.more[site].wait()
 
     async def receive(self, channel: AbstractChannel, site: int) -> None:
-        """Gives the site what another one sent, and acknowledges what it has answered."""
-        async with (await self.queue(channel, site, self.me)).iterator() as deliveries:
-            async for delivery in deliveries:
-                await self.take(delivery.body)
-                await delivery.ack()
-                self.lag[site] = max(0.0, time.time() - float(delivery.message_id or "inf"))
-        raise ConnectionError("the queue gives no more")
+        """Gives the site what another one sent, and acknowledges what it has answered. The consumer ends with its
+        channel alone: if it were cancelled first, the next one would be given later messages before those of here."""
+        deliveries: asyncio.Queue[AbstractIncomingMessage] = asyncio.Queue()
+        await (await self.queue(channel, site, self.me)).consume(deliveries.put, timeout=PATIENCE)
+        while True:
+            delivery = await deliveries.get()
+            await self.take(delivery.body)
+            await delivery.ack()
+            self.lag[site] = max(0.0, time.time() - float(delivery.message_id or "inf"))
 
     async def take(self, body: bytes) -> None:
         """Has the site answer each message of a delivery. One that finds no place is given again, until it does."""
@@ -196,12 +198,14 @@ class Wires:
         for sender, receiver in self.pairs() if self.closed else []:
             await channel.queue_delete(f"{self.closed}.{sender}.{receiver}", timeout=PATIENCE)
         while True:
+            await asyncio.sleep(1)
             for site in self.others:
-                queue = await self.queue(channel, site, self.me, passive=True)
-                self.depth[site] = queue.declaration_result.message_count or 0
+                found = (await self.queue(channel, site, self.me, passive=True)).declaration_result
+                self.depth[site] = found.message_count or 0
+                if not found.consumer_count:
+                    raise ConnectionError("a queue has no consumer: its channel is gone")
             if self.site.starts:
                 self.save()
-            await asyncio.sleep(1)
 
     async def talk(self, channel: AbstractChannel) -> None:
         """Says where this service is once a second, and at once if there is news, and hears the others."""

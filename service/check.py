@@ -1,0 +1,450 @@
+#!/usr/bin/env python3
+"""Checks the parts of a service one by one, over the program.
+
+usage: check.py PROGRAM             the child, its end at any moment, the token, closing: wants no package
+       check.py --http PROGRAM      HTTP as well, which wants aiohttp and aio-pika, but no broker
+       check.py --broker PROGRAM    and the queues of one node of the broker
+
+It prints what is otherwise than it has to be, and ends in status 1 then; in 77 if a package is missing.
+"""
+from __future__ import annotations
+
+import asyncio
+import contextlib
+import http.client
+import json
+import logging
+import os
+import signal
+import subprocess
+import sys
+import tempfile
+import time
+from collections.abc import AsyncIterator, Awaitable, Callable
+from typing import Any
+
+sys.dont_write_bytecode = True
+HERE = os.path.dirname(os.path.abspath(__file__))
+sys.path[:0] = [HERE, os.path.join(HERE, "..", "examples", "tools")]
+import bank
+import cluster
+from closing import Closing, Period, last_period, requests_of
+from passing import HOLD, Passing, lacks
+import site_child
+from site_child import Fault, Site
+from view import Json, View
+
+PROGRAM, NAME = os.path.abspath(sys.argv[-1]), "b.0001"
+CONFIG = {"accounts": [["ann", 1000], ["bob", 0]], "sites": 2, "version": 1}
+PATIENCE = 120  # seconds for anything
+PROBLEMS: list[str] = []
+
+
+def same(what: str, found: Any, wanted: Any) -> None:
+    if found != wanted:
+        PROBLEMS.append(f"{what}\n  found  {str(found)[:600]}\n  wanted {str(wanted)[:600]}")
+
+
+class Running:
+    """A site with its view, what it handed on, and the task that runs it."""
+
+    def __init__(self, folder: str, me: int = 0, confirmed: int = 0) -> None:
+        self.sent: list[Json] = []
+        self.view = View(CONFIG, me)
+        self.site = Site([PROGRAM, "site", "--me", str(me)], NAME, os.path.join(folder, f"0001.{me}.journal"), CONFIG,
+                         self.view, lambda entry, messages: self.sent.extend(messages), confirmed)
+        self.task = asyncio.create_task(self.site.run())
+
+    async def ask(self, *events: Json) -> list[Json]:
+        return list(await asyncio.wait_for(asyncio.gather(*map(self.site.ask, events)), PATIENCE))
+
+    async def replies(self, *events: Json) -> list[Json]:
+        return [answer.get("reply", answer) for answer in await self.ask(*events)]
+
+    def names(self) -> list[str]:
+        return [message["shadow"]["name"] for message in self.sent if "shadow" in message]
+
+    async def end(self) -> None:
+        await self.site.stop()
+        await asyncio.wait_for(self.task, PATIENCE)
+
+
+@contextlib.asynccontextmanager
+async def site(folder: str, me: int = 0, confirmed: int = 0, new: bool = True) -> AsyncIterator[Running]:
+    """A site on its journal, which is made if there is none."""
+    if new:
+        open(os.path.join(folder, f"0001.{me}.journal"), "ab").close()
+    running = Running(folder, me, confirmed)
+    try:
+        yield running
+    finally:
+        await running.end()
+
+
+def entries(folder: str, me: int = 0) -> list[Json]:
+    with open(os.path.join(folder, f"0001.{me}.journal")) as file:
+        return [json.loads(line) for line in file if line.startswith("{")][1:]
+
+
+# ---- the child
+
+
+async def lines(folder: str) -> None:
+    """Ids, other banks, lines that are no events; and that none of them ends the site."""
+    deposit = {"deposit": ["ann", 500], "id": "a-1"}
+    async with site(folder) as one:
+        first, again, other = await one.ask(deposit, deposit, deposit | {"deposit": ["ann", 501]})
+        same("a request by its id", first["reply"], {"kind": "deposit", "name": "B0.1"})
+        same("asked again", (again.get("again"), again["reply"]), (True, first["reply"]))
+        same("another request of the id", other["reply"], {"refused": 25})
+        shadow = first["sends"][0] | {"shadow": first["sends"][0]["shadow"] | {"home": 1, "name": "B1.1"}}
+        same("messages of another bank, of none, and of this one",
+             await one.replies(shadow | {"bank": "b.0002"}, {"shadow": shadow["shadow"]}, shadow),
+             [{"refused": 26}, {"refused": 26}, {"held": "B1.1"}])
+        same("lines that are no events", await one.ask({"deposit": "ann"}, {"x": 1}, {"deposit": ["a" * 2**20, 1]}),
+             [{"bad": "line", "line": 11}, {"bad": "line", "line": 12}, {"bad": "long", "line": 13}])
+        same("and after them", await one.replies({"balance": "ann"}), [{"balance": 2000}])
+        same("messages that were handed on", one.names(), ["B0.1"])
+        about = (await one.replies({"about": "site"}))[0]["about"]
+        same("entries", (one.site.entries, one.site.told), (about["entries"], about["entries"]))
+    same("entries in the journal", len(entries(folder)), 3)
+
+
+async def kills(folder: str) -> None:
+    """A child is killed over and over: each request is made once, is answered, and is handed on in order."""
+    async with site(folder) as one:
+        asked = [{"deposit": ["ann", 1 + n]} | ({"id": f"k-{n}"} if n % 2 else {}) for n in range(3000)]
+        site_child.MOST_GIVEN = 100
+        answers, ends, after = asyncio.create_task(one.replies(*asked)), 0, 200
+        while not answers.done():
+            await asyncio.sleep(0.001)
+            if one.site.up and one.site.process and one.site.entries > after:
+                one.site.process.kill()
+                ends, after = ends + 1, after + 400
+                await until("the child ends", lambda: not one.site.up)
+        replies = await answers
+        names = [f"B0.{n}" for n in range(1, 3001)]
+        same("replies", sorted(reply.get("name", "") for reply in replies), sorted(names))
+        about = (await one.replies({"about": "site"}))[0]["about"]
+        same(f"entries after {ends} kills", (about["entries"], one.site.entries), (3000, 3000))
+        same("handed on", list(dict.fromkeys(one.names())), names)
+        if ends < 2:
+            PROBLEMS.append(f"the child was killed {ends} times alone")
+        await one.view.refresh(one.site.ask)
+        same("balance", one.view.balances["ann"], 1000 + 3000 * 3001 // 2)
+        same("the last operations", [one.view.operations[name]["place"] for name in names[-100:]],
+             list(range(2901, 3001)))
+    ids = [entry["id"] for entry in entries(folder)]
+    same("ids in the journal, each once", len(set(ids)), 3000)
+
+
+async def restarts(folder: str) -> None:
+    """A new service: what wasn't confirmed is handed on, and the picture is as before."""
+    events: list[Json] = [{"deposit": ["ann", 5]}, {"withdraw": ["ann", 3]}, {"cancel": "B0.1"}, {"pass": 1}]
+    async with site(folder) as one:
+        await one.ask(*events)
+        sent = one.sent
+        late = {"account": "bob", "amount": 7, "deps": [[0, 1, 0, 0, 0, 0, 0, 0], 0], "home": 1, "kind": "deposit",
+                "name": "B1.2"}
+        await one.ask({"bank": NAME, "shadow": late})
+        before = one.view.shown(list(one.view.operations))
+    for confirmed, wanted in ((0, sent), (2, sent[2:]), (5, [])):
+        async with site(folder, confirmed=confirmed) as one:
+            await one.ask({"balance": "ann"})
+            same(f"sent again if {confirmed} entries are confirmed", one.sent, wanted)
+            same("the picture", {key: one.view.shown(list(one.view.operations))[key] for key in before
+                                 if key != "balances"}, {key: before[key] for key in before if key != "balances"})
+            same("what is held waits for", before["held"][0]["waits"], ["B1.1"])
+
+
+async def faults(folder: str) -> None:
+    """Journals that no site may start on."""
+    async def fault(what: str, text: str, confirmed: int = 0) -> None:
+        running = Running(folder, confirmed=confirmed)
+        try:
+            await asyncio.wait_for(running.task, PATIENCE)
+            PROBLEMS.append(f"{what}: no fault")
+        except Fault as why:
+            same(what, text in str(why), True)
+
+    await fault("no journal", "no journal")
+    async with site(folder) as one:
+        await one.ask({"deposit": ["ann", 5]})
+    await fault("an older copy", "an older copy", confirmed=2)
+    with open(os.path.join(folder, "0001.0.journal"), "r+b") as file:
+        file.write(b'{"accounts":[["zed"')
+    await fault("another bank's journal", "another bank")
+
+
+# ---- the token, and closing
+
+
+async def token(folder: str) -> None:
+    """The token goes round the sites that want it, after a moment, and clients who wait ask again as it comes."""
+    same("for want of the token", [lacks({"reply": reply}) for reply in (
+        {"refused": 8}, {"refused": 9}, {"cause": 8, "refused": 13}, {"cause": 10, "refused": 13}, {"refused": 10},
+        {"cause": "declined", "refused": 13}, {"balance": 8})], [8, 9, 8, None, None, None, None])
+    async with site(folder) as one:
+        passing = Passing(0, 4, one.site, one.view, asyncio.Event())
+        one.site.hears = passing.answered
+        await one.ask({"balance": "ann"})
+        task = asyncio.create_task(passing.run())
+        said = {"applied": [[], 0], "wants": True}
+        for other in (3, 1):
+            passing.hears(said | {"site": other})
+        await until("the token is passed", lambda: not one.view.token["here"])
+        same("to the next that wants it", (one.view.token["to"], set(passing.wanted)), (1, {3}))
+        made = asyncio.create_task(passing.ask(lambda: one.site.ask({"withdraw": ["ann", 1], "id": "w"}), PATIENCE))
+        await until("a client waits, and says so", lambda: passing.waiters == 1 and passing.says()["wants"])
+        await one.ask({"bank": NAME, "token": [2, 0, 0]})
+        begun = time.monotonic()
+        same("it asks again as the token comes", (await made)["reply"], {"kind": "withdraw", "name": "R1"})
+        passing.hears(said | {"site": 1})
+        await until("it is passed on", lambda: not one.view.token["here"])
+        same("not before its moment is over", time.monotonic() - begun > HOLD / 2, True)
+        short = await passing.ask(lambda: one.site.ask({"withdraw": ["ann", 1]}), 0.2)
+        same("a wait has an end", short["reply"], {"refused": 8})
+        passing.hears({"applied": [[[0, 1], [1, 5]], 3], "site": 1, "wants": False})
+        same("behind another site", passing.behind[1], 1 + 5 + 2)
+        task.cancel()
+
+
+async def until(what: str, fact: Callable[[], bool]) -> None:
+    end = time.monotonic() + PATIENCE
+    while not fact():
+        if time.monotonic() > end:
+            PROBLEMS.append(f"not in {PATIENCE} s: {what}")
+            return
+        await asyncio.sleep(0.01)
+
+
+async def closes(folder: str) -> None:
+    """The steps of a closing at a site, each as often as it is asked for."""
+    period = Period(folder, "b", 1)
+    period.begin(0, CONFIG)
+    async with site(folder) as one:
+        closing = Closing(period, one.site, 0)
+        one.task.add_done_callback(lambda _: closing.ended.set())
+        await one.ask({"deposit": ["ann", 5], "id": "last"})
+
+        async def step(step: str, **more: Any) -> Json | str:
+            return await asyncio.wait_for(closing.step({"bank": NAME, "step": step, "words": [], **more}), PATIENCE)
+        same("no seal before clients are stopped", await step("seal"), "clients aren't stopped")
+        for _ in range(2):
+            same("stop", await step("stop"), {"is": "stopped", "applied": [[1] + [0] * 7, 0]})
+        same("by other words", str(await step("stop", words=["--account", "x"]))[:30], "the books are being closed by ")
+        same("a start goes on so", Closing(period, one.site, 0).mark, {"words": []})
+        same("clients are served again", (await step("open"), closing.mark), ({"is": "open"}, None))
+        same("no next before the seal", (await step("stop") and await step("next", config=CONFIG)), "no next now")
+        for _ in range(2):
+            same("seal", await step("seal"), {"is": "seal"})
+        same("sealed", (await step("stop"), await step("open")), ({"is": "sealed"}, "no open now"))
+        with open(period.journal(0), "rb") as file:
+            same("the journal's end", file.read()[-2:], b"\n\t")
+        same("next", (await step("next", config=CONFIG), closing.next.is_set()), ({"is": "next"}, True))
+    following = last_period(folder, "b")
+    same("the next period", following and (following.name, os.path.getsize(following.journal(0))), ("b.0002", 0))
+    same("its past", await Closing(Period(folder, "b", 2), one.site, 0).step({"bank": NAME, "step": "next", "words": []}),
+         {"is": "closed"})
+    same("requests of the closed one", list(requests_of(period.journal(0))), ["last"])
+
+
+def texts(folder: str) -> None:
+    """Each refusal that docs/FORMAT.md lists has its text."""
+    with open(os.path.join(HERE, "refusals.json")) as file:
+        same("refusals", sorted(map(int, json.load(file))), sorted(bank.NUMBERS))
+
+
+# ---- HTTP
+
+
+class Http:
+    """A service of site 0 that has no broker, and what it answers."""
+
+    def __init__(self, folder: str, **keys: Any) -> None:
+        self.port = cluster.free_ports(1)
+        given = {"name": "b", "config": CONFIG, "program": PROGRAM, "folder": folder, "broker": ["amqp://127.0.0.1:1/"],
+                 "http": [f"127.0.0.1:{self.port}", "127.0.0.1:1"], **keys}
+        with open(os.path.join(folder, "bank.json"), "w") as file:
+            json.dump(given, file)
+        self.words = [sys.executable, os.path.join(HERE, "service.py"), os.path.join(folder, "bank.json"), "0"]
+        with open(os.path.join(folder, "log"), "ab") as log:
+            new = [] if os.path.exists(os.path.join(folder, "site0")) else ["--new"]
+            self.process = subprocess.Popen(self.words + new, stderr=log)
+
+    def ask(self, path: str, event: Any = None, **heads: str) -> tuple[int, Any]:
+        """The status and the answer."""
+        connection = http.client.HTTPConnection("127.0.0.1", self.port, timeout=PATIENCE)
+        named = {name.replace("_", "-"): value for name, value in heads.items()}
+        body = event if event is None or isinstance(event, str) else json.dumps(event)
+        kind = {} if event is None else {"Content-Type": "application/json"}
+        connection.request("GET" if event is None else "POST", path, body, kind | named)
+        reply = connection.getresponse()
+        text = reply.read().decode()
+        self.retry = reply.getheader("Retry-After")
+        return reply.status, json.loads(text) if text[:1] in ("{", "[") else text
+
+    def event(self, event: Any, **heads: str) -> tuple[int, Any]:
+        return self.ask("/events", event, **heads)
+
+    def wait(self) -> None:
+        end = time.monotonic() + PATIENCE
+        while time.monotonic() < end:
+            with contextlib.suppress(OSError):
+                if self.ask("/health")[0] == 200:
+                    return
+            time.sleep(0.05)
+
+    def end(self) -> int:
+        self.process.send_signal(signal.SIGTERM)
+        return self.process.wait(PATIENCE)
+
+
+def asks(folder: str) -> None:
+    """What clients are answered."""
+    service = Http(folder)
+    service.wait()
+    made = {"kind": "deposit", "name": "B0.1"}
+    for _ in range(2):
+        same("by a key", service.event({"deposit": ["ann", 5]}, Idempotency_Key="k"), (200, made))
+    same("by an id", service.event({"deposit": ["ann", 5], "id": "k"}), (200, made))
+    same("another by the key", service.event({"deposit": ["ann", 6]}, Idempotency_Key="k")[0], 422)
+    same("two keys", service.event({"deposit": ["ann", 5], "id": "k"}, Idempotency_Key="l")[0], 400)
+    same("no key", service.event({"deposit": ["ann", 5]}, Idempotency_Key="k k")[0], 400)
+    status, replies = service.event([{"deposit": ["ann", 1]}, {"balance": "ann"}], Idempotency_Key="many")
+    same("a list", (status, replies), (200, [{"kind": "deposit", "name": "B0.2"}, {"balance": 1006}]))
+    same("a part of it again", service.event({"deposit": ["ann", 1]}, Idempotency_Key="many.0"), (200, replies[0]))
+    same("a balance", service.ask("/balance/ann"), (200, {"balance": 1006}))
+    same("no account", service.ask("/balance/zed"), (404, {"error": "unknown account", "refused": 1}))
+    same("a statement", service.ask("/statement/ann")[1]["rows"][0][:4], [1, "B0.1", "deposit", 5])
+    same("declined", service.event({"withdraw": ["bob", 1]}), (200, {"kind": "declined", "name": "B0.3"}))
+    same("refused", service.event({"cancel": "B0.9"})[1]["error"], "unknown operation at this site")
+    for bad in ("{", "[[", "7", '{"deposit":["ann"]}', '{"shadow":{}}', '{"token":[1,0,0]}', '{"about":"site"}',
+                '{"apply":"B0.1"}', '{"deposit":["ann",5],"site":0}', '{"deposit":["ann",5],"id":"ü"}', "[" * 100_000):
+        same(f"bad: {bad[:40]}", (service.event(bad)[0], "error" in service.event(bad)[1]), (400, True))
+    same("a form", service.event("x=1", Content_Type="application/x-www-form-urlencoded")[0], 400)
+    same("another page", service.event({"pass": 1}, Origin="http://evil.example")[0], 403)
+    same("another name", service.ask("/state", Host="evil.example")[0], 403)
+    same("the state", [service.ask("/state")[1][key] for key in ("bank", "balances", "unsent")],
+         [NAME, {"ann": 1006, "bob": 0}, {"1": 3}])
+    text = service.ask("/metrics")[1]
+    for line in ('rbbank_events_total{event="deposit"} ', 'rbbank_refusals_total{number="4"} 1', "rbbank_token_here{} 1",
+                 'rbbank_unconfirmed_messages{to="1"} 3', "rbbank_child_restarts_total{} 0", "rbbank_journal_bytes{} "):
+        same(f"metrics have {line}", line in text, True)
+    same("closing", service.ask("/closing", {"bank": NAME, "step": "stop", "words": []})[1]["is"], "stopped")
+    same("clients wait", (service.event({"deposit": ["ann", 5]})[0], service.retry), (503, "1"))
+    same("it ends", service.end(), 0)
+    with open(os.path.join(folder, "site0", "0001.confirmed")) as file:
+        same("nothing was confirmed", file.read(), "0\n")
+
+
+def tokens(folder: str) -> None:
+    """Who may do what."""
+    path = os.path.join(folder, "tokens.json")
+    with open(path, "w") as file:
+        json.dump({"till": {"token": "t1", "may": ["ask", "read"]}, "officer": {"token": "t2", "may": ["cancel"]}}, file)
+    alone = Http(folder, http=["0.0.0.0:1", "127.0.0.1:1"])
+    same("without tokens it listens on loopback alone", alone.process.wait(PATIENCE), 2)
+    service = Http(folder, tokens=path)
+    service.wait()
+    till, officer = {"Authorization": "Bearer t1"}, {"Authorization": "Bearer t2"}
+    same("no token", [service.ask(path)[0] for path in ("/state", "/balance/ann", "/metrics", "/live", "/journal")],
+         [401] * 5)
+    same("no such token", [service.event({"deposit": ["ann", 1]}, Authorization=f"Bearer {it}")[0]
+                           for it in ("", "t", "t11", "T1", "é")], [401] * 5)
+    same("a till asks", service.event({"deposit": ["ann", 1]}, **till)[0], 200)
+    same("and cancels nothing", service.event({"cancel": "B0.1"}, **till), (403, {"error": "this client may not cancel"}))
+    same("nor in a batch", service.event({"batch": [{"cancel": "B0.1"}]}, **till)[0], 403)
+    same("nor closes", service.ask("/closing", {"bank": NAME, "step": "stop", "words": []}, **till)[0], 403)
+    same("an officer cancels", service.event({"cancel": "B0.1"}, **officer)[0], 200)
+    same("and reads nothing", service.ask("/balance/ann", **officer)[0], 403)
+    same("anyone may ask for its health", service.ask("/health")[0], 200)
+    same("it ends", service.end(), 0)
+
+
+# ---- the broker
+
+
+async def queues(folder: str) -> None:
+    """A queue gives what it has in order, to one at a time; and what it has confirmed is counted."""
+    import aio_pika
+    from wires import Wires
+    broker = cluster.Cluster(folder, PATIENCE)
+    try:
+        broker.start(0)
+        await asyncio.to_thread(broker.wait, 0)
+
+        class Pretended:
+            """A site that notes what it is asked, and answers once it may."""
+
+            def __init__(self) -> None:
+                self.view, self.told, self.starts, self.up = View(CONFIG, 1), 7, 1, asyncio.Event()
+                self.asked: list[str] = []
+
+            def ask(self, event: Json) -> Awaitable[Json]:
+                self.asked.append(event["shadow"]["name"])
+                return asyncio.ensure_future(self.answer())
+
+            async def answer(self) -> Json:
+                await self.up.wait()
+                return {"reply": {"held": "B0.1"}}
+
+        def wires(me: int) -> tuple[Wires, Any]:
+            made, pretended = Wires(me, 2, broker.urls()[:1], NAME, None, os.path.join(folder, f"{me}.c")), Pretended()
+            made.site = pretended  # type: ignore[assignment]
+            made.says, made.hears = (lambda: {}), (lambda said: None)
+            return made, pretended
+
+        async def connected(one: Wires, task: asyncio.Task[Any]) -> None:
+            await until("connected", lambda: bool(one.url))
+        sender, _ = wires(0)
+        names = [f"B0.{n}" for n in range(1, 41)]
+        for entry, name in enumerate(names):
+            sender.send(entry, [{"shadow": {"name": name}}])
+        same("confirmed before there is a broker", sender.confirmed(), 0)
+        first, slow = wires(1)
+        second, late = wires(1)
+        tasks = [asyncio.create_task(first.run())]
+        await connected(first, tasks[0])
+        await until("it consumes", lambda: True)
+        import wires as module
+        module.MOST_LINES = 1  # a message of the broker for each
+        tasks.append(asyncio.create_task(sender.run()))
+        await until("the first is asked", lambda: bool(slow.asked))
+        await until("all is confirmed", lambda: sender.confirmed() == 7 and not sender.unconfirmed())
+        tasks.append(asyncio.create_task(second.run()))
+        await connected(second, tasks[2])
+        await asyncio.sleep(1)
+        same("a second consumer waits", late.asked, [])
+        tasks[0].cancel()
+        late.up.set()
+        await until("the second has all", lambda: len(late.asked) >= len(names))
+        same("in order", late.asked, names)
+        for task in tasks:
+            task.cancel()
+        await asyncio.gather(*tasks, return_exceptions=True)
+    finally:
+        broker.stop()
+
+
+def main() -> int:
+    word = sys.argv[1] if len(sys.argv) == 3 else ""
+    if len(sys.argv) not in (2, 3) or word not in ("", "--http", "--broker") or not os.access(PROGRAM, os.X_OK):
+        print(__doc__)
+        return 2
+    logging.disable(logging.CRITICAL)
+    checks: list[Any] = [lines, kills, restarts, faults, token, closes, texts]
+    if word:
+        cluster.check_packages()
+        checks += [asks, tokens] + ([queues] if word == "--broker" else [])
+    for check in checks:
+        with tempfile.TemporaryDirectory(prefix="check-") as folder:
+            done = check(folder)
+            if done is not None:
+                asyncio.run(done)
+    print("\n".join(PROBLEMS) or f"{len(checks)} checks: " + ", ".join(check.__name__ for check in checks))
+    return 1 if PROBLEMS else 0
+
+
+if __name__ == "__main__":
+    sys.exit(main())
