@@ -34,6 +34,13 @@ help:
 	@echo '  make wires         sites over pipes, 20,000 deposits each at once, one of them stopped for a while'
 	@echo '  make broker        three sites over the message broker mosquitto, if it is installed'
 	@echo '  make play-test     the page of make play, used in a browser, and its mutants; wants chromium (play/README.md)'
+	@echo
+	@echo 'As a service (service/README.md):'
+	@echo '  make service-setup installs what it wants, by apt-get: RabbitMQ, aiohttp, aio-pika'
+	@echo '  make service       three nodes of the broker and three sites with HTTP on this machine'
+	@echo '  make service-test  its parts killed for SECONDS=60, SEEDS=1 times; SEED=7 makes the same choices again'
+	@echo '  make service-mutants'
+	@echo '                     changes of the service that its tests have to catch; an hour'
 
 # The stored run, drawn, each command beside its reply.
 demo:
@@ -154,6 +161,29 @@ wires: build
 # Three sites over mosquitto.
 broker: build
 	@examples/broker/three_sites.sh crates/rbbank/out/rbbank
+
+# The bank as a service. Debian's packages are those of its own Python, if no other is given. What is missing is said,
+# and ends it in a status.
+SERVICE_PYTHON = $(if $(filter file,$(origin PYTHON)),/usr/bin/python3,$(PYTHON))
+SERVICE_PROGRAM = crates/rbbank/out/rbbank
+SECONDS ?= 60
+SEEDS ?= 1
+service-setup:
+	apt-get install -y rabbitmq-server python3-aiohttp python3-aio-pika
+
+service:
+	@test -x $(SERVICE_PROGRAM) || { echo 'there is no program yet: make build'; exit 1; }
+	@$(SERVICE_PYTHON) service/cluster.py $(SERVICE_PROGRAM)
+
+service-test:
+	@test -x $(SERVICE_PROGRAM) || { echo 'there is no program yet: make build'; exit 1; }
+	@$(SERVICE_PYTHON) service/check.py --broker $(SERVICE_PROGRAM)
+	@$(SERVICE_PYTHON) service/chaos.py $(SERVICE_PROGRAM) --seconds $(SECONDS) --seeds $(SEEDS) \
+		$(if $(SEED),--seed $(SEED))
+
+service-mutants:
+	@test -x $(SERVICE_PROGRAM) || { echo 'there is no program yet: make build'; exit 1; }
+	@$(SERVICE_PYTHON) service/mutants.py $(SERVICE_PROGRAM)
 
 # Each allocation of the program and of five tests refused in turn (docs/CHANGING.md, "Beside the gate"); it wants cc.
 refuse: build

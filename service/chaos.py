@@ -442,15 +442,21 @@ def tried(asked: argparse.Namespace, seed: int, folder: str) -> str:
     finally:
         bank.stop()
         broker.stop()
-    operations, entries = look(run, balances)
+    return said(run, balances, drained, *look(run, balances), f"seed {seed}, inbox {inbox}")
+
+
+def said(run: Run, balances: Json, drained: float, operations: int, entries: int, what: str) -> str:
+    """What happened in a run, in words."""
     count = run.count
-    return (f"seed {seed}: {len(run.told):,} requests of {asked.clients} clients in {run.period} periods, inbox {inbox}:"
-            f" each in the journals once, as it was answered\n  {count['children']} children, {count['services']} "
-            f"services and {count['nodes']} nodes of the broker killed, {count['held']} services held;"
-            f" {count['replies lost']:,} replies lost,\n  {count['told to wait']:,} told to wait, {count['asked twice']:,}"
-            f" asked twice; {count['closings killed']} closings killed, {count['closings given up']} given up; the longest"
-            f" wait {run.slowest:.1f} s\n  drained in {drained:.1f} s;"
-            f" all sites have {compact(balances)}\n  after {operations:,} operations; the audits order {entries:,} entries")
+    return (f"{what}: {len(run.told):,} requests of {run.asked.clients} clients in {run.period} periods,"
+            f" each in the journals once, as it was answered\n"
+            f"  {count['children']} children, {count['services']} services and {count['nodes']} nodes of the broker"
+            f" killed, {count['held']} services held; {count['closings killed']} closings killed,"
+            f" {count['closings given up']} given up\n"
+            f"  {count['replies lost']:,} replies lost, {count['told to wait']:,} clients sent away to wait,"
+            f" {count['asked twice']:,} asked twice; the longest wait {run.slowest:.1f} s\n"
+            f"  drained in {drained:.1f} s; all sites have {compact(balances)}\n"
+            f"  after {operations:,} operations; the audits order {entries:,} entries")
 
 
 def options() -> argparse.Namespace:

@@ -185,7 +185,7 @@ async def token(folder: str) -> None:
         {"refused": 8}, {"refused": 9}, {"cause": 8, "refused": 13}, {"cause": 10, "refused": 13}, {"refused": 10},
         {"cause": "declined", "refused": 13}, {"balance": 8})], [8, 9, 8, None, None, None, None])
     async with site(folder) as one:
-        passing = Passing(0, 4, one.site, one.view, asyncio.Event())
+        passing = Passing(0, 4, one.site, one.view, asyncio.Event(), lambda: True)
         one.site.hears = passing.answered
         await one.ask({"balance": "ann"})
         task = asyncio.create_task(passing.run())
@@ -244,8 +244,8 @@ async def closes(folder: str) -> None:
         same("next", (await step("next", config=CONFIG), closing.next.is_set()), ({"is": "next"}, True))
     following = last_period(folder, "b")
     same("the next period", following and (following.name, os.path.getsize(following.journal(0))), ("b.0002", 0))
-    same("its past", await Closing(Period(folder, "b", 2), one.site, 0).step({"bank": NAME, "step": "next", "words": []}),
-         {"is": "closed"})
+    past = await Closing(Period(folder, "b", 2), one.site, 0).step({"bank": NAME, "step": "next", "words": []})
+    same("its past", past, {"is": "closed"})
     same("requests of the closed one", list(requests_of(period.journal(0))), ["last"])
 
 
@@ -319,8 +319,10 @@ def asks(folder: str) -> None:
     same("a statement", service.ask("/statement/ann")[1]["rows"][0][:4], [1, "B0.1", "deposit", 5])
     same("declined", service.event({"withdraw": ["bob", 1]}), (200, {"kind": "declined", "name": "B0.3"}))
     same("refused", service.event({"cancel": "B0.9"})[1]["error"], "unknown operation at this site")
-    for bad in ("{", "[[", "7", '{"deposit":["ann"]}', '{"shadow":{}}', '{"token":[1,0,0]}', '{"about":"site"}',
-                '{"apply":"B0.1"}', '{"deposit":["ann",5],"site":0}', '{"deposit":["ann",5],"id":"ü"}', "[" * 100_000):
+    same("no path", service.ask("/zed"), (404, {"error": "Not Found"}))
+    for bad in ("{", "[[", "7", '{"deposit":["ann",5],"id":[]}', '{"deposit":["ann"]}', '{"shadow":{}}',
+                '{"token":[1,0,0]}', '{"about":"site"}', '{"apply":"B0.1"}', '{"deposit":["ann",5],"site":0}',
+                '{"deposit":["ann",5],"id":"ü"}', "[" * 100_000):
         same(f"bad: {bad[:40]}", (service.event(bad)[0], "error" in service.event(bad)[1]), (400, True))
     same("a form", service.event("x=1", Content_Type="application/x-www-form-urlencoded")[0], 400)
     same("another page", service.event({"pass": 1}, Origin="http://evil.example")[0], 403)
@@ -328,8 +330,9 @@ def asks(folder: str) -> None:
     same("the state", [service.ask("/state")[1][key] for key in ("bank", "balances", "unsent")],
          [NAME, {"ann": 1006, "bob": 0}, {"1": 3}])
     text = service.ask("/metrics")[1]
-    for line in ('rbbank_events_total{event="deposit"} ', 'rbbank_refusals_total{number="4"} 1', "rbbank_token_here{} 1",
-                 'rbbank_unconfirmed_messages{to="1"} 3', "rbbank_child_restarts_total{} 0", "rbbank_journal_bytes{} "):
+    for line in ('rbbank_events_total{event="deposit"} ', 'rbbank_refusals_total{number="4"} 1',
+                 "rbbank_token_here{} 1", 'rbbank_unconfirmed_messages{to="1"} 3', "rbbank_child_restarts_total{} 0",
+                 "rbbank_journal_bytes{} "):
         same(f"metrics have {line}", line in text, True)
     same("closing", service.ask("/closing", {"bank": NAME, "step": "stop", "words": []})[1]["is"], "stopped")
     same("clients wait", (service.event({"deposit": ["ann", 5]})[0], service.retry), (503, "1"))
@@ -342,7 +345,8 @@ def tokens(folder: str) -> None:
     """Who may do what."""
     path = os.path.join(folder, "tokens.json")
     with open(path, "w") as file:
-        json.dump({"till": {"token": "t1", "may": ["ask", "read"]}, "officer": {"token": "t2", "may": ["cancel"]}}, file)
+        json.dump({"officer": {"may": ["cancel"], "token": "t2"}, "till": {"may": ["ask", "read"], "token": "t1"}},
+                  file)
     alone = Http(folder, http=["0.0.0.0:1", "127.0.0.1:1"])
     same("without tokens it listens on loopback alone", alone.process.wait(PATIENCE), 2)
     service = Http(folder, tokens=path)
@@ -353,7 +357,8 @@ def tokens(folder: str) -> None:
     same("no such token", [service.event({"deposit": ["ann", 1]}, Authorization=f"Bearer {it}")[0]
                            for it in ("", "t", "t11", "T1", "é")], [401] * 5)
     same("a till asks", service.event({"deposit": ["ann", 1]}, **till)[0], 200)
-    same("and cancels nothing", service.event({"cancel": "B0.1"}, **till), (403, {"error": "this client may not cancel"}))
+    same("and cancels nothing", service.event({"cancel": "B0.1"}, **till),
+         (403, {"error": "this client may not cancel"}))
     same("nor in a batch", service.event({"batch": [{"cancel": "B0.1"}]}, **till)[0], 403)
     same("nor closes", service.ask("/closing", {"bank": NAME, "step": "stop", "words": []}, **till)[0], 403)
     same("an officer cancels", service.event({"cancel": "B0.1"}, **officer)[0], 200)

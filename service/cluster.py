@@ -175,7 +175,8 @@ class Bank:
         self.bank["config"] |= keys
         self.sites, self.folder = self.bank["config"]["sites"], folder
         self.http = [f"127.0.0.1:{cluster.base + 20 + site}" for site in range(self.sites)]
-        self.bank |= {"broker": cluster.urls(), "folder": folder, "http": self.http, "program": os.path.abspath(program)}
+        self.bank |= {"broker": cluster.urls(), "folder": folder, "http": self.http,
+                      "program": os.path.abspath(program)}
         self.file = os.path.join(folder, "bank.json")
         self.running: list[subprocess.Popen[bytes] | None] = [None] * self.sites
         with open(self.file, "w") as file:

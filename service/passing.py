@@ -27,12 +27,13 @@ def lacks(answer: Json) -> int | None:
 
 
 class Passing:
-    def __init__(self, me: int, sites: int, site: Site, view: View, news: asyncio.Event) -> None:
-        self.me, self.sites, self.site, self.view, self.news = me, sites, site, view, news
-        self.waiters, self.passes, self.since = 0, True, 0.0
+    def __init__(self, me: int, sites: int, site: Site, view: View, news: asyncio.Event,
+                 passes: Callable[[], bool]) -> None:
+        self.me, self.sites, self.site, self.view, self.news, self.passes = me, sites, site, view, news, passes
+        self.waiters, self.since = 0, 0.0
         self.wanted: dict[int, float] = {}  # by other site: when it said last that it wants the token
         self.behind: dict[int, int] = {}  # by other site: what it said it applied, and this one hasn't
-        self.moved = {number: asyncio.Event() for number in LACKS_TOKEN}  # set, and made anew, if it may be otherwise now
+        self.moved = {number: asyncio.Event() for number in LACKS_TOKEN}  # set, and made anew, as a refusal may end
 
     def says(self) -> Json:
         applied = [[*sorted(self.view.blue.items())], self.view.red]
@@ -85,7 +86,7 @@ class Passing:
             await asyncio.sleep(0.02)
             now = time.monotonic()
             wanting = [site for site, heard in self.wanted.items() if now < heard + HEARD]
-            if self.passes and wanting and self.view.token["here"] and now >= self.since + HOLD:
+            if wanting and self.passes() and self.view.token["here"] and now >= self.since + HOLD:
                 to = min(wanting, key=lambda site: (site - self.me) % self.sites)
                 del self.wanted[to]
                 await asyncio.shield(self.site.ask({"pass": to}))

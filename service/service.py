@@ -104,8 +104,9 @@ class Service:
         words = [self.bank["program"], "site", "--me", str(me)]
         self.site = Site(words, period.name, period.journal(me), config, self.view, self.wires.send,
                          self.wires.saved())
-        self.passing = Passing(me, config["sites"], self.site, self.view, self.wires.news)
         self.closing = Closing(period, self.site, me)
+        self.passing = Passing(me, config["sites"], self.site, self.view, self.wires.news,
+                               lambda: not self.closing.mark)
         log.info("%s", period.name)
         self.site.hears, self.wires.site = self.passing.answered, self.site
         self.wires.says, self.wires.hears = self.passing.says, self.passing.hears
@@ -118,7 +119,8 @@ class Service:
             raise No(503, "the service ends")
         if self.closing.mark:
             raise No(503, f"the books of {self.period.name} are being closed")
-        if len(self.site.waiting) > MOST_WAITING or self.wires.unconfirmed() > MOST_UNCONFIRMED:
+        if len(self.site.waiting) + self.passing.waiters > MOST_WAITING or (
+                self.wires.unconfirmed() > MOST_UNCONFIRMED):
             raise No(503, "too much waits")
         return self.site.ask(event)
 
@@ -160,11 +162,12 @@ class Service:
         wanted = {MAY[verb], *(MAY["cancel"] for part in parts if isinstance(part, dict) and "cancel" in part)}
         if not wanted <= may:
             raise No(403, f"this client may not {', '.join(sorted(wanted - may))}")
-        return event
+        found: Json = event
+        return found
 
     def known(self, event: Json) -> tuple[int, Json] | None:
         """The answer to a request that was made in the period before, unless this one is said to be meant."""
-        line = self.earlier.get(event.get("id", ""))
+        line = self.earlier.get(str(event.get("id")))
         if line is None or event.get("bank") == self.period.name:
             return None
         entry: Json = json.loads(line)
@@ -253,8 +256,9 @@ class Service:
         return self.says(200 if good else 503, {
             "applied": self.view.applied, "bank": self.period.name, "behind": sum(self.passing.behind.values()),
             "broker": bool(self.wires.url), "child": child, "closing": self.closing.mark is not None,
-            "entries": site.entries, "given": len(site.given), "held": len(self.view.held), "site": self.me, "up": site.up,
-            "unread": sum(self.wires.depth.values()), "unsent": self.wires.unconfirmed(), "waiting": len(site.waiting)})
+            "entries": site.entries, "given": len(site.given), "held": len(self.view.held), "site": self.me,
+            "unread": sum(self.wires.depth.values()), "unsent": self.wires.unconfirmed(), "up": site.up,
+            "waiting": len(site.waiting)})
 
     async def metrics(self, request: web.Request) -> web.Response:
         text = metrics.text(self.me, self.site, self.wires, self.view, self.passing, self.statuses)
@@ -297,6 +301,8 @@ class Service:
             response = web.Response() if request.method == "OPTIONS" else await handler(request)
         except No as why:
             response = self.says(why.args[0], {"error": why.args[1]})
+        except web.HTTPException as why:
+            response = self.says(why.status, {"error": why.reason})
         if not response.prepared:
             self.allow(request, response)
         return response
@@ -307,8 +313,7 @@ class Service:
             web.post("/events", self.post), web.get("/{verb:balance|statement}/{account}", self.question),
             web.get("/state", self.state), web.get("/live", self.live), web.get("/health", self.health),
             web.get("/metrics", self.metrics), web.get("/peers", self.peers), web.get("/", self.console),
-            web.post("/closing", self.step), web.get("/journal", self.journal),
-            web.options("/{any:.*}", self.console)])
+            web.post("/closing", self.step), web.get("/journal", self.journal)])
         return app
 
     async def child(self) -> None:
@@ -321,8 +326,8 @@ class Service:
 
     async def serve(self) -> bool:
         """Serves a period, until the service ends, or the next one has begun."""
-        parts = [asyncio.create_task(part) for part in (
-            self.child(), self.wires.run(), self.passing.run(), self.tell(), self.closing.next.wait(), self.ends.wait())]
+        parts = [asyncio.create_task(part) for part in (self.child(), self.wires.run(), self.passing.run(), self.tell(),
+                                                        self.closing.next.wait(), self.ends.wait())]
         await asyncio.wait(parts, return_when=asyncio.FIRST_COMPLETED)
         if self.ends.is_set():
             until = time.monotonic() + PATIENCE

@@ -129,8 +129,8 @@ class Site:
         """Asks a new child where the site is, and for the messages that weren't handed on."""
         about = (await self.own(process, {"about": "site"}))["reply"]["about"]
         if about["entries"] < max(self.entries, self.told):
-            raise Fault(f"the journal has {about['entries']} entries, and {max(self.entries, self.told)} were reported: "
-                        "an older copy?")
+            raise Fault(f"the journal has {about['entries']} entries, and {max(self.entries, self.told)} were reported:"
+                        " an older copy?")
         self.entries, self.recent = about["entries"], []
         await self.own(process, {"resend": min(RECENT, self.entries)})
         self.view.begin(about, self.journal, self.recent)

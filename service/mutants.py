@@ -1,0 +1,145 @@
+#!/usr/bin/env python3
+"""Tries mutants of the service: each change below, on a copy, has to be caught by check.py or chaos.py.
+
+usage: mutants.py PROGRAM [NAME]..
+
+The checks pass without a change first. Where packages are missing it says so, and ends in status 77.
+"""
+from __future__ import annotations
+
+import os
+import shutil
+import subprocess
+import sys
+import tempfile
+from typing import NamedTuple
+
+sys.dont_write_bytecode = True
+import cluster
+
+PATIENCE = 1500  # seconds, after which a check has caught what it doesn't end by
+CHECK, HTTP, BROKER = ("check.py",), ("check.py", "--http"), ("check.py", "--broker")
+SMALL = ("chaos.py", "--inbox", "2", "--seconds", "40", "--seed", "3", "--patience", "200")
+CHAOS = ("chaos.py", "--inbox", "4096", "--seconds", "40", "--seed", "3", "--patience", "200")
+
+
+class Mutant(NamedTuple):
+    file: str
+    old: str
+    new: str
+    check: tuple[str, ...]
+
+
+MUTANTS = {
+    "sent_again_from_the_last": Mutant("site_child.py", '{"resend": self.entries - self.told}', '{"resend": 0}', CHECK),
+    "handed_on_before_it_came": Mutant("site_child.py", '''        self.entries, self.recent = about["entries"], []
+''', '''        self.entries, self.recent = about["entries"], []
+        self.told = self.entries
+''', CHECK),
+    "unanswered_are_forgotten": Mutant(
+        "site_child.py", "self.waiting.extendleft(asked for asked in reversed(self.given) if not asked.own)", "pass",
+        CHECK),
+    "no_id_of_its_own": Mutant("site_child.py", 'if "id" not in event and', "if False and", CHECK),
+    "older_copy_is_served": Mutant("site_child.py", 'if about["entries"] < max(', "if 0 > max(", CHECK),
+    "questions_are_entries": Mutant("site_child.py", '"balance", "already"', '"already"', CHECK),
+    "messages_count_once_more": Mutant("site_child.py", 'changes + len(answer["then"])', "changes", CHECK),
+    "missing_journal_is_made": Mutant("site_child.py", '"--resend", "0", stdin', '"--resend", "0", "--new", stdin',
+                                      CHECK),
+    "token_stays": Mutant("passing.py", "if wanting and self.passes()", "if False", CHECK),
+    "token_goes_to_the_first": Mutant("passing.py", "(site - self.me) % self.sites", "-site", CHECK),
+    "token_goes_at_once": Mutant("passing.py", "now >= self.since + HOLD", "True", CHECK),
+    "batches_dont_wait": Mutant("passing.py", '"cause" if reply.get("refused") == 13 else "refused"', '"refused"',
+                                CHECK),
+    "sealed_before_it_stops": Mutant("closing.py", '''        if self.mark is None:
+            return "clients aren't stopped"
+''', "", CHECK),
+    "closed_by_other_words": Mutant("closing.py", "if self.mark not in (None, words):", "if False:", CHECK),
+    "stop_isnt_kept": Mutant("closing.py", 'store(self.period.path("closing"), words)', "pass", CHECK),
+    "key_is_dropped": Mutant("service.py", 'event.setdefault("id", key)', 'event.get("id", key)', HTTP),
+    "anyone_may": Mutant("service.py", "if not wanted <= may:", "if False:", HTTP),
+    "a_beginning_is_enough": Mutant("service.py", "hmac.compare_digest(digest(row[\"token\"].encode()),",
+                                    "(lambda one, two: row['token'].encode().startswith(given))(0,", HTTP),
+    "another_page_may": Mutant("service.py", 'request.headers.get("Origin") not in (None, *self.urls) or', "", HTTP),
+    "listens_to_all": Mutant("service.py", "if not self.clients.rows and self.host not in", "if self.host in", HTTP),
+    "clients_arent_stopped": Mutant("service.py", "        if self.closing.mark:\n            raise No(503",
+                                    "        if False:\n            raise No(503", HTTP),
+    "a_client_sends_messages": Mutant("service.py", "or not verbs <= MAY.keys()", "", HTTP),
+    "not_one_at_a_time": Mutant("wires.py", '"x-single-active-consumer": True', '"x-max-length": 10**9', BROKER),
+    "cancelled_before_it_ends": Mutant("wires.py", '''        while True:
+            delivery = await deliveries.get()
+            await self.take(delivery.body)
+            await delivery.ack()
+''', '''        async for delivery in (await self.queue(channel, site, self.me)).iterator():
+            await self.take(delivery.body)
+            await delivery.ack()
+''', BROKER),
+    "acknowledged_before_answered": Mutant("wires.py", '''            await self.take(delivery.body)
+            await delivery.ack()
+''', '''            await delivery.ack()
+            await asyncio.sleep(0.005)
+            await self.take(delivery.body)
+''', CHAOS),
+    "confirmed_before_the_broker": Mutant(
+        "wires.py", "min([self.site.told, *(lines[0][0] for lines in self.out.values() if lines)])", "self.site.told",
+        BROKER),
+    "forgotten_before_confirmed": Mutant("wires.py", "                await channel.default_exchange.publish(", """\
+                for _ in part:
+                    lines.popleft()
+                part = []
+                await channel.default_exchange.publish(""", CHAOS),
+    "confirms_arent_waited_for": Mutant("wires.py", "connection.channel(on_return_raises=True)",
+                                        "connection.channel(publisher_confirms=False)", CHAOS),
+    "full_inbox_is_done": Mutant("wires.py", "FULL = (16, 23)", "FULL = (23,)", SMALL),
+    "keys_of_the_closed_are_unknown": Mutant("service.py", "if line is None or event.get", "if True or event.get",
+                                             CHAOS),
+    "closed_while_apart": Mutant("close.py", "if all(said == now[0] for said in now):", "if True:", CHAOS),
+}
+
+
+def status_of(folder: str, check: tuple[str, ...], program: str) -> int:
+    """How a check ends, in this folder."""
+    script, *words = check
+    more = ["--folder", os.path.join(folder, "run")] if script == "chaos.py" else []
+    try:
+        run = subprocess.run([sys.executable, os.path.join(folder, "service", script), *words, *more, program],
+                             capture_output=True, timeout=PATIENCE, start_new_session=True)
+    except subprocess.TimeoutExpired:
+        return 1
+    return run.returncode
+
+
+def tried(mutant: Mutant | None, check: tuple[str, ...], program: str) -> int | None:
+    """How a check ends on a copy with this change; None if the change can't be made."""
+    with tempfile.TemporaryDirectory(prefix="mutant-") as folder:
+        for part in ("service", "docs", os.path.join("examples", "tools")):
+            shutil.copytree(os.path.join(cluster.HERE, "..", part), os.path.join(folder, part))
+        if mutant:
+            path = os.path.join(folder, "service", mutant.file)
+            with open(path) as file:
+                text = file.read()
+            if text.count(mutant.old) != 1:
+                return None
+            with open(path, "w") as file:
+                file.write(text.replace(mutant.old, mutant.new))
+        return status_of(folder, check, program)
+
+
+def main() -> int:
+    if len(sys.argv) < 2 or not os.access(sys.argv[1], os.X_OK):
+        print(__doc__)
+        return 2
+    cluster.check_packages()
+    program, names = os.path.abspath(sys.argv[1]), sys.argv[2:] or list(MUTANTS)
+    found, passed = {}, {}
+    for name in names:
+        mutant = MUTANTS[name]
+        if mutant.check not in passed:
+            passed[mutant.check] = tried(None, mutant.check, program)
+        end = tried(mutant, mutant.check, program) if passed[mutant.check] == 0 else -1
+        found[name] = {1: "caught", 0: "NOT CAUGHT", None: "CAN'T BE MADE"}.get(end, "NOT TRIED")
+        print(f"{found[name]:13} {name}, by {' '.join(mutant.check)}", flush=True)
+    return 0 if set(found.values()) == {"caught"} else 1
+
+
+if __name__ == "__main__":
+    sys.exit(main())
