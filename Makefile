@@ -177,7 +177,7 @@ service:
 
 service-test:
 	@test -x $(SERVICE_PROGRAM) || { echo 'there is no program yet: make build'; exit 1; }
-	@$(SERVICE_PYTHON) service/check.py --broker $(SERVICE_PROGRAM)
+	@$(SERVICE_PYTHON) service/check.py $(SERVICE_PROGRAM) --broker
 	@$(SERVICE_PYTHON) service/chaos.py $(SERVICE_PROGRAM) --seconds $(SECONDS) --seeds $(SEEDS) \
 		$(if $(SEED),--seed $(SEED))
 

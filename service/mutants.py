@@ -18,7 +18,8 @@ sys.dont_write_bytecode = True
 import cluster
 
 PATIENCE = 1500  # seconds, after which a check has caught what it doesn't end by
-CHECK, HTTP, BROKER = ("check.py",), ("check.py", "--http"), ("check.py", "--broker")
+LINES, KILLS, RESTARTS, FAULTS, TOKEN, CLOSES, ASKS, TOKENS, QUEUES = (("check.py", name) for name in (
+    "lines", "kills", "restarts", "faults", "token", "closes", "asks", "tokens", "queues"))
 SMALL = ("chaos.py", "--inbox", "2", "--seconds", "40", "--seed", "3", "--patience", "200")
 CHAOS = ("chaos.py", "--inbox", "4096", "--seconds", "40", "--seed", "3", "--patience", "200")
 
@@ -31,40 +32,40 @@ class Mutant(NamedTuple):
 
 
 MUTANTS = {
-    "sent_again_from_the_last": Mutant("site_child.py", '{"resend": self.entries - self.told}', '{"resend": 0}', CHECK),
+    "sent_again_from_the_last": Mutant("site_child.py", '{"resend": self.entries - self.told}', '{"resend": 0}', RESTARTS),
     "handed_on_before_it_came": Mutant("site_child.py", '''        self.entries, self.recent = about["entries"], []
 ''', '''        self.entries, self.recent = about["entries"], []
         self.told = self.entries
-''', CHECK),
+''', KILLS),
     "unanswered_are_forgotten": Mutant(
         "site_child.py", "self.waiting.extendleft(asked for asked in reversed(self.given) if not asked.own)", "pass",
-        CHECK),
-    "no_id_of_its_own": Mutant("site_child.py", 'if "id" not in event and', "if False and", CHECK),
-    "older_copy_is_served": Mutant("site_child.py", 'if about["entries"] < max(', "if 0 > max(", CHECK),
-    "questions_are_entries": Mutant("site_child.py", '"balance", "already"', '"already"', CHECK),
-    "messages_count_once_more": Mutant("site_child.py", 'changes + len(answer["then"])', "changes", CHECK),
+        KILLS),
+    "no_id_of_its_own": Mutant("site_child.py", 'if "id" not in event and', "if False and", KILLS),
+    "older_copy_is_served": Mutant("site_child.py", 'if about["entries"] < max(', "if 0 > max(", FAULTS),
+    "questions_are_entries": Mutant("site_child.py", '"balance", "already"', '"already"', LINES),
+    "messages_count_once_more": Mutant("site_child.py", 'changes + len(answer["then"])', "changes", LINES),
     "missing_journal_is_made": Mutant("site_child.py", '"--resend", "0", stdin', '"--resend", "0", "--new", stdin',
-                                      CHECK),
-    "token_stays": Mutant("passing.py", "if wanting and self.passes()", "if False", CHECK),
-    "token_goes_to_the_first": Mutant("passing.py", "(site - self.me) % self.sites", "-site", CHECK),
-    "token_goes_at_once": Mutant("passing.py", "now >= self.since + HOLD", "True", CHECK),
+                                      FAULTS),
+    "token_stays": Mutant("passing.py", "if wanting and self.passes()", "if False", TOKEN),
+    "token_goes_to_the_first": Mutant("passing.py", "(site - self.me) % self.sites", "-site", TOKEN),
+    "token_goes_at_once": Mutant("passing.py", "now >= self.since + HOLD", "True", TOKEN),
     "batches_dont_wait": Mutant("passing.py", '"cause" if reply.get("refused") == 13 else "refused"', '"refused"',
-                                CHECK),
+                                TOKEN),
     "sealed_before_it_stops": Mutant("closing.py", '''        if self.mark is None:
             return "clients aren't stopped"
-''', "", CHECK),
-    "closed_by_other_words": Mutant("closing.py", "if self.mark not in (None, words):", "if False:", CHECK),
-    "stop_isnt_kept": Mutant("closing.py", 'store(self.period.path("closing"), words)', "pass", CHECK),
-    "key_is_dropped": Mutant("service.py", 'event.setdefault("id", key)', 'event.get("id", key)', HTTP),
-    "anyone_may": Mutant("service.py", "if not wanted <= may:", "if False:", HTTP),
+''', "", CLOSES),
+    "closed_by_other_words": Mutant("closing.py", "if self.mark not in (None, words):", "if False:", CLOSES),
+    "stop_isnt_kept": Mutant("closing.py", 'store(self.period.path("closing"), words)', "pass", CLOSES),
+    "key_is_dropped": Mutant("service.py", 'event.setdefault("id", key)', 'event.get("id", key)', ASKS),
+    "anyone_may": Mutant("service.py", "if not wanted <= may:", "if False:", TOKENS),
     "a_beginning_is_enough": Mutant("service.py", "hmac.compare_digest(digest(row[\"token\"].encode()),",
-                                    "(lambda one, two: row['token'].encode().startswith(given))(0,", HTTP),
-    "another_page_may": Mutant("service.py", 'request.headers.get("Origin") not in (None, *self.urls) or', "", HTTP),
-    "listens_to_all": Mutant("service.py", "if not self.clients.rows and self.host not in", "if self.host in", HTTP),
+                                    "(lambda one, two: row['token'].encode().startswith(given))(0,", TOKENS),
+    "another_page_may": Mutant("service.py", 'request.headers.get("Origin") not in (None, *self.urls) or', "", ASKS),
+    "listens_to_all": Mutant("service.py", "if not self.clients.rows and self.host not in", "if self.host in", TOKENS),
     "clients_arent_stopped": Mutant("service.py", "        if self.closing.mark:\n            raise No(503",
-                                    "        if False:\n            raise No(503", HTTP),
-    "a_client_sends_messages": Mutant("service.py", "or not verbs <= MAY.keys()", "", HTTP),
-    "not_one_at_a_time": Mutant("wires.py", '"x-single-active-consumer": True', '"x-max-length": 10**9', BROKER),
+                                    "        if False:\n            raise No(503", ASKS),
+    "a_client_sends_messages": Mutant("service.py", "or not verbs <= MAY.keys()", "", ASKS),
+    "not_one_at_a_time": Mutant("wires.py", '"x-single-active-consumer": True', '"x-max-length": 10**9', QUEUES),
     "cancelled_before_it_ends": Mutant("wires.py", '''        while True:
             delivery = await deliveries.get()
             await self.take(delivery.body)
@@ -72,7 +73,7 @@ MUTANTS = {
 ''', '''        async for delivery in (await self.queue(channel, site, self.me)).iterator():
             await self.take(delivery.body)
             await delivery.ack()
-''', BROKER),
+''', QUEUES),
     "acknowledged_before_answered": Mutant("wires.py", '''            await self.take(delivery.body)
             await delivery.ack()
 ''', '''            await delivery.ack()
@@ -81,7 +82,7 @@ MUTANTS = {
 ''', CHAOS),
     "confirmed_before_the_broker": Mutant(
         "wires.py", "min([self.site.told, *(lines[0][0] for lines in self.out.values() if lines)])", "self.site.told",
-        BROKER),
+        QUEUES),
     "forgotten_before_confirmed": Mutant("wires.py", "                await channel.default_exchange.publish(", """\
                 for _ in part:
                     lines.popleft()
@@ -101,8 +102,8 @@ def status_of(folder: str, check: tuple[str, ...], program: str) -> int:
     script, *words = check
     more = ["--folder", os.path.join(folder, "run")] if script == "chaos.py" else []
     try:
-        run = subprocess.run([sys.executable, os.path.join(folder, "service", script), *words, *more, program],
-                             capture_output=True, timeout=PATIENCE, start_new_session=True)
+        run = subprocess.run([sys.executable, os.path.join(folder, "service", script), program, *words, *more],
+                             capture_output=True, timeout=PATIENCE, env=os.environ | {"PATIENCE": "120"})
     except subprocess.TimeoutExpired:
         return 1
     return run.returncode

@@ -29,7 +29,7 @@ from closing import Closing, Period, last_period, requests_of
 from passing import Passing
 from site_child import Fault, Site, compact
 from view import Json, View
-from wires import Wires
+from wires import Wires, together
 
 HERE = os.path.dirname(os.path.abspath(__file__))
 MAY = {"balance": "read", "statement": "read", "asof": "read", "deposit": "ask", "withdraw": "ask", "interest": "ask",
@@ -317,30 +317,21 @@ class Service:
         return app
 
     async def child(self) -> None:
-        """The site's children, until the period ends."""
+        """The site's children, until the next period has begun."""
         await self.site.run()
         self.closing.ended.set()
         if not self.ends.is_set() and not self.closing.mark:
             raise Fault(f"{self.site.journal} is sealed, and its books aren't being closed")
         await self.closing.next.wait()
 
-    async def serve(self) -> bool:
-        """Serves a period, until the service ends, or the next one has begun."""
-        parts = [asyncio.create_task(part) for part in (self.child(), self.wires.run(), self.passing.run(), self.tell(),
-                                                        self.closing.next.wait(), self.ends.wait())]
-        await asyncio.wait(parts, return_when=asyncio.FIRST_COMPLETED)
-        if self.ends.is_set():
-            until = time.monotonic() + PATIENCE
-            await self.site.stop(PATIENCE)
-            while time.monotonic() < until and (self.wires.unconfirmed() or not self.closing.ended.is_set()):
-                await asyncio.sleep(0.02)
-            self.wires.save()
-        for part in parts:
-            part.cancel()
-        for why in await asyncio.gather(*parts, return_exceptions=True):
-            if isinstance(why, Exception):
-                raise why
-        return not self.ends.is_set()
+    async def ending(self) -> None:
+        """An orderly end: all that was asked is answered, and what was reported is confirmed."""
+        await self.ends.wait()
+        until = time.monotonic() + PATIENCE
+        await self.site.stop(PATIENCE)
+        while time.monotonic() < until and (self.wires.unconfirmed() or not self.closing.ended.is_set()):
+            await asyncio.sleep(0.02)
+        self.wires.save()
 
     async def run(self) -> None:
         for number in signal.SIGTERM, signal.SIGINT:
@@ -351,7 +342,10 @@ class Service:
                           backlog=1024).start()
         try:
             log.info("site %s at %s", self.me, self.urls[self.me])
-            while await self.serve():
+            while True:
+                await together(PATIENCE, self.child(), self.wires.run(), self.passing.run(), self.tell(), self.ending())
+                if self.ends.is_set():
+                    break
                 self.open_period()
         finally:
             for listener in list(self.listeners):

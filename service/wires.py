@@ -21,8 +21,8 @@ import logging
 import os
 import time
 from collections import Counter, deque
-from collections.abc import Callable
-from typing import NoReturn
+from collections.abc import Callable, Coroutine
+from typing import Any
 
 import aio_pika
 from aio_pika.abc import AbstractChannel, AbstractConnection, AbstractIncomingMessage, AbstractQueue
@@ -38,6 +38,21 @@ SAY = 1.0  # seconds between two times that a service says where it is
 FULL = (16, 23)  # refusals of a message that isn't lost by them: its queue waits
 FAULTS = (aio_pika.exceptions.AMQPError, OSError, asyncio.TimeoutError, RuntimeError)
 log = logging.getLogger("wires")
+
+
+async def together(again: float, *parts: Coroutine[Any, Any, Any]) -> None:
+    """Runs these until one of them ends, and then ends the others. A cancellation that comes as a call with a timeout
+    returns is lost, so they are cancelled again, each time after so many seconds."""
+    tasks = {asyncio.create_task(part) for part in parts}
+    try:
+        done, _ = await asyncio.wait(tasks, return_when=asyncio.FIRST_COMPLETED)
+        for task in done:
+            task.result()
+    finally:
+        while left := [task for task in tasks if not task.done()]:
+            for task in left:
+                task.cancel()
+            await asyncio.wait(left, timeout=again)
 
 
 class Wires:
@@ -86,40 +101,38 @@ class Wires:
 
     # ---- the broker
 
-    async def run(self) -> NoReturn:
+    async def run(self) -> None:
         """Goes from node to node of the broker, until one takes us."""
         before = None
         for url in itertools.cycle(self.urls):
             why = ""
             try:
-                async with await aio_pika.connect(url, timeout=PATIENCE) as connection:
+                connection = await aio_pika.connect(url, timeout=PATIENCE)
+                try:
                     await self.session(url, connection)
-            except* FAULTS as faults:
-                why = repr(faults.exceptions[0])[:200]
+                finally:
+                    self.url = ""
+                    with contextlib.suppress(*FAULTS):
+                        await asyncio.wait_for(connection.close(), PATIENCE)
+            except FAULTS as fault:
+                why = repr(fault)[:200]
             if why != before:
                 log.warning("%s: %s", url.rpartition("@")[2], why)
-            before, self.url = why, ""
-            if (task := asyncio.current_task()) and task.cancelling():
-                raise asyncio.CancelledError  # (a part that failed as it was cancelled hides that)
+            before = why
             await asyncio.sleep(0.2)
-        raise AssertionError("a bank has a broker")
 
     async def session(self, url: str, connection: AbstractConnection) -> None:
-        gone: asyncio.Future[BaseException | None] = asyncio.get_running_loop().create_future()
-        connection.close_callbacks.add(lambda _, why=None: None if gone.done() else gone.set_result(why))
+        gone = asyncio.Event()
+        connection.close_callbacks.add(lambda *_: gone.set())
         coming, going, looking = [await connection.channel(on_return_raises=True) for _ in range(3)]
-        await coming.set_qos(prefetch_count=PREFETCH)
+        await coming.set_qos(prefetch_count=PREFETCH, timeout=PATIENCE)
         for pair in self.pairs():  # both ends make both queues, so nothing is published if there is none
             await self.queue(coming, *pair)
         self.counts["sessions"] += 1
         self.url = url
-        async with asyncio.TaskGroup() as tasks:
-            for site in self.others:
-                tasks.create_task(self.publish(going, site))
-                tasks.create_task(self.receive(coming, site))
-            tasks.create_task(self.look(looking))
-            tasks.create_task(self.talk(looking))
-            raise ConnectionError(f"the broker is gone: {await gone!r}")
+        await together(1, gone.wait(), self.look(looking), self.talk(looking),
+                       *(self.publish(going, site) for site in self.others),
+                       *(self.receive(coming, site) for site in self.others))
 
     def pairs(self) -> list[tuple[int, int]]:
         return [pair for site in self.others for pair in ((self.me, site), (site, self.me))]
