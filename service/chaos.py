@@ -46,6 +46,16 @@ AGAIN = (502, 503, 504)  # statuses after which a client asks again
 TARGETS = ("child", "child", "service", "both", "stop")
 
 
+SLOW = """
+#include <stdlib.h>
+#include <sys/syscall.h>
+#include <unistd.h>
+static void slow(void) { const char *us = getenv("SYNC_US"); if (us) usleep(atoi(us)); }
+int fsync(int file) { slow(); return syscall(SYS_fsync, file); }
+int fdatasync(int file) { slow(); return syscall(SYS_fdatasync, file); }
+"""
+
+
 class Wrong(Exception):
     """What may not be."""
 
@@ -392,6 +402,15 @@ def look(run: Run, balances: Json) -> tuple[int, int]:
     return operations, entries
 
 
+def look_logs(bank: cluster.Bank) -> None:
+    """No queue has to be out of order, and no site refuses what another sent."""
+    for site in range(bank.sites):
+        with open(os.path.join(bank.folder, f"{site}.log")) as file:
+            for line in file:
+                if any(text in line for text in ("nothing was applied", "doesn't take", "no message")):
+                    raise Wrong(f"the log of site {site}: {line}")
+
+
 def without(value: Json) -> Json:
     return {key: it for key, it in value.items() if key not in ("bank", "id")}
 
@@ -425,9 +444,24 @@ async def periods(run: Run, begun: float) -> None:
         await run.closes()
 
 
+def slow_disk(folder: str, microseconds: int) -> None:
+    """Has each wait for the disk of what is started from now on take longer, if there is a compiler for C."""
+    os.environ["SYNC_US"] = str(microseconds)
+    source, library = os.path.join(folder, "slow.c"), os.path.join(folder, "slow.so")
+    with open(source, "w") as file:
+        file.write(SLOW)
+    subprocess.run(["cc", "-shared", "-fPIC", "-o", library, source], check=True)
+    os.environ["LD_PRELOAD"] = library
+
+
 def tried(asked: argparse.Namespace, seed: int, folder: str) -> str:
     """A run of this seed, in words."""
-    inbox = asked.inbox or random.Random(seed).choice([2, 4, 4096])
+    pick = random.Random(seed)
+    inbox, slow = asked.inbox or pick.choice([2, 4, 4096]), pick.choice([0, 0, 5000])
+    slow = (slow if shutil.which("cc") else 0) if asked.slow is None else asked.slow
+    os.environ.pop("LD_PRELOAD", None)
+    if slow:
+        slow_disk(folder, slow)
     broker = cluster.Cluster(os.path.join(folder, "broker"), asked.patience)
     keys = {"accounts": [[name, 10_000] for name in ACCOUNTS], "inbox": inbox}
     bank = cluster.Bank(asked.program, folder, broker, **keys)
@@ -442,7 +476,9 @@ def tried(asked: argparse.Namespace, seed: int, folder: str) -> str:
     finally:
         bank.stop()
         broker.stop()
-    return said(run, balances, drained, *look(run, balances), f"seed {seed}, inbox {inbox}")
+    look_logs(bank)
+    what = f"seed {seed}, inbox {inbox}" + (f", each wait for the disk {slow} us longer" if slow else "")
+    return said(run, balances, drained, *look(run, balances), what)
 
 
 def said(run: Run, balances: Json, drained: float, operations: int, entries: int, what: str) -> str:

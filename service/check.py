@@ -66,7 +66,7 @@ class Running:
         return [message["shadow"]["name"] for message in self.sent if "shadow" in message]
 
     async def end(self) -> None:
-        await self.site.stop()
+        await self.site.stop(PATIENCE / 10)
         await asyncio.wait_for(self.task, PATIENCE)
 
 
@@ -167,8 +167,8 @@ async def faults(folder: str) -> None:
         except Fault as why:
             return same(what, text in str(why), True)
         except asyncio.TimeoutError:
-            pass
-        PROBLEMS.append(f"{what}: no fault")
+            PROBLEMS.append(f"{what}: no fault")
+            await running.end()
 
     await fault("no journal", "no journal")
     async with site(folder) as one:
@@ -332,9 +332,22 @@ def asks(folder: str) -> None:
     same("another name", service.ask("/state", Host="evil.example")[0], 403)
     same("the state", [service.ask("/state")[1][key] for key in ("bank", "balances", "unsent")],
          [NAME, {"ann": 1006, "bob": 0}, {"1": 3}])
+    with contextlib.closing(http.client.HTTPConnection("127.0.0.1", service.port, timeout=PATIENCE)) as live:
+        live.request("GET", "/live")
+        stream = live.getresponse()
+        first = json.loads(stream.readline().removeprefix(b"data: "))
+        same("a state at first", [one["name"] for one in first["operations"]], ["B0.1", "B0.2", "B0.3"])
+        for name, balance in (("B0.4", 7), ("B0.5", 14)):
+            service.event({"deposit": ["bob", 7]})
+            names: list[str] = []
+            while name not in names:
+                change = json.loads((stream.readline() + stream.readline()).strip().removeprefix(b"data: "))
+                names = [one["name"] for one in change["operations"]]
+            same("then what changed", (names[-1], change["balances"]["bob"]), (name, balance))
+        same("and nothing else", names, ["B0.5"])
     text = service.ask("/metrics")[1]
     for line in ('rbbank_events_total{event="deposit"} ', 'rbbank_refusals_total{number="4"} 1',
-                 "rbbank_token_here{} 1", 'rbbank_unconfirmed_messages{to="1"} 3', "rbbank_child_restarts_total{} 0",
+                 "rbbank_token_here{} 1", 'rbbank_unconfirmed_messages{to="1"} 5', "rbbank_child_restarts_total{} 0",
                  "rbbank_journal_bytes{} "):
         same(f"metrics have {line}", line in text, True)
     same("closing", service.ask("/closing", {"bank": NAME, "step": "stop", "words": []})[1]["is"], "stopped")
@@ -342,6 +355,24 @@ def asks(folder: str) -> None:
     same("it ends", service.end(), 0)
     with open(os.path.join(folder, "site0", "0001.confirmed")) as file:
         same("nothing was confirmed", file.read(), "0\n")
+
+
+async def waits(folder: str) -> None:
+    """Clients are sent away while too much waits."""
+    import service
+    given = {"name": "b", "config": CONFIG, "program": PROGRAM, "folder": folder, "broker": [], "http": ["127.0.0.1:1"]}
+    one = service.Service(given, 0, True)
+    for waiting, unconfirmed in ((service.MOST_WAITING, 0), (0, service.MOST_UNCONFIRMED)):
+        one.site.waiting.clear()
+        one.site.waiting.extend([site_child.Asked({})] * waiting)
+        one.wires.out[1].clear()
+        one.wires.out[1].extend([(0, "")] * unconfirmed)
+        same("not yet too much", (await one.answer({"x": 1}, None, set()))[0], 400)
+        one.ask({"balance": "ann"})
+        one.site.waiting.append(site_child.Asked({}))
+        one.wires.out[1].append((0, ""))
+        status, said = await one.answer({"balance": "ann"}, None, {"read"})
+        same("too much", (status, said), (503, {"error": "too much waits"}))
 
 
 def tokens(folder: str) -> None:
@@ -435,7 +466,7 @@ async def queues(folder: str) -> None:
         broker.stop()
 
 
-ALONE, HTTP, BROKER = (lines, kills, restarts, faults, token, closes, texts), (asks, tokens), (queues,)
+ALONE, HTTP, BROKER = (lines, kills, restarts, faults, token, closes, texts), (asks, waits, tokens), (queues,)
 GROUPS: dict[str, tuple[Callable[[str], Any], ...]] = {
     "": ALONE, "--http": ALONE + HTTP, "--broker": ALONE + HTTP + BROKER}
 

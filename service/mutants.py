@@ -18,8 +18,8 @@ sys.dont_write_bytecode = True
 import cluster
 
 PATIENCE = 1500  # seconds, after which a check has caught what it doesn't end by
-LINES, KILLS, RESTARTS, FAULTS, TOKEN, CLOSES, ASKS, TOKENS, QUEUES = (("check.py", name) for name in (
-    "lines", "kills", "restarts", "faults", "token", "closes", "asks", "tokens", "queues"))
+LINES, KILLS, RESTARTS, FAULTS, TOKEN, CLOSES, ASKS, WAITS, TOKENS, QUEUES = (("check.py", name) for name in (
+    "lines", "kills", "restarts", "faults", "token", "closes", "asks", "waits", "tokens", "queues"))
 SMALL = ("chaos.py", "--inbox", "2", "--seconds", "40", "--seed", "3", "--patience", "200")
 CHAOS = ("chaos.py", "--inbox", "4096", "--seconds", "40", "--seed", "3", "--patience", "200")
 
@@ -32,7 +32,8 @@ class Mutant(NamedTuple):
 
 
 MUTANTS = {
-    "sent_again_from_the_last": Mutant("site_child.py", '{"resend": self.entries - self.told}', '{"resend": 0}', RESTARTS),
+    "sent_again_from_the_last": Mutant("site_child.py", '{"resend": self.entries - self.told}', '{"resend": 0}',
+                                       RESTARTS),
     "handed_on_before_it_came": Mutant("site_child.py", '''        self.entries, self.recent = about["entries"], []
 ''', '''        self.entries, self.recent = about["entries"], []
         self.told = self.entries
@@ -64,6 +65,7 @@ MUTANTS = {
     "listens_to_all": Mutant("service.py", "if not self.clients.rows and self.host not in", "if self.host in", TOKENS),
     "clients_arent_stopped": Mutant("service.py", "        if self.closing.mark:\n            raise No(503",
                                     "        if False:\n            raise No(503", ASKS),
+    "nobody_is_sent_away": Mutant("service.py", 'raise No(503, "too much waits")', "pass", WAITS),
     "a_client_sends_messages": Mutant("service.py", "or not verbs <= MAY.keys()", "", ASKS),
     "not_one_at_a_time": Mutant("wires.py", '"x-single-active-consumer": True', '"x-max-length": 10**9', QUEUES),
     "cancelled_before_it_ends": Mutant("wires.py", '''        while True:
