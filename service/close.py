@@ -24,6 +24,7 @@ import urllib.request
 from view import Json
 
 PAUSE = 0.3  # seconds before a service is asked again
+OPENS = 60  # seconds to have clients served again
 
 
 class Open(Exception):
@@ -111,6 +112,7 @@ class Books:
         try:
             self.rest()
         except Open:
+            self.until = time.monotonic() + OPENS
             self.all("open")
             raise
         self.until = float("inf")

@@ -75,7 +75,7 @@ class Service:
     def __init__(self, bank: Json, me: int, is_new: bool) -> None:
         self.bank, self.me, self.clients = bank, me, Clients(bank.get("tokens"))
         self.folder = os.path.join(bank["folder"], f"site{me}")
-        self.urls = [f"http://{address}" for address in bank["http"]]
+        self.urls = bank.get("urls") or [f"http://{address}" for address in bank["http"]]
         self.host, _, self.port = bank["http"][me].rpartition(":")
         if not self.clients.rows and self.host not in ("127.0.0.1", "localhost"):
             raise Fault(f"without tokens a service listens on 127.0.0.1 alone, and not on {self.host}")

@@ -85,7 +85,7 @@ class Site:
                 raise Fault(errors)
             if not self.stopping:
                 log.warning("the child ended in %s: %s", status, errors)
-                await asyncio.sleep(1 if status > 0 else 0.02)  # (the disk is full, or there is no memory)
+                await asyncio.sleep(1 if status > 0 else 0.05)  # (the disk is full, or there is no memory)
 
     async def serve(self) -> tuple[int, str]:
         """Runs a child to its end: its status, and what it said."""
@@ -102,7 +102,7 @@ class Site:
             self.up = False
             giver.cancel()
             for why in await asyncio.gather(giver, return_exceptions=True):
-                if isinstance(why, Fault):
+                if isinstance(why, Exception) and not isinstance(why, OSError):  # (a pipe whose reader is gone)
                     raise why
         assert process.stderr
         errors = (await process.stderr.read()).decode(errors="replace").strip()
