@@ -39,6 +39,7 @@ PROGRAM, NAME = os.path.abspath(sys.argv[1] if sys.argv[1:] else ""), "b.0001"
 CONFIG = {"accounts": [["ann", 1000], ["bob", 0]], "sites": 2, "version": 1}
 PATIENCE = float(os.environ.get("PATIENCE", 600))  # seconds for anything
 PROBLEMS: list[str] = []
+SERVICES: list[subprocess.Popen[bytes]] = []
 
 
 def same(what: str, found: Any, wanted: Any) -> None:
@@ -273,7 +274,8 @@ class Http:
         self.words = [sys.executable, os.path.join(HERE, "service.py"), os.path.join(folder, "bank.json"), "0"]
         with open(os.path.join(folder, "log"), "ab") as log:
             new = [] if os.path.exists(os.path.join(folder, "site0")) else ["--new"]
-            self.process = subprocess.Popen(self.words + new, stderr=log)
+            self.process = subprocess.Popen(self.words + new, stdout=log, stderr=log)
+        SERVICES.append(self.process)
 
     def ask(self, path: str, event: Any = None, **heads: str) -> tuple[int, Any]:
         """The status and the answer."""
@@ -482,9 +484,13 @@ def main() -> int:
         cluster.check_packages()
     for check in checks:
         with tempfile.TemporaryDirectory(prefix="check-") as folder:
-            done = check(folder)
-            if done is not None:
-                asyncio.run(done)
+            try:
+                done = check(folder)
+                if done is not None:
+                    asyncio.run(done)
+            finally:
+                for service in SERVICES:
+                    service.kill()
     print("\n".join(PROBLEMS) or f"{len(checks)} checks: " + ", ".join(check.__name__ for check in checks))
     return 1 if PROBLEMS else 0
 

@@ -105,7 +105,8 @@ def status_of(folder: str, check: tuple[str, ...], program: str) -> int:
     more = ["--folder", os.path.join(folder, "run")] if script == "chaos.py" else []
     try:
         run = subprocess.run([sys.executable, os.path.join(folder, "service", script), program, *words, *more],
-                             capture_output=True, timeout=PATIENCE, env=os.environ | {"PATIENCE": "120"})
+                             stdout=subprocess.DEVNULL, stderr=subprocess.DEVNULL, timeout=PATIENCE,
+                             env=os.environ | {"PATIENCE": "60"})
     except subprocess.TimeoutExpired:
         return 1
     return run.returncode
