@@ -1,5 +1,5 @@
 .PHONY: help demo try play play-test build install install-libs test toolchain check examples bench bindings refuse \
-	wrong-bodies crash disk wires broker
+	wrong-bodies crash disk wires broker service service-setup service-test service-mutants
 
 help:
 	@echo 'At once:'
