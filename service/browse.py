@@ -139,6 +139,7 @@ class Browse:
         states = json.loads(json.dumps(self.states))
         last = max(states[2]["operations"], key=lambda one: one["place"])
         states[2]["operations"].remove(last)
+        states[2]["applied"] = [[[0, 3], [1, 2], [2, 9]], 16]
         states[2]["balances"]["ann"] += 7
         held = {"account": "ann", "amount": 7, "kind": "deposit", "name": "B1.99", "waits": [last["name"], "R77"]}
         states[2] |= {"held": [held], "holds": 3, "unread": {"0": 2, "1": 0}, "unsent": {"0": 0, "1": 1200}}
@@ -170,6 +171,7 @@ class Browse:
         same("click", "what is asked", [(site, event) for site, _, event in asked],
              [(0, {"deposit": ["ann", 1234]})] * 2)
         ids = {key for _, key, _ in asked}
+        same("click", "the bank's period", bank.named, {stub.NAME})
         same("click", "ids", [len(ids), all(re.fullmatch("[A-Za-z0-9._:-]{1,64}", key) for key in ids)], [2, True])
         page.until(lambda: page.column(2)[0] == money(before + 2468))
         same("click", "ann everywhere", [page.column(site)[0] for site in range(3)], [money(before + 2468)] * 3)
@@ -295,6 +297,7 @@ class Browse:
         page.says("#asks", "passed")
         at = next(site for site, state in enumerate(self.states) if state["token"]["here"])
         same("token", "what is asked", [(site, event) for site, _, event in bank.asked], [(at, {"pass": 2})])
+        same("token", "without an id, which a pass can't have", [key for _, key, _ in bank.asked], [""])
         same("token", "where it is", page.says("#heads th:nth-child(4) .badge", "token"), True)
 
     def statements(self) -> None:

@@ -19,6 +19,7 @@ from typing import Any
 
 Json = dict[str, Any]
 HERE = os.path.dirname(os.path.abspath(__file__))
+NAME = "example.0001"  # of the bank and its period, in states.json
 ALLOWED = "Authorization, Content-Type, Idempotency-Key"
 
 
@@ -53,7 +54,6 @@ class Handler(http.server.BaseHTTPRequestHandler):
         if self.headers.get("Origin") in self.server.site.bank.addresses:
             self.send_header("Access-Control-Allow-Origin", self.headers["Origin"])
             self.send_header("Access-Control-Allow-Headers", ALLOWED)
-            self.send_header("Access-Control-Expose-Headers", "Retry-After")
         for name, value in more.items():
             self.send_header(name.replace("_", "-"), value)
 
@@ -105,12 +105,14 @@ class Handler(http.server.BaseHTTPRequestHandler):
             return
         key = self.headers.get("Idempotency-Key", "")
         with bank.lock:
-            bank.asked.append((site.number, key, json.loads(line)))
+            event = json.loads(line)
+            bank.named.add(event.pop("bank", None))
+            bank.asked.append((site.number, key, event))
             if site.busy:
                 site.busy -= 1
                 return self.answer({"error": "too much waits"}, 503, Retry_After="1")
-            reply = site.known.get(key) or bank.reply(site, json.loads(line))
-            if "refused" not in reply and "error" not in reply:
+            reply = site.known.get(key) or bank.reply(site, event, key)
+            if key and "refused" not in reply and "error" not in reply:
                 site.known[key] = reply
             site.lost -= 1
         if site.lost >= 0:
@@ -171,14 +173,16 @@ class Bank:
 
     def __init__(self, states: list[Json], page: str) -> None:
         self.page, self.secret, self.lock = page, None, threading.RLock()
-        self.asked: list[tuple[int, str, Json]] = []
-        self.replies: dict[str, Json] = {}  # by the line, as JSON with sorted keys
+        self.asked: list[tuple[int, str, Json]] = []  # the site, the id and the event of each request
+        self.named: set[str | None] = set()  # the banks that the requests named
+        self.replies: dict[str, Json] = {}  # by the event, as JSON
         self.addresses: list[str] = []
         self.sites = [Site(self, number, copy.deepcopy(state)) for number, state in enumerate(states)]
         self.addresses += [f"http://127.0.0.1:{site.port}" for site in self.sites]
 
     def peers(self, site: Site) -> Json:
-        return {"me": site.number, "sites": self.addresses, "accounts": list(site.state["balances"])}
+        accounts = list(site.state["balances"])
+        return {"accounts": accounts, "bank": NAME, "me": site.number, "sites": self.addresses}
 
     def question(self, site: Site, verb: str, account: str) -> tuple[Json, int]:
         balance = site.state["balances"].get(account)
@@ -187,7 +191,9 @@ class Bank:
         rows = [[1, "B0.1", "deposit", 500, True, 500], [2, "B1.1", "cancel", -500, False, 0]]
         return {"balance": balance} | ({"rows": rows, "start": 0} if verb == "statement" else {}), 200
 
-    def reply(self, site: Site, event: Json) -> Json:
+    def reply(self, site: Site, event: Json, key: str = "") -> Json:
+        if key and event.keys() & {"pass", "balance", "statement"}:
+            return {"error": "an id with what has none"}
         if "deposit" in event:
             return self.deposit(site, *event["deposit"])
         if "cancel" in event:
@@ -197,7 +203,7 @@ class Bank:
                 each.state["token"] = {"epoch": 9, "here": each.number == event["pass"], "to": event["pass"]}
                 each.tell([])
             return {"passed": 9}
-        return self.replies.get(json.dumps(event, sort_keys=True), {"refused": 8})
+        return self.replies.get(json.dumps(event), {"refused": 8, "error": "the site hasn't the token"})
 
     def up(self) -> list[Site]:
         return [site for site in self.sites if site.server]
@@ -208,6 +214,8 @@ class Bank:
         numbers = [int(one["name"][len(home):]) for one in site.state["operations"] if one["name"].startswith(home)]
         name = home + str(max(numbers, default=0) + 1)
         for each in self.up():
+            blue = dict(each.state["applied"][0])
+            each.state["applied"][0] = [*(blue | {site.number: blue.get(site.number, 0) + 1}).items()]
             place = max((one["place"] for one in each.state["operations"]), default=0) + 1
             each.state["operations"].append(operation | {"name": name, "cancelled": False, "place": place})
         return {"kind": operation["kind"], "name": name}
