@@ -1,9 +1,9 @@
 #!/usr/bin/env python3
-"""Uses the console in a browser as a person does, over sites of its own that answer from recorded states: so without a
-broker.
+"""Uses the console in a browser as a person does.
 
-usage: browse.py [--only CHECK] [--page FILE] [--shots FOLDER]
-       browse.py --mutants                  each patch of mutants/ on a copy of the page has to be caught
+usage: browse.py [--only CHECK] [--shots FOLDER]    over sites of its own that answer from recorded states: no broker
+       browse.py --services PROGRAM                 over three nodes of the broker and three services
+       browse.py --mutants                          each patch of mutants/, on a copy of the page, has to be caught
 
 It wants chromium with chromedriver, and Python's selenium. If one of them isn't there it says so and ends in status 77:
 nothing was tried then.
@@ -97,6 +97,8 @@ class Browse:
         self.driver, self.path, self.shots = driver, path, shots
         with open(os.path.join(HERE, "states.json"), encoding="utf-8") as file:
             self.states: list[Json] = json.load(file)
+        self.holder = next(site for site, state in enumerate(self.states) if state["token"]["here"])
+        self.other = next(site for site in (2, 1) if site != self.holder)  # not the one that has the token, nor site 0
 
     def shot(self, name: str) -> None:
         if self.shots:
@@ -125,8 +127,8 @@ class Browse:
         entries = [f"{state['entries']:,}" for state in self.states]
         same("shows", "entries", page.texts("#facts tr:first-child td"), entries)
         same("shows", "behind", page.texts("#facts tr:nth-child(2) td"), ["0"] * len(bank.sites))
-        same("shows", "the token", [page.text("#heads th:nth-child(3) .badge"), len(page.all(".badge"))],
-             ["◆ token", 1])
+        same("shows", "the token", [page.text(f"#heads th:nth-child({self.holder + 2}) .badge"),
+                                    len(page.all(".badge"))], ["◆ token", 1])
         same("shows", "nothing held", page.text("#waiting"), "Nothing is held anywhere.")
         same("shows", "the foot", page.text("#state"), "All sites have the same balances.")
         undone = [one["name"] for one in self.states[0]["operations"] if one["cancelled"]]
@@ -134,12 +136,28 @@ class Browse:
         same("shows", "wider than the page", page.is_wide(), False)
         self.shot("service")
 
-    def differs(self) -> None:
-        """A site that lacks operations, holds one, and waits to send and to read."""
+    def lacking(self) -> tuple[list[Json], Json]:
+        """The states, but that site 2 hasn't applied the last blue operation; and this one."""
         states = json.loads(json.dumps(self.states))
-        last = max(states[2]["operations"], key=lambda one: one["place"])
+        last = max((one for one in states[2]["operations"] if one["name"][0] == "B"), key=lambda one: one["place"])
+        home = int(last["name"][1:].partition(".")[0])
         states[2]["operations"].remove(last)
-        states[2]["applied"] = [[[0, 3], [1, 2], [2, 9]], 16]
+        states[2]["applied"][0] = [[site, count - (site == home)] for site, count in states[2]["applied"][0]]
+        return states, last
+
+    def clocks(self) -> None:
+        """What a site lacks is found by its operations too, if it doesn't report its clock."""
+        states, last = self.lacking()
+        del states[2]["applied"]
+        _, page = self.open(states)
+        same("clocks", "behind", page.texts("#facts tr:nth-child(2) td"), ["0", "0", "1 operation"])
+        chips = page.js("return [...document.querySelectorAll(`#rows [data-key$='/${arguments[0]}'] .at span`)].map("
+                        "(it) => it.className.trim())", last["name"])
+        same("clocks", "where it is", chips, ["has", "has", ""])
+
+    def differs(self) -> None:
+        """A site that lacks an operation, holds others, and waits to send and to read."""
+        states, last = self.lacking()
         states[2]["balances"]["ann"] += 7
         held = {"account": "ann", "amount": 7, "kind": "deposit", "name": "B1.99", "waits": [last["name"], "R77"]}
         states[2] |= {"held": [held], "holds": 3, "unread": {"0": 2, "1": 0}, "unsent": {"0": 0, "1": 1200}}
@@ -153,8 +171,13 @@ class Browse:
                       "it.closest('tr').firstChild.textContent + it.cellIndex)")
         same("differs", "odd balances", odd, ["ann3", "all3"])
         same("differs", "the foot", page.text("#state"), "The sites differ: ann.")
-        chips = page.js("return [...document.querySelectorAll('#rows tr:first-child .at span')].map((it) => it.title)")
-        same("differs", "where the newest is", chips, ["applied at site 0", "applied at site 1", "not yet at site 2"])
+        page.press("2")
+        same("differs", "the site that lacks it", page.text("#lacks"), "it lacks 1 operation that others have")
+        first = page.js("const it = document.querySelector('#rows tr'); return [it.querySelector('th').textContent, "
+                        "...[...it.querySelectorAll('.at span')].map((each) => each.title)]")
+        same("differs", "has it on top", first,
+             [last["name"], "applied at site 0", "applied at site 1", "not yet at site 2"])
+        same("differs", "and can't cancel it", page.all("#rows tr:first-child .cancel:enabled"), [])
 
     # ---- what is asked
 
@@ -171,7 +194,7 @@ class Browse:
         same("click", "what is asked", [(site, event) for site, _, event in asked],
              [(0, {"deposit": ["ann", 1234]})] * 2)
         ids = {key for _, key, _ in asked}
-        same("click", "the bank's period", bank.named, {stub.NAME})
+        same("click", "the bank's period", bank.named, {bank.name})
         same("click", "ids", [len(ids), all(re.fullmatch("[A-Za-z0-9._:-]{1,64}", key) for key in ids)], [2, True])
         page.until(lambda: page.column(2)[0] == money(before + 2468))
         same("click", "ann everywhere", [page.column(site)[0] for site in range(3)], [money(before + 2468)] * 3)
@@ -293,12 +316,12 @@ class Browse:
     def token(self) -> None:
         """The token is passed by the site that has it."""
         bank, page = self.open()
-        page.click("[data-pass='2']")
+        page.click(f"[data-pass='{self.other}']")
         page.says("#asks", "passed")
-        at = next(site for site, state in enumerate(self.states) if state["token"]["here"])
-        same("token", "what is asked", [(site, event) for site, _, event in bank.asked], [(at, {"pass": 2})])
+        same("token", "what is asked", [(site, event) for site, _, event in bank.asked],
+             [(self.holder, {"pass": self.other})])
         same("token", "without an id, which a pass can't have", [key for _, key, _ in bank.asked], [""])
-        same("token", "where it is", page.says("#heads th:nth-child(4) .badge", "token"), True)
+        same("token", "where it is", page.says(f"#heads th:nth-child({self.other + 2}) .badge", "◆ token"), True)
 
     def statements(self) -> None:
         """A statement and a balance as the chosen site answers them."""
@@ -319,29 +342,38 @@ class Browse:
     def down(self) -> None:
         """A site is down: the page says so, keeps what it reported, and the others go on."""
         bank, page = self.open()
-        before = page.column(2)
-        bank.sites[2].down()
-        same("down", "is said", page.says("#notes", "Site 2: no answer since"), True)
+        site, column = self.other, self.other + 2
+        before = page.column(site)
+        bank.sites[site].down()
+        same("down", "is said", page.says("#notes", f"Site {site}: no answer since"), True)
         same("down", "of the others", "The other sites go on." in page.text("#notes"), True)
-        same("down", "what it reported stays", page.column(2), before)
-        grey = page.js("return document.querySelectorAll('#accounts td:nth-child(4).gone').length")
-        same("down", "and is grey", grey, len(before))
+        same("down", "what it reported stays", page.column(site), before)
+        same("down", "and is grey", len(page.all(f"#accounts td:nth-child({column}).gone")), len(before))
         page.click("#do")
         page.says("#asks", "done")
         page.until(lambda: page.column(0) != before)
-        same("down", "a deposit elsewhere", [page.column(0) == page.column(1), page.column(2)], [True, before])
-        same("down", "it is behind", page.says("#facts tr:nth-child(2) td:nth-child(4)", "1 operation"), True)
-        same("down", "where the deposit is", page.js("return document.querySelector('#rows .at :nth-child(3)').title"),
-             "not yet at site 2")
+        same("down", "a deposit elsewhere", [page.column(0) == page.column(self.holder), page.column(site)],
+             [True, before])
+        same("down", "it is behind", page.says(f"#facts tr:nth-child(2) td:nth-child({column})", "1 operation"), True)
+        chip = page.one(f"#rows tr:first-child .at :nth-child({site + 1})").get_attribute("title")
+        same("down", "where the deposit is", chip, f"not yet at site {site}")
         same("down", "a site that has no token keeps nobody", "token was last seen" in page.text("#notes"), False)
         self.shot("service_down")
-        bank.sites[1].down()
-        same("down", "the token's site", page.says("#notes", "The token was last seen at site 1"), True)
-        bank.sites[1].start()
-        bank.sites[2].state = json.loads(json.dumps(bank.sites[0].state)) | {"site": 2}
-        bank.sites[2].start()
-        same("down", "is up again", page.until(lambda: not page.text("#notes").strip()), True)
-        same("down", "has what the others have", page.until(lambda: page.column(2) == page.column(0)), True)
+
+    def up_again(self) -> None:
+        """The site with the token is down, and another one: both come back with what they missed."""
+        bank, page = self.open()
+        for site in (self.holder, self.other):
+            bank.sites[site].down()
+        same("up_again", "the token", page.says("#notes", f"The token was last seen at site {self.holder}"), True)
+        page.click("#do")
+        page.says("#asks", "done")
+        for site in (self.holder, self.other):
+            bank.sites[site].state = json.loads(json.dumps(bank.sites[0].state)) | {"site": site}
+            bank.sites[site].start()
+        same("up_again", "nothing is down", page.until(lambda: not page.text("#notes").strip()), True)
+        columns = page.until(lambda: page.column(0) == page.column(1) == page.column(2))
+        same("up_again", "all have the deposit", columns, True)
 
     def asked_down(self) -> None:
         """What is asked of a site that is down is asked until it is up, by one id."""
@@ -519,10 +551,10 @@ class Browse:
 
     def all(self, only: str | None) -> int:
         count = 0
-        for check in (self.shows, self.differs, self.click, self.once, self.lost, self.busy, self.again, self.refusals,
-                      self.cancels, self.token, self.statements, self.down, self.asked_down, self.silent, self.own_down,
-                      self.access, self.markup, self.keys, self.names, self.contrast, self.network, self.thousand,
-                      self.sixteen, self.phone):
+        for check in (self.shows, self.differs, self.clocks, self.click, self.once, self.lost, self.busy, self.again,
+                      self.refusals, self.cancels, self.token, self.statements, self.down, self.up_again,
+                      self.asked_down, self.silent, self.own_down, self.access, self.markup, self.keys, self.names,
+                      self.contrast, self.network, self.thousand, self.sixteen, self.phone):
             if only not in (None, check.__name__):
                 continue
             count += 1
@@ -533,6 +565,93 @@ class Browse:
             finally:
                 self.bank.stop()
         return count
+
+
+class Services:
+    """The page over a bank of services, with a program of the bank under each."""
+
+    def __init__(self, page: Page, bank: Any) -> None:
+        self.page, self.bank = page, bank
+
+    def ask(self, site: int, *keys: str) -> str:
+        """Asks a site by keys: what is said of it once it is answered."""
+        page = self.page
+        page.press(Keys.ESCAPE, str(site), *keys, Keys.ENTER)
+        page.until(lambda: page.all("#asks li:first-child:is(.done, .no)"), 60)
+        return page.text("#asks li:first-child")
+
+    def alike(self, name: str) -> None:
+        """All sites come to show the same, which is what each of them answers."""
+        page, sites = self.page, range(self.bank.sites)
+        shown = page.until(lambda: page.says("#state", "All sites have the same balances.", 0) and
+                           set(page.texts("#facts tr:nth-child(2) td")) == {"0"}, 60)
+        same(name, "all sites are alike, and none is behind", bool(shown), True)
+        for site in sites:
+            asked = [self.bank.get(site, f"/balance/{account}")["balance"] for account in page.texts(".account")]
+            same(name, f"balances of site {site}", page.column(site)[:-1], [money(cents) for cents in asked])
+
+    def works(self) -> None:
+        """Deposits, a withdrawal without the token, a cancellation at another site, a passed token, a statement."""
+        page = self.page
+        made = re.search(r"done: (B1\.\d+)", self.ask(1, "d", "50"))
+        same("works", "a deposit", bool(made), True)
+        self.alike("a deposit")
+        same("works", "a withdrawal at a site without the token", "done: R" in self.ask(2, "w", "1.25"), True)
+        self.alike("a withdrawal")
+        page.press(Keys.ESCAPE, "0")
+        for _ in range(2):
+            page.click(f"[data-cancel='{made[1]}']")
+        same("works", "a cancellation", page.until(lambda: page.all("#asks li:first-child.done"), 60) != [], True)
+        self.alike("a cancellation")
+        at = page.one(".pass").get_attribute("data-pass")
+        page.click(f"[data-pass='{at}']")
+        same("works", "the token", page.says(f"#heads th:nth-child({int(at) + 2}) .badge", "◆ token", 30), True)
+        page.click("[data-account='ann']")
+        page.says("#statement p", "now")
+        rows = self.bank.get(0, "/statement/ann")["rows"]
+        found = page.texts("#statement tr td:nth-child(3)")
+        same("works", "the statement", found, [money(row[3]) for row in reversed(rows)])
+        page.press(Keys.ESCAPE)
+
+    def goes_on(self) -> None:
+        """A service is killed: the others go on, and what it is asked meanwhile is made once, when it is back."""
+        page, bank = self.page, self.bank
+        before = page.column(2)
+        bank.running[2].kill()
+        bank.running[2].wait()
+        same("goes_on", "is said", page.says("#notes", "Site 2: no answer since", 30), True)
+        same("goes_on", "a deposit elsewhere", "done: B0." in self.ask(0, "d", "3"), True)
+        page.until(lambda: page.column(1) != before)
+        same("goes_on", "what it reported stays", page.column(2), before)
+        page.press(Keys.ESCAPE, "2", "d", "4", Keys.ENTER)
+        same("goes_on", "it is asked again", page.says("#asks li:first-child", "by the same id"), True)
+        bank.start(2)
+        same("goes_on", "is made", page.says("#asks li:first-child", "done: B2.", 60), True)
+        self.alike("all are back")
+        rows = [row for row in bank.get(1, "/statement/ann")["rows"] if row[3] == 400]
+        same("goes_on", "deposits of 4.00", len(rows), 1)
+
+
+def over_services(driver: Any, program: str) -> None:
+    import cluster
+    cluster.check_packages()
+    with tempfile.TemporaryDirectory(prefix="bank-") as folder:
+        broker = cluster.Cluster(os.path.join(folder, "broker"))
+        bank = cluster.Bank(program, folder, broker)
+        try:
+            broker.start_all()
+            for site in range(bank.sites):
+                bank.start(site)
+            for site in range(bank.sites):
+                bank.wait(site)
+            page = Page(driver, f"http://{bank.http[0]}/")
+            page.until(lambda: len(page.all("#heads .dot.up")) == bank.sites, 60)
+            checks = Services(page, bank)
+            checks.works()
+            checks.goes_on()
+        finally:
+            bank.stop()
+            broker.stop()
 
 
 def faults(driver: Any) -> list[str]:
@@ -567,9 +686,9 @@ def mutants(driver: Any) -> int:
 def options() -> argparse.Namespace:
     reader = argparse.ArgumentParser(description=__doc__, formatter_class=argparse.RawDescriptionHelpFormatter)
     reader.add_argument("--only", metavar="CHECK")
-    reader.add_argument("--page", metavar="FILE", default=PAGE)
     reader.add_argument("--shots", metavar="FOLDER")
     reader.add_argument("--mutants", action="store_true")
+    reader.add_argument("--services", metavar="PROGRAM")
     return reader.parse_args()
 
 
@@ -579,7 +698,9 @@ def main() -> int:
     try:
         if asked.mutants:
             return 1 if mutants(driver) else 0
-        count = Browse(driver, asked.page, asked.shots).all(asked.only)
+        if asked.services:
+            over_services(driver, asked.services)
+        count = 2 if asked.services else Browse(driver, PAGE, asked.shots).all(asked.only)
         same("page", "errors in the browser", faults(driver), [])
     finally:
         driver.quit()

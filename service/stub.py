@@ -19,7 +19,6 @@ from typing import Any
 
 Json = dict[str, Any]
 HERE = os.path.dirname(os.path.abspath(__file__))
-NAME = "example.0001"  # of the bank and its period, in states.json
 ALLOWED = "Authorization, Content-Type, Idempotency-Key"
 
 
@@ -172,7 +171,7 @@ class Bank:
     """The sites of a bank, each at an address of this machine."""
 
     def __init__(self, states: list[Json], page: str) -> None:
-        self.page, self.secret, self.lock = page, None, threading.RLock()
+        self.page, self.name, self.secret, self.lock = page, states[0]["bank"], None, threading.RLock()
         self.asked: list[tuple[int, str, Json]] = []  # the site, the id and the event of each request
         self.named: set[str | None] = set()  # the banks that the requests named
         self.replies: dict[str, Json] = {}  # by the event, as JSON
@@ -182,7 +181,7 @@ class Bank:
 
     def peers(self, site: Site) -> Json:
         accounts = list(site.state["balances"])
-        return {"accounts": accounts, "bank": NAME, "me": site.number, "sites": self.addresses}
+        return {"accounts": accounts, "bank": self.name, "me": site.number, "sites": self.addresses}
 
     def question(self, site: Site, verb: str, account: str) -> tuple[Json, int]:
         balance = site.state["balances"].get(account)
@@ -214,8 +213,8 @@ class Bank:
         numbers = [int(one["name"][len(home):]) for one in site.state["operations"] if one["name"].startswith(home)]
         name = home + str(max(numbers, default=0) + 1)
         for each in self.up():
-            blue = dict(each.state["applied"][0])
-            each.state["applied"][0] = [*(blue | {site.number: blue.get(site.number, 0) + 1}).items()]
+            if clock := each.state.get("applied"):
+                clock[0] = [*(dict(clock[0]) | {site.number: max(numbers, default=0) + 1}).items()]
             place = max((one["place"] for one in each.state["operations"]), default=0) + 1
             each.state["operations"].append(operation | {"name": name, "cancelled": False, "place": place})
         return {"kind": operation["kind"], "name": name}
