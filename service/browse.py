@@ -15,6 +15,7 @@ import glob
 import json
 import os
 import re
+import signal
 import subprocess
 import sys
 import tempfile
@@ -593,14 +594,14 @@ class Services:
     def works(self) -> None:
         """Deposits, a withdrawal without the token, a cancellation at another site, a passed token, a statement."""
         page = self.page
-        made = re.search(r"done: (B1\.\d+)", self.ask(1, "d", "50"))
-        same("works", "a deposit", bool(made), True)
+        made = re.findall(r"done: (B1\.\d+)", self.ask(1, "d", "50"))
+        same("works", "a deposit", len(made), 1)
         self.alike("a deposit")
         same("works", "a withdrawal at a site without the token", "done: R" in self.ask(2, "w", "1.25"), True)
         self.alike("a withdrawal")
         page.press(Keys.ESCAPE, "0")
         for _ in range(2):
-            page.click(f"[data-cancel='{made[1]}']")
+            page.click(f"[data-cancel='{made[0]}']")
         same("works", "a cancellation", page.until(lambda: page.all("#asks li:first-child.done"), 60) != [], True)
         self.alike("a cancellation")
         at = page.one(".pass").get_attribute("data-pass")
@@ -694,6 +695,7 @@ def options() -> argparse.Namespace:
 
 def main() -> int:
     asked = options()
+    signal.signal(signal.SIGTERM, signal.default_int_handler)  # what was started is ended
     driver = browser.browser(False, None)
     try:
         if asked.mutants:

@@ -8,6 +8,7 @@ from __future__ import annotations
 import json
 import os
 import random
+import signal
 import sys
 import tempfile
 import time
@@ -36,7 +37,8 @@ def ask(bank: cluster.Bank, site: int, event: Json) -> Json:
 
 def work(bank: cluster.Bank) -> None:
     """Some of each kind, in turn at the sites, so that one site makes not much more than another."""
-    pick, made = random.Random(4), []
+    pick = random.Random(4)
+    made: list[str] = []
     for turn in range(COUNT):
         account, other = pick.sample(ACCOUNTS, 2)
         events: list[Json] = [
@@ -62,6 +64,7 @@ def main() -> None:
     if len(sys.argv) != 2:
         sys.exit(__doc__.partition("\n\n")[2])
     cluster.check_packages()
+    signal.signal(signal.SIGTERM, signal.default_int_handler)  # what was started is ended
     with tempfile.TemporaryDirectory(prefix="bank-") as folder:
         broker = cluster.Cluster(os.path.join(folder, "broker"))
         bank = cluster.Bank(sys.argv[1], folder, broker, accounts=[[name, 100_000] for name in ACCOUNTS], sites=SITES)

@@ -81,7 +81,7 @@ class Handler(http.server.BaseHTTPRequestHandler):
         elif verb in ("balance", "statement"):
             self.answer(*site.bank.question(site, verb, account))
         else:
-            self.answer({"peers": site.bank.peers, "health": lambda it: {"up": True}}[verb](site))
+            self.answer(site.bank.peers(site) if verb == "peers" else {"up": True})
 
     def live(self, site: Site) -> None:
         self.send_response(200)
@@ -116,7 +116,8 @@ class Handler(http.server.BaseHTTPRequestHandler):
             site.lost -= 1
         if site.lost >= 0:
             self.close_connection = True
-            return self.connection.shutdown(socket.SHUT_RDWR)
+            self.connection.shutdown(socket.SHUT_RDWR)
+            return
         self.answer(reply, 409 if "refused" in reply else 400 if "error" in reply else 200)
 
     def log_message(self, *_: object) -> None:
@@ -134,18 +135,20 @@ class Site:
         self.lost = self.busy = 0  # replies that get lost, and requests that are sent away, the next ones
         self.speaks = threading.Event()
         self.speaks.set()
-        self.port, self.server = 0, None
+        self.port = 0
+        self.server: Server | None = None
         self.start()
 
     def start(self) -> None:
-        self.server = Server(("127.0.0.1", self.port), Handler)
-        self.server.site, self.port = self, self.server.server_port
-        threading.Thread(target=self.server.serve_forever, args=(0.01,), daemon=True).start()
+        server = Server(("127.0.0.1", self.port), Handler)
+        server.site, self.server, self.port = self, server, server.server_port
+        threading.Thread(target=server.serve_forever, args=(0.01,), daemon=True).start()
 
     def down(self) -> None:
         """Ends it as a machine that is switched off: whoever is connected hears no more."""
-        self.server.shutdown()
-        self.server.server_close()
+        if self.server:
+            self.server.shutdown()
+            self.server.server_close()
         self.server = None
         for connection in self.connections:
             try:
@@ -171,7 +174,8 @@ class Bank:
     """The sites of a bank, each at an address of this machine."""
 
     def __init__(self, states: list[Json], page: str) -> None:
-        self.page, self.name, self.secret, self.lock = page, states[0]["bank"], None, threading.RLock()
+        self.page, self.name, self.lock = page, states[0]["bank"], threading.RLock()
+        self.secret: str | None = None  # the client's token, if one is wanted
         self.asked: list[tuple[int, str, Json]] = []  # the site, the id and the event of each request
         self.named: set[str | None] = set()  # the banks that the requests named
         self.replies: dict[str, Json] = {}  # by the event, as JSON
