@@ -74,13 +74,14 @@ PAGES = {
     "docs/FORMAT.md": (4290, 19),
     "docs/PROVED.md": (3531, 17),
     "docs/PERIODS.md": (1010, 15),
-    "docs/RUNNING.md": (1500, 15),
+    "docs/RUNNING.md": (1520, 15),
     "docs/TUTORIAL.md": (2100, 15),
     "examples/README.md": (1620, 14),
     "examples/broker/README.md": (260, 17),
     "examples/shop/README.md": (330, 18),
     "play/README.md": (700, 17),
     "service/README.md": (700, 17),
+    "service/deploy/README.md": (550, 17),
 }
 PATTERNS = ("*.md", "docs/*.md", "bench/**/*.md", "bindings/**/*.md", "examples/**/*.md", "play/**/*.md",
             "service/**/*.md", "crates/*/*.md")
