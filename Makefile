@@ -13,7 +13,8 @@ help:
 	@echo '  make play          a page in the browser on which a bank is played with, after make build;'
 	@echo '                     OPEN=stale_token begins with this run of examples/'
 	@echo '  make install PREFIX=/usr/local'
-	@echo '                     copies the program, its manual page and completions for three shells, after make build'
+	@echo '                     copies the program, the manual pages rbbank(1) and rbbank(5), completions for three'
+	@echo '                     shells, and the tools rbbank-draw, rbbank-explain and rbbank-wire, after make build'
 	@echo '  make install-libs PREFIX=/usr/local'
 	@echo '                     copies the library for C with its header and a file for pkg-config, after make bindings'
 	@echo '  make examples      every example, and every case of tests/cases, through the program, after make build'
@@ -71,12 +72,22 @@ play-test:
 	@if command -v eslint > /dev/null; then eslint play/page/*.js; \
 		else echo 'no eslint on PATH (Debian: apt-get install eslint): its rules were not checked'; fi
 
-# The program, and the manual page and completions that are made from its help, below PREFIX.
+# Below PREFIX: the program; the manual page and completions that are made from its help, and the page of the format;
+# and three tools, with what they import.
 PREFIX ?= /usr/local
+PROGRAM ?= crates/rbbank/out/rbbank
+UNDER = $(DESTDIR)$(PREFIX)
+TOOLS = draw explain wire
+MODULES = bad_lines bank json_at picture saying world
 install:
-	@test -x crates/rbbank/out/rbbank || { echo 'there is no program yet: make build'; exit 1; }
-	@install -D -m 755 crates/rbbank/out/rbbank "$(DESTDIR)$(PREFIX)/bin/rbbank"
-	@examples/tools/from_help.py "$(DESTDIR)$(PREFIX)/bin/rbbank" "$(DESTDIR)$(PREFIX)"
+	@test -x "$(PROGRAM)" || { echo 'there is no program yet: make build'; exit 1; }
+	@install -D -m 755 "$(PROGRAM)" "$(UNDER)/bin/rbbank"
+	@examples/tools/from_help.py "$(UNDER)/bin/rbbank" "$(UNDER)"
+	@install -d "$(UNDER)/share/man/man5" "$(UNDER)/share/rbbank"
+	@examples/tools/from_format.py docs/FORMAT.md rbbank > "$(UNDER)/share/man/man5/rbbank.5"
+	@install -m 644 docs/FORMAT.md $(MODULES:%=examples/tools/%.py) "$(UNDER)/share/rbbank"
+	@install -m 755 $(TOOLS:%=examples/tools/%.py) "$(UNDER)/share/rbbank"
+	@for tool in $(TOOLS); do ln -sf "../share/rbbank/$$tool.py" "$(UNDER)/bin/rbbank-$$tool" || exit 1; done
 
 # The library for C, its header and what pkg-config says of it, below PREFIX. The version is the library's.
 LIBRARY_VERSION := $(shell sed -n 's/.*VERSION: &str = "\(.*\)";/\1/p' crates/rb_capi/src/version.rt)
@@ -102,6 +113,8 @@ examples: build
 	@tests/closings.py crates/rbbank/out/rbbank
 	@tests/older.py crates/rbbank/out/rbbank
 	@tests/tools.py crates/rbbank/out/rbbank
+	@tests/files.py crates/rbbank/out/rbbank
+	@tests/install.py crates/rbbank/out/rbbank
 
 # The library in bindings/out, its tests in each language, the same answers by each of them, and the shop. What is
 # missing is said, and ends it in a status. If the gate built the program of these sources, it isn't built again.
@@ -131,6 +144,8 @@ test: toolchain
 	@tests/closings.py --quiet crates/rbbank/out/rbbank
 	@tests/older.py --quiet crates/rbbank/out/rbbank
 	@tests/tools.py --quiet crates/rbbank/out/rbbank
+	@tests/files.py --quiet crates/rbbank/out/rbbank
+	@tests/install.py --quiet crates/rbbank/out/rbbank
 	@play/check.py --quiet crates/rbbank/out/rbbank
 	@tests/crash.py --quiet crates/rbbank/out/rbbank --kills 20 --seed 1
 

@@ -102,4 +102,4 @@ done
 for site in 0 1 2; do close "$site"; done
 
 echo 'The audit finds this order of what the sites recorded:'
-{ cat "$folder/0.journal"; tail -n +2 "$folder/1.journal"; tail -n +2 "$folder/2.journal"; } | "$program" audit
+"$program" audit "$folder/0.journal" "$folder/1.journal" "$folder/2.journal"

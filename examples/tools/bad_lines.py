@@ -5,6 +5,7 @@ The program decides what is bad; these rules of docs/FORMAT.md only look for the
 import difflib
 import re
 
+import bank
 from json_at import Fault, parse
 
 BYTE, WORD, LONG = 0xFF, 0xFFFF_FFFF, 0xFFFF_FFFF_FFFF_FFFF
@@ -323,7 +324,7 @@ def reason(data, bad_line, is_histories):
         check_line(line, is_first, is_histories, first)
     except Fault as fault:
         return fault.at, fault.why
-    return 0, "no reason was found here, but the program doesn't take the line (docs/FORMAT.md has the rules)"
+    return 0, f"no reason was found here, but the program doesn't take the line ({bank.RULES} has the rules)"
 
 
 def pointed(line, at, room=76):

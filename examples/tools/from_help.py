@@ -19,7 +19,7 @@ ROOT = os.path.dirname(os.path.dirname(os.path.dirname(os.path.abspath(__file__)
 STORED = os.path.join(ROOT, "tests", "help")
 MADE_BY = "Made by examples/tools/from_help.py from the help of the program."
 COMMAND = re.compile(r"  (\S+)(?:\s+(.*))?$")
-VALUE = re.compile(r"  <([^>]+)>(?:\.\.\.)?(?:\s\s+(.*))?$")
+VALUE = re.compile(r"  [<\[]([^>\]]+)[>\]](?:\.\.\.)?(?:\s\s+(.*))?$")
 OPTION = re.compile(r"\s+(?:-(\w), )?--([\w-]+)(?: <([^>]+)>)?(?:\s\s+(.*))?$")
 FILES = ("FILE", "JOURNAL")  # the names of values that are files'
 
@@ -130,7 +130,8 @@ def manual(name, top, pages):
         values = [line for value, text in page.values for line in (".TP", f"\\fI{roff(value)}\\fR", roff(text))]
         lines += [f".SS {name} {command}", f"{roff(page.about)}.", *values, *roff_options(page.options)]
         lines += [".PP", *roff_rest(page.rest)] if page.rest else []
-    return "\n".join(lines) + "\n"
+    lines += [".SH EXAMPLES", *roff_rest(top.rest)] if top.rest else []
+    return "\n".join([*lines, ".SH SEE ALSO", f"\\fB{name}\\fR(5)"]) + "\n"
 
 
 # ---- completions
@@ -308,6 +309,8 @@ BASH_CASES = [
     (["rbbank", "site", "--journal", "thr"], ["threads.txt"]),
     (["rbbank", "close", "--a"], ["--account"]),
     (["rbbank", "close", "--sites", "2", "thr"], ["threads.txt"]),
+    (["rbbank", "script", "thr"], ["threads.txt"]),
+    (["rbbank", "audit", "threads.txt", "mig"], ["migrate.txt"]),
     (["rbbank", "help", "mig"], ["migrate"]),
 ]
 

@@ -48,7 +48,8 @@ PAUSE = 1.0  # seconds before a command that confirmed nothing is started again
 
 
 def options() -> argparse.Namespace:
-    reader = argparse.ArgumentParser(description=__doc__, formatter_class=argparse.RawDescriptionHelpFormatter)
+    described = (__doc__ or "").replace("wire.py", os.path.basename(sys.argv[0]))
+    reader = argparse.ArgumentParser(description=described, formatter_class=argparse.RawDescriptionHelpFormatter)
     reader.add_argument("--me", metavar="S", type=int, required=True, help="the site whose lines come in")
     reader.add_argument("--sites", metavar="K", type=int, required=True, help="the number of sites")
     reader.add_argument("--to", metavar="COMMAND", required=True, help="what takes the messages for site {}")

@@ -128,9 +128,13 @@ first_met rows pending file none plain =
     let c = (leaf close_line).rules in
     let h = (at rows pending).held in
     ap (λ met. after_step c file (at rows pending) met.0 met.1) (no_flag c idle file h plain)
-    ∙ ap (λ b. record (at rows pending) { held = pushed (codes "journals") file (cond (b && true) h (settled c h)); waiting = positional }) none
+    ∙ ap (λ b. record (at rows pending) {
+      held = pushed (codes "journals") file (cond (b && true) h (settled c h));
+      waiting = positional;
+    }) none
 
-first_fault : (rows : List Row) (pending : Option (Text × List Text)) (file : Text) → is_pending journals_rule pending ≡ false → IsPlain file
+first_fault : (rows : List Row) (pending : Option (Text × List Text)) (file : Text) → is_pending journals_rule pending
+    ≡ false → IsPlain file
     → settle_fault (leaf close_line).rules (leaf close_line).args_override_self (at rows pending).held ≡ []
     → turn_fault (leaf close_line) [] (at rows pending) file ≡ []
 first_fault rows pending file none plain settled =
@@ -205,7 +209,7 @@ all_pass : (files : List Text) → values_fault journals_rule files ≡ []
 all_pass [] = refl
 all_pass (file ∷ files) = all_pass files
 
-in_range : (n : ℕ) → 1 ≤ n → n ≤ usize_max → range_kinds 1 usize_max n ≡ []
+pub in_range : (n : ℕ) → 1 ≤ n → n ≤ usize_max → range_kinds 1 usize_max n ≡ []
 in_range n some few =
     let a : (n == 0) ≡ false = ne_eqb _ _ (λ e. omega (arith, e, some)) in
     let b : nat_lt n 1 ≡ false = search rules in
@@ -220,7 +224,8 @@ files_pass rows file files few =
 -- what the words leave
 leaves : (sites : Option ℕ) (names : List Text) (file : Text) (files : List Text)
     → IfSome sites (λ n. (2 ≤ n) × (n ≤ MOST_SITES)) → AreValues names → AreValues (file ∷ files) → length (file ∷ files) ≤ usize_max
-    → Leaves (leaf close_line) (spelled (options_given sites names) ++ file ∷ files) (used journals_rule (file ∷ files) (option_rows sites names))
+    → Leaves (leaf close_line) (spelled (options_given sites names) ++ file ∷ files)
+    (used journals_rule (file ∷ files) (option_rows sites names))
 leaves sites names file files few are_names are_files fit =
     let s = leaf close_line in
     let gs = options_given sites names in

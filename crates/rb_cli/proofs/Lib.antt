@@ -1,5 +1,6 @@
 mod Added
 mod Closing
+mod Files
 mod GivenOptions
 mod Options
 mod Passing

@@ -21,11 +21,13 @@ use Rattle.clap.specs.declared.error.kind.ErrorKind.TheVariants.{DisplayHelp, In
 use Rattle.clap.proofs.OnLiterals.{clap_on_literals}
 use Rattle.rb_money.specs.declared.limits.TheConstants.{MOST_HISTORY, MOST_SITES}
 use Rattle.rb_cli.specs.declared.recorded.Record.{Record}
+use Rattle.rb_cli.specs.declared.task.Task.{Task}
+use Rattle.rb_cli.specs.declared.task.Task.TheVariants.{Script, Histories, Audit, Migrate}
 use Rattle.rb_cli.specs.declared.words.TheConstants.{MOST_TELLERS}
 use Rattle.rb_cli.specs.Words.{AreFit, Asked, IsInRange, IsNumberWithin, IsSwitchWord, TextRefs, command_line, option_rule, plain_line}
 use Rattle.rb_cli.specs.Words.{choice_at, close_asked, close_line, number_at, seal, site_line, switch_at}
 use Rattle.rb_cli.specs.Words.{switch_rule, values_rule, with_site_options}
-use Rattle.rb_cli.specs.Words.{threads_line, within, numeral_value, words_of_matches, script, audit, histories, migrate, threads}
+use Rattle.rb_cli.specs.Words.{threads_line, within, numeral_value, words_of_matches, task_asked, task_line, texts_at, threads}
 use Rattle.rb_cli.specs.Words.{site}
 use Rattle.rb_cli.proofs.Options.{HasText, at_option, fits, given_text, none_missing, leaf_passes, number_of_text}
 use Rattle.rb_cli.proofs.Passing.{Each, HasOptions, Passes, found_in, never, none_of}
@@ -306,7 +308,8 @@ site_asks names its_rows all none =
         me = λ _. fits _ _ its_rows 0 15 (at_option rules (numbers (codes "me") 0 15 true) _ its_rows all refl) refl;
         resend = λ _. again;
         new = λ _. switched (codes "new") its_rows (at_option rules (filled (switch_rule (codes "new"))) (codes "new") its_rows all refl);
-        seal = λ _. switched (codes "seal") its_rows (at_option rules (filled (switch_rule (codes "seal"))) (codes "seal") its_rows all refl);
+        seal = λ _. switched (codes "seal") its_rows (at_option rules (filled (switch_rule (codes "seal")))
+            (codes "seal") its_rows all refl);
         next_sites = λ is. absurd (other_text (codes "site") (codes "close") refl is);
       };
     }
@@ -375,26 +378,37 @@ abbrev AsksBy : Text → Shape → Type 0
 AsksBy name s = (words : List Text) → level_fault s [] nothing_held words false [] ≡ [] → answers_to name (label_of s) ≡ true
     → Asks (Some (rows_at s words))
 
-plain_asks : (name : Text) (a : App) (asked : Asked)
-    → ((its_rows : List Row) → words_of_matches (Some ((leaf a).name, its_rows)) ≡ Some asked)
-    → IsInRange asked → bytes_eq (leaf a).name (codes "threads") ≡ false → bytes_eq (leaf a).name (codes "site") ≡ false
-    → bytes_eq (leaf a).name (codes "close") ≡ false → AsksBy name (leaf a)
-plain_asks name a asked is in_range no_threads no_site no_close words none named = record {
-  asked = asked;
-  is = is (rows_at (leaf a) words).1;
-  in_range = in_range;
-  fit = no_options _ _ no_threads no_site no_close;
-}
+-- a task is within its limits, with files or without
+task_in_range : (task : Task) (files : List Text) → IsInRange (task_asked task files)
+task_in_range Script [] = tt
+task_in_range Histories [] = tt
+task_in_range Audit [] = tt
+task_in_range Migrate [] = tt
+task_in_range task (file ∷ files) = omega arith
+
+task_asks : (name : Text) (task : Task)
+    → ((its_rows : List Row) → words_of_matches (Some ((leaf (task_line task)).name, its_rows))
+    ≡ Some (task_asked task (texts_at (codes "files") its_rows)))
+    → bytes_eq (leaf (task_line task)).name (codes "threads") ≡ false
+    → bytes_eq (leaf (task_line task)).name (codes "site") ≡ false
+    → bytes_eq (leaf (task_line task)).name (codes "close") ≡ false → AsksBy name (leaf (task_line task))
+task_asks name task is no_threads no_site no_close words none named =
+    let its_rows = (rows_at (leaf (task_line task)) words).1 in record {
+      asked = task_asked task (texts_at (codes "files") its_rows);
+      is = is its_rows;
+      in_range = task_in_range task (texts_at (codes "files") its_rows);
+      fit = no_options _ _ no_threads no_site no_close;
+    }
 
 each_asks : (names : TextRefs) (name : Text) → IsOther name → Each (AsksBy name) (built (command_line names)).subs
 each_asks names name other = (
-  plain_asks name (new_app (codes "script")) script (λ its_rows. refl) tt refl refl refl,
+  task_asks name Script (λ its_rows. refl) refl refl refl,
   (
-    plain_asks name (new_app (codes "histories")) histories (λ its_rows. refl) tt refl refl refl,
+    task_asks name Histories (λ its_rows. refl) refl refl refl,
     (
-      plain_asks name (new_app (codes "audit")) audit (λ its_rows. refl) tt refl refl refl,
+      task_asks name Audit (λ its_rows. refl) refl refl refl,
       (
-        plain_asks name (new_app (codes "migrate")) migrate (λ its_rows. refl) tt refl refl refl,
+        task_asks name Migrate (λ its_rows. refl) refl refl refl,
         (
           (λ words none named.
               let done = leaf_passes (leaf threads_line) threads_options words none in

@@ -23,17 +23,23 @@ use Rattle.clap.proofs.WalkLemmas.{walk_stopped}
 use Rattle.clap.specs.declared.error.kind.ErrorKind.TheVariants.{ArgumentConflict}
 use Rattle.rb_money.specs.declared.limits.TheConstants.{MOST_HISTORY, MOST_SITES}
 use Rattle.rb_cli.specs.declared.words.TheConstants.{MOST_TELLERS}
-use Rattle.rb_cli.specs.Words.{AreRecordWords, Ask, Asked, AskForClosing, AskForJournal, AskForSeal, AskForSite, AskForThreads}
-use Rattle.rb_cli.specs.Words.{IsBankGiven, IsNewGiven, IsRecordGiven, IsValue, TextRefs, account_words, as_asked, close, close_line, command_line, numeral_value}
-use Rattle.rb_cli.specs.Words.{conflict_of, kinds_of, option_rule, record_of, record_rule, record_word, seal, seals_bank, sites_words, text_if_any, texts_of}
+use Rattle.rb_cli.specs.Words.{AreRecordWords, AreValues, Ask, Asked, AskForClosing, AskForJournal, AskForSeal, AskForSite, AskForThreads}
+use Rattle.rb_cli.specs.Words.{IsBankGiven, IsNewGiven, IsRecordGiven, IsValue, TextRefs, account_words, as_asked}
+use Rattle.rb_cli.specs.Words.{close, close_line, command_line, numeral_value}
+use Rattle.rb_cli.specs.Words.{conflict_of, kinds_of, option_rule, record_of, record_rule, record_word, seal}
+use Rattle.rb_cli.specs.Words.{seals_bank, sites_words, text_if_any, texts_of}
+use Rattle.rb_cli.specs.Words.{AskForFiles, most_files, over, task_asked, task_line, task_name, texts_at}
 use Rattle.rb_cli.specs.Words.{script, audit, histories, migrate, site, site_line, switch_rule, threads, threads_line, words_of_matches}
 use Rattle.rb_cli.specs.declared.recorded.Record.{Record}
 use Rattle.rb_cli.specs.declared.recorded.Record.TheVariants.{Changes, All}
 use Rattle.rb_cli.specs.declared.words.Words.{Words}
-use Rattle.rb_cli.specs.declared.words.Words.TheVariants.{Script, Histories, Audit, Migrate, Threads, Site, Seal, Close}
+use Rattle.rb_cli.specs.declared.words.Words.TheVariants.{Script, Histories, Audit, Migrate, Files, Threads, Site, Seal, Close}
+use Rattle.rb_cli.specs.declared.task.Task.{Task}
+use Rattle.rb_cli.specs.declared.task.Task.TheVariants as task
 use Rattle.rb_cli.proofs.GivenOptions.{AreGiven, Given, IsNamed, IsPlain, IsSwitch, both_none, rows_with, spelled, switch, takes_given}
 use Rattle.rb_cli.proofs.GivenOptions.{valued}
 use Rattle.rb_cli.proofs.Closing.{closing_taken}
+use Rattle.rb_cli.proofs.Files.{TakesFiles, file_taken, files_taken}
 use Rattle.rb_cli.proofs.Passing.{Each, each_append}
 use Rattle.rb_cli.proofs.Reading.{leaf, numbers}
 use Rattle.rb_cli.proofs.Spelled.{decimal_digits, is_plain, named, number_passes, reads}
@@ -604,55 +610,79 @@ module _ (names : TextRefs) (are_words : AreRecordWords names) where
     unfolding clap_on_literals
     me_journal_resend = takes_seven _ _ _ _ _ _ _ _
         (site_taken (me ∷ journal ∷ resend ∷ []) _ (x, (y, (z, tt))) refl (λ r. refl) (λ n. refl) (λ r n. refl) (reads false))
-        (site_taken (fresh ∷ me ∷ journal ∷ resend ∷ []) _ (new_fits, (x, (y, (z, tt)))) refl (λ r. refl) (λ n. refl) (λ r n. refl) (reads true))
-        (site_taken (me ∷ fresh ∷ journal ∷ resend ∷ []) _ (x, (new_fits, (y, (z, tt)))) refl (λ r. refl) (λ n. refl) (λ r n. refl) (reads true))
-        (site_taken (me ∷ journal ∷ fresh ∷ resend ∷ []) _ (x, (y, (new_fits, (z, tt)))) refl (λ r. refl) (λ n. refl) (λ r n. refl) (reads true))
-        (site_taken (me ∷ journal ∷ resend ∷ fresh ∷ []) _ (x, (y, (z, (new_fits, tt)))) refl (λ r. refl) (λ n. refl) (λ r n. refl) (reads true))
+        (site_taken (fresh ∷ me ∷ journal ∷ resend ∷ []) _ (new_fits, (x, (y, (z, tt)))) refl (λ r. refl) (λ n. refl)
+        (λ r n. refl) (reads true))
+        (site_taken (me ∷ fresh ∷ journal ∷ resend ∷ []) _ (x, (new_fits, (y, (z, tt)))) refl (λ r. refl) (λ n. refl)
+        (λ r n. refl) (reads true))
+        (site_taken (me ∷ journal ∷ fresh ∷ resend ∷ []) _ (x, (y, (new_fits, (z, tt)))) refl (λ r. refl) (λ n. refl)
+        (λ r n. refl) (reads true))
+        (site_taken (me ∷ journal ∷ resend ∷ fresh ∷ []) _ (x, (y, (z, (new_fits, tt)))) refl (λ r. refl) (λ n. refl)
+        (λ r n. refl) (reads true))
 
     me_resend_journal : Takes (codes "site" ∷ spelled (me ∷ resend ∷ journal ∷ [])) (asked a file (Some b))
     unfolding clap_on_literals
     me_resend_journal = takes_seven _ _ _ _ _ _ _ _
         (site_taken (me ∷ resend ∷ journal ∷ []) _ (x, (z, (y, tt))) refl (λ r. refl) (λ n. refl) (λ r n. refl) (reads false))
-        (site_taken (fresh ∷ me ∷ resend ∷ journal ∷ []) _ (new_fits, (x, (z, (y, tt)))) refl (λ r. refl) (λ n. refl) (λ r n. refl) (reads true))
-        (site_taken (me ∷ fresh ∷ resend ∷ journal ∷ []) _ (x, (new_fits, (z, (y, tt)))) refl (λ r. refl) (λ n. refl) (λ r n. refl) (reads true))
-        (site_taken (me ∷ resend ∷ fresh ∷ journal ∷ []) _ (x, (z, (new_fits, (y, tt)))) refl (λ r. refl) (λ n. refl) (λ r n. refl) (reads true))
-        (site_taken (me ∷ resend ∷ journal ∷ fresh ∷ []) _ (x, (z, (y, (new_fits, tt)))) refl (λ r. refl) (λ n. refl) (λ r n. refl) (reads true))
+        (site_taken (fresh ∷ me ∷ resend ∷ journal ∷ []) _ (new_fits, (x, (z, (y, tt)))) refl (λ r. refl) (λ n. refl)
+        (λ r n. refl) (reads true))
+        (site_taken (me ∷ fresh ∷ resend ∷ journal ∷ []) _ (x, (new_fits, (z, (y, tt)))) refl (λ r. refl) (λ n. refl)
+        (λ r n. refl) (reads true))
+        (site_taken (me ∷ resend ∷ fresh ∷ journal ∷ []) _ (x, (z, (new_fits, (y, tt)))) refl (λ r. refl) (λ n. refl)
+        (λ r n. refl) (reads true))
+        (site_taken (me ∷ resend ∷ journal ∷ fresh ∷ []) _ (x, (z, (y, (new_fits, tt)))) refl (λ r. refl) (λ n. refl)
+        (λ r n. refl) (reads true))
 
     journal_me_resend : Takes (codes "site" ∷ spelled (journal ∷ me ∷ resend ∷ [])) (asked a file (Some b))
     unfolding clap_on_literals
     journal_me_resend = takes_seven _ _ _ _ _ _ _ _
         (site_taken (journal ∷ me ∷ resend ∷ []) _ (y, (x, (z, tt))) refl (λ r. refl) (λ n. refl) (λ r n. refl) (reads false))
-        (site_taken (fresh ∷ journal ∷ me ∷ resend ∷ []) _ (new_fits, (y, (x, (z, tt)))) refl (λ r. refl) (λ n. refl) (λ r n. refl) (reads true))
-        (site_taken (journal ∷ fresh ∷ me ∷ resend ∷ []) _ (y, (new_fits, (x, (z, tt)))) refl (λ r. refl) (λ n. refl) (λ r n. refl) (reads true))
-        (site_taken (journal ∷ me ∷ fresh ∷ resend ∷ []) _ (y, (x, (new_fits, (z, tt)))) refl (λ r. refl) (λ n. refl) (λ r n. refl) (reads true))
-        (site_taken (journal ∷ me ∷ resend ∷ fresh ∷ []) _ (y, (x, (z, (new_fits, tt)))) refl (λ r. refl) (λ n. refl) (λ r n. refl) (reads true))
+        (site_taken (fresh ∷ journal ∷ me ∷ resend ∷ []) _ (new_fits, (y, (x, (z, tt)))) refl (λ r. refl) (λ n. refl)
+        (λ r n. refl) (reads true))
+        (site_taken (journal ∷ fresh ∷ me ∷ resend ∷ []) _ (y, (new_fits, (x, (z, tt)))) refl (λ r. refl) (λ n. refl)
+        (λ r n. refl) (reads true))
+        (site_taken (journal ∷ me ∷ fresh ∷ resend ∷ []) _ (y, (x, (new_fits, (z, tt)))) refl (λ r. refl) (λ n. refl)
+        (λ r n. refl) (reads true))
+        (site_taken (journal ∷ me ∷ resend ∷ fresh ∷ []) _ (y, (x, (z, (new_fits, tt)))) refl (λ r. refl) (λ n. refl)
+        (λ r n. refl) (reads true))
 
     journal_resend_me : Takes (codes "site" ∷ spelled (journal ∷ resend ∷ me ∷ [])) (asked a file (Some b))
     unfolding clap_on_literals
     journal_resend_me = takes_seven _ _ _ _ _ _ _ _
         (site_taken (journal ∷ resend ∷ me ∷ []) _ (y, (z, (x, tt))) refl (λ r. refl) (λ n. refl) (λ r n. refl) (reads false))
-        (site_taken (fresh ∷ journal ∷ resend ∷ me ∷ []) _ (new_fits, (y, (z, (x, tt)))) refl (λ r. refl) (λ n. refl) (λ r n. refl) (reads true))
-        (site_taken (journal ∷ fresh ∷ resend ∷ me ∷ []) _ (y, (new_fits, (z, (x, tt)))) refl (λ r. refl) (λ n. refl) (λ r n. refl) (reads true))
-        (site_taken (journal ∷ resend ∷ fresh ∷ me ∷ []) _ (y, (z, (new_fits, (x, tt)))) refl (λ r. refl) (λ n. refl) (λ r n. refl) (reads true))
-        (site_taken (journal ∷ resend ∷ me ∷ fresh ∷ []) _ (y, (z, (x, (new_fits, tt)))) refl (λ r. refl) (λ n. refl) (λ r n. refl) (reads true))
+        (site_taken (fresh ∷ journal ∷ resend ∷ me ∷ []) _ (new_fits, (y, (z, (x, tt)))) refl (λ r. refl) (λ n. refl)
+        (λ r n. refl) (reads true))
+        (site_taken (journal ∷ fresh ∷ resend ∷ me ∷ []) _ (y, (new_fits, (z, (x, tt)))) refl (λ r. refl) (λ n. refl)
+        (λ r n. refl) (reads true))
+        (site_taken (journal ∷ resend ∷ fresh ∷ me ∷ []) _ (y, (z, (new_fits, (x, tt)))) refl (λ r. refl) (λ n. refl)
+        (λ r n. refl) (reads true))
+        (site_taken (journal ∷ resend ∷ me ∷ fresh ∷ []) _ (y, (z, (x, (new_fits, tt)))) refl (λ r. refl) (λ n. refl)
+        (λ r n. refl) (reads true))
 
     resend_me_journal : Takes (codes "site" ∷ spelled (resend ∷ me ∷ journal ∷ [])) (asked a file (Some b))
     unfolding clap_on_literals
     resend_me_journal = takes_seven _ _ _ _ _ _ _ _
         (site_taken (resend ∷ me ∷ journal ∷ []) _ (z, (x, (y, tt))) refl (λ r. refl) (λ n. refl) (λ r n. refl) (reads false))
-        (site_taken (fresh ∷ resend ∷ me ∷ journal ∷ []) _ (new_fits, (z, (x, (y, tt)))) refl (λ r. refl) (λ n. refl) (λ r n. refl) (reads true))
-        (site_taken (resend ∷ fresh ∷ me ∷ journal ∷ []) _ (z, (new_fits, (x, (y, tt)))) refl (λ r. refl) (λ n. refl) (λ r n. refl) (reads true))
-        (site_taken (resend ∷ me ∷ fresh ∷ journal ∷ []) _ (z, (x, (new_fits, (y, tt)))) refl (λ r. refl) (λ n. refl) (λ r n. refl) (reads true))
-        (site_taken (resend ∷ me ∷ journal ∷ fresh ∷ []) _ (z, (x, (y, (new_fits, tt)))) refl (λ r. refl) (λ n. refl) (λ r n. refl) (reads true))
+        (site_taken (fresh ∷ resend ∷ me ∷ journal ∷ []) _ (new_fits, (z, (x, (y, tt)))) refl (λ r. refl) (λ n. refl)
+        (λ r n. refl) (reads true))
+        (site_taken (resend ∷ fresh ∷ me ∷ journal ∷ []) _ (z, (new_fits, (x, (y, tt)))) refl (λ r. refl) (λ n. refl)
+        (λ r n. refl) (reads true))
+        (site_taken (resend ∷ me ∷ fresh ∷ journal ∷ []) _ (z, (x, (new_fits, (y, tt)))) refl (λ r. refl) (λ n. refl)
+        (λ r n. refl) (reads true))
+        (site_taken (resend ∷ me ∷ journal ∷ fresh ∷ []) _ (z, (x, (y, (new_fits, tt)))) refl (λ r. refl) (λ n. refl)
+        (λ r n. refl) (reads true))
 
     resend_journal_me : Takes (codes "site" ∷ spelled (resend ∷ journal ∷ me ∷ [])) (asked a file (Some b))
     unfolding clap_on_literals
     resend_journal_me = takes_seven _ _ _ _ _ _ _ _
         (site_taken (resend ∷ journal ∷ me ∷ []) _ (z, (y, (x, tt))) refl (λ r. refl) (λ n. refl) (λ r n. refl) (reads false))
-        (site_taken (fresh ∷ resend ∷ journal ∷ me ∷ []) _ (new_fits, (z, (y, (x, tt)))) refl (λ r. refl) (λ n. refl) (λ r n. refl) (reads true))
-        (site_taken (resend ∷ fresh ∷ journal ∷ me ∷ []) _ (z, (new_fits, (y, (x, tt)))) refl (λ r. refl) (λ n. refl) (λ r n. refl) (reads true))
-        (site_taken (resend ∷ journal ∷ fresh ∷ me ∷ []) _ (z, (y, (new_fits, (x, tt)))) refl (λ r. refl) (λ n. refl) (λ r n. refl) (reads true))
-        (site_taken (resend ∷ journal ∷ me ∷ fresh ∷ []) _ (z, (y, (x, (new_fits, tt)))) refl (λ r. refl) (λ n. refl) (λ r n. refl) (reads true))
+        (site_taken (fresh ∷ resend ∷ journal ∷ me ∷ []) _ (new_fits, (z, (y, (x, tt)))) refl (λ r. refl) (λ n. refl)
+        (λ r n. refl) (reads true))
+        (site_taken (resend ∷ fresh ∷ journal ∷ me ∷ []) _ (z, (new_fits, (y, (x, tt)))) refl (λ r. refl) (λ n. refl)
+        (λ r n. refl) (reads true))
+        (site_taken (resend ∷ journal ∷ fresh ∷ me ∷ []) _ (z, (y, (new_fits, (x, tt)))) refl (λ r. refl) (λ n. refl)
+        (λ r n. refl) (reads true))
+        (site_taken (resend ∷ journal ∷ me ∷ fresh ∷ []) _ (z, (y, (x, (new_fits, tt)))) refl (λ r. refl) (λ n. refl)
+        (λ r n. refl) (reads true))
 
   module _ (a : ℕ) (file : Text) (x : Fits site_shape (me_given a)) (y : Fits site_shape (journal_given file))
       (reads : ReadAs (numeral_value (without_minus (decimal a))) None a None file) where
@@ -660,17 +690,23 @@ module _ (names : TextRefs) (are_words : AreRecordWords names) where
     unfolding clap_on_literals
     me_journal = takes_five _ _ _ _ _ _
         (site_taken (me_given a ∷ journal_given file ∷ []) _ (x, (y, tt)) refl (λ r. refl) (λ n. refl) (λ r n. refl) (reads false))
-        (site_taken (fresh ∷ me_given a ∷ journal_given file ∷ []) _ (new_fits, (x, (y, tt))) refl (λ r. refl) (λ n. refl) (λ r n. refl) (reads true))
-        (site_taken (me_given a ∷ fresh ∷ journal_given file ∷ []) _ (x, (new_fits, (y, tt))) refl (λ r. refl) (λ n. refl) (λ r n. refl) (reads true))
-        (site_taken (me_given a ∷ journal_given file ∷ fresh ∷ []) _ (x, (y, (new_fits, tt))) refl (λ r. refl) (λ n. refl) (λ r n. refl) (reads true))
+        (site_taken (fresh ∷ me_given a ∷ journal_given file ∷ []) _ (new_fits, (x, (y, tt))) refl (λ r. refl)
+        (λ n. refl) (λ r n. refl) (reads true))
+        (site_taken (me_given a ∷ fresh ∷ journal_given file ∷ []) _ (x, (new_fits, (y, tt))) refl (λ r. refl)
+        (λ n. refl) (λ r n. refl) (reads true))
+        (site_taken (me_given a ∷ journal_given file ∷ fresh ∷ []) _ (x, (y, (new_fits, tt))) refl (λ r. refl)
+        (λ n. refl) (λ r n. refl) (reads true))
 
     journal_me : Takes (codes "site" ∷ spelled (journal_given file ∷ me_given a ∷ [])) (asked a file None)
     unfolding clap_on_literals
     journal_me = takes_five _ _ _ _ _ _
         (site_taken (journal_given file ∷ me_given a ∷ []) _ (y, (x, tt)) refl (λ r. refl) (λ n. refl) (λ r n. refl) (reads false))
-        (site_taken (fresh ∷ journal_given file ∷ me_given a ∷ []) _ (new_fits, (y, (x, tt))) refl (λ r. refl) (λ n. refl) (λ r n. refl) (reads true))
-        (site_taken (journal_given file ∷ fresh ∷ me_given a ∷ []) _ (y, (new_fits, (x, tt))) refl (λ r. refl) (λ n. refl) (λ r n. refl) (reads true))
-        (site_taken (journal_given file ∷ me_given a ∷ fresh ∷ []) _ (y, (x, (new_fits, tt))) refl (λ r. refl) (λ n. refl) (λ r n. refl) (reads true))
+        (site_taken (fresh ∷ journal_given file ∷ me_given a ∷ []) _ (new_fits, (y, (x, tt))) refl (λ r. refl)
+        (λ n. refl) (λ r n. refl) (reads true))
+        (site_taken (journal_given file ∷ fresh ∷ me_given a ∷ []) _ (y, (new_fits, (x, tt))) refl (λ r. refl)
+        (λ n. refl) (λ r n. refl) (reads true))
+        (site_taken (journal_given file ∷ me_given a ∷ fresh ∷ []) _ (y, (x, (new_fits, tt))) refl (λ r. refl)
+        (λ n. refl) (λ r n. refl) (reads true))
 
   -- options with `--seal` among them
   seal_taken : (gs : List Given) (me : ℕ) (file : Text) → Each (Fits site_shape) gs → are_enough site_shape gs ≡ true
@@ -687,16 +723,22 @@ module _ (names : TextRefs) (are_words : AreRecordWords names) where
     me_journal_seal : InEachPlace AsSeal (codes "--seal") (codes "site" ∷ spelled (me_given a ∷ journal_given file ∷ []))
     unfolding clap_on_literals
     me_journal_seal = in_five AsSeal (codes "--seal") _ _ _ _ _
-        (seal_taken (sealing ∷ me_given a ∷ journal_given file ∷ []) a file (seal_fits, (x, (y, tt))) refl refl (ap (λ k. Some (seal k file)) read))
-        (seal_taken (me_given a ∷ sealing ∷ journal_given file ∷ []) a file (x, (seal_fits, (y, tt))) refl refl (ap (λ k. Some (seal k file)) read))
-        (seal_taken (me_given a ∷ journal_given file ∷ sealing ∷ []) a file (x, (y, (seal_fits, tt))) refl refl (ap (λ k. Some (seal k file)) read))
+        (seal_taken (sealing ∷ me_given a ∷ journal_given file ∷ []) a file (seal_fits, (x, (y, tt))) refl refl
+        (ap (λ k. Some (seal k file)) read))
+        (seal_taken (me_given a ∷ sealing ∷ journal_given file ∷ []) a file (x, (seal_fits, (y, tt))) refl refl
+        (ap (λ k. Some (seal k file)) read))
+        (seal_taken (me_given a ∷ journal_given file ∷ sealing ∷ []) a file (x, (y, (seal_fits, tt))) refl refl
+        (ap (λ k. Some (seal k file)) read))
 
     journal_me_seal : InEachPlace AsSeal (codes "--seal") (codes "site" ∷ spelled (journal_given file ∷ me_given a ∷ []))
     unfolding clap_on_literals
     journal_me_seal = in_five AsSeal (codes "--seal") _ _ _ _ _
-        (seal_taken (sealing ∷ journal_given file ∷ me_given a ∷ []) a file (seal_fits, (y, (x, tt))) refl refl (ap (λ k. Some (seal k file)) read))
-        (seal_taken (journal_given file ∷ sealing ∷ me_given a ∷ []) a file (y, (seal_fits, (x, tt))) refl refl (ap (λ k. Some (seal k file)) read))
-        (seal_taken (journal_given file ∷ me_given a ∷ sealing ∷ []) a file (y, (x, (seal_fits, tt))) refl refl (ap (λ k. Some (seal k file)) read))
+        (seal_taken (sealing ∷ journal_given file ∷ me_given a ∷ []) a file (seal_fits, (y, (x, tt))) refl refl
+        (ap (λ k. Some (seal k file)) read))
+        (seal_taken (journal_given file ∷ sealing ∷ me_given a ∷ []) a file (y, (seal_fits, (x, tt))) refl refl
+        (ap (λ k. Some (seal k file)) read))
+        (seal_taken (journal_given file ∷ me_given a ∷ sealing ∷ []) a file (y, (x, (seal_fits, tt))) refl refl
+        (ap (λ k. Some (seal k file)) read))
 
   -- ---- the words that ask
 
@@ -827,12 +869,55 @@ module _ (names : TextRefs) (are_words : AreRecordWords names) where
   unfolding clap_on_literals
   migrate_taken = (refl, refl)
 
+  behind_task : (t : Task) (words : List Text) → AreBehind (task_name t) (leaf (task_line t)) words
+  unfolding clap_on_literals
+  behind_task task.Script words = behind (codes "script") (leaf (task_line task.Script)) words refl refl
+      (λ none. ap (λ k. or_else k []) none) refl
+  behind_task task.Histories words =
+      behind (codes "histories") (leaf (task_line task.Histories)) words refl refl (λ none. ap (λ k. or_else k []) none) refl
+  behind_task task.Audit words = behind (codes "audit") (leaf (task_line task.Audit)) words refl refl
+      (λ none. ap (λ k. or_else k []) none) refl
+  behind_task task.Migrate words =
+      behind (codes "migrate") (leaf (task_line task.Migrate)) words refl refl (λ none. ap (λ k. or_else k []) none) refl
+
+  task_takes : (t : Task) (files : List Text) → AreValues files → 1 ≤ length files → length files ≤ most_files t
+      → TakesFiles (leaf (task_line t)) files
+  task_takes task.Script files = file_taken (codes "script") files
+  task_takes task.Histories files = file_taken (codes "histories") files
+  task_takes task.Audit files = files_taken (codes "audit") files
+  task_takes task.Migrate files = file_taken (codes "migrate") files
+
+  -- a task's command seals nothing, and asks for the task
+  record IsTask (t : Task) (rows : List Row) : Type 0 where
+    unsealed : seals_bank (Some (task_name t, rows)) ≡ false
+    is : words_of_matches (Some (task_name t, rows)) ≡ Some (task_asked t (texts_at (codes "files") rows))
+
+  is_task : (t : Task) (rows : List Row) → IsTask t rows
+  is_task task.Script rows = record { unsealed = refl; is = refl }
+  is_task task.Histories rows = record { unsealed = refl; is = refl }
+  is_task task.Audit rows = record { unsealed = refl; is = refl }
+  is_task task.Migrate rows = record { unsealed = refl; is = refl }
+
+  over_some : (t : Task) (files : List Text) → 1 ≤ length files → task_asked t files ≡ over t files
+  over_some t [] some = absurd (omega (arith, some))
+  over_some t (file ∷ files) some = refl
+
+  usual_files : (words : List Text) (t : Task) (files : List Text) → AskForFiles words t files → TakesAs words (over t files)
+  usual_files words t files ask =
+      let takes = task_takes t files ask.are_files ask.some_files ask.few_files in
+      let its_words = behind_task t files in
+      let its = is_task t (rows_after (leaf (task_line t)).rules [] files) in
+      subst (λ ws. TakesAs ws (over t files)) (sym ask.words_are)
+      (takes_met _ _ _ (its_words.fault takes.fault) its_words.met its.unsealed
+      (its.is ∙ ap (λ fs. Some (task_asked t fs)) takes.are ∙ ap Some (over_some t files ask.some_files)))
+
   -- words that ask for something are taken, and read as that
   pub usual_words : (words : List Text) (asked : Words) → length words ≤ usize_max → Ask words asked → TakesAs words (as_asked asked)
   usual_words words Script few ask = subst (λ ws. TakesAs ws script) (sym ask) script_taken
   usual_words words Histories few ask = subst (λ ws. TakesAs ws histories) (sym ask) histories_taken
   usual_words words Audit few ask = subst (λ ws. TakesAs ws audit) (sym ask) audit_taken
   usual_words words Migrate few ask = subst (λ ws. TakesAs ws migrate) (sym ask) migrate_taken
+  usual_words words (Files t files) few ask = usual_files words t (texts_of files.items) ask
   usual_words words (Threads k m n) few ask = usual_threads words k m n ask
   usual_words words (Site me journal is_new resend recorded bank) few ask =
       usual_site words me journal.now is_new resend recorded (text_if_any bank) ask

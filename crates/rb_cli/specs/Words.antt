@@ -18,9 +18,12 @@ use Rattle.clap.specs.declared.builder.value_parser.ValueParser.TheVariants.{Nam
 use Rattle.rb_money.specs.declared.limits.TheConstants.{MOST_HISTORY, MOST_SITES}
 use Rattle.rb_cli.specs.declared.recorded.Record.{Record}
 use Rattle.rb_cli.specs.declared.recorded.Record.TheVariants.{Changes, All}
+use Rattle.rb_cli.specs.declared.task.Task.{Task}
+use Rattle.rb_cli.specs.declared.task.Task.TheVariants.{Script as ScriptTask, Histories as HistoriesTask, Audit as AuditTask}
+use Rattle.rb_cli.specs.declared.task.Task.TheVariants.{Migrate as MigrateTask}
 use Rattle.rb_cli.specs.declared.words.TheConstants.{MOST_TELLERS}
 use Rattle.rb_cli.specs.declared.words.Words.{Words}
-use Rattle.rb_cli.specs.declared.words.Words.TheVariants.{Script, Histories, Audit, Migrate, Threads, Site, Seal, Close}
+use Rattle.rb_cli.specs.declared.words.Words.TheVariants.{Script, Histories, Audit, Migrate, Files, Threads, Site, Seal, Close}
 
 -- ---- words in their usual spelling: each option's name, and its value behind it, in a word of its own
 
@@ -36,6 +39,25 @@ IsValue text = ¬ (slice_get text 0 ≡ Some 45)
 abbrev pub AreValues : List (List ℕ) → Type 0
 AreValues [] = Unit {0}
 AreValues (text ∷ texts) = IsValue text × AreValues texts
+
+-- the command for a task
+abbrev pub task_name : Task → List ℕ
+task_name ScriptTask = codes "script"
+task_name HistoriesTask = codes "histories"
+task_name AuditTask = codes "audit"
+task_name MigrateTask = codes "migrate"
+
+-- how many files a task may be given: an audit any number, each other task one
+abbrev pub most_files : Task → ℕ
+most_files AuditTask = usize_max
+most_files _ = 1
+
+-- the words ask for a task with the lines of files: they are its command and the files
+pub record AskForFiles (words : List (List ℕ)) (task : Task) (files : List (List ℕ)) : Type 0 where
+  pub words_are : words ≡ task_name task ∷ files
+  pub some_files : 1 ≤ length files
+  pub few_files : length files ≤ most_files task
+  pub are_files : AreValues files
 
 -- the words ask for a run of threads: they are its name and three options, in any order, with numbers in their ranges
 pub record AskForThreads (words : List (List ℕ)) (sites tellers seed : ℕ) : Type 0 where
@@ -65,8 +87,8 @@ abbrev pub IsNewGiven : Bool → List (List ℕ) → List (List ℕ) → Type 0
 IsNewGiven false words others = words ≡ others
 IsNewGiven true words others = IsWithSwitch (codes "--new") words others
 
--- words without a switch ask for a site: they are its name and two or three options, in any order, with numbers in their
--- ranges
+-- words without a switch ask for a site: they are its name and two or three options, in any order, with numbers in
+-- their ranges
 pub record AskForJournal (words : List (List ℕ)) (me : ℕ) (journal : List ℕ) (resend : Option ℕ) : Type 0 where
   pub first : slice_get words 0 ≡ Some (codes "site")
   pub me_given : IsGiven words (codes "--me") (decimal me)
@@ -80,8 +102,7 @@ abbrev pub record_word : Record → List ℕ
 record_word Changes = codes "changes"
 record_word All = codes "all"
 
--- the words are these others, with `--record` and the word for what is recorded behind all of them; or without both,
--- if changes are recorded
+-- the words are these others, with `--record` and its word behind all of them; or without both, which records changes
 abbrev pub IsRecordGiven : Record → List (List ℕ) → List (List ℕ) → Type 0
 IsRecordGiven recorded words others =
     (words ≡ others ++ codes "--record" ∷ record_word recorded ∷ []) ⊎ ((recorded ≡ Changes) × (words ≡ others))
@@ -142,6 +163,7 @@ Ask words Script = words ≡ codes "script" ∷ []
 Ask words Histories = words ≡ codes "histories" ∷ []
 Ask words Audit = words ≡ codes "audit" ∷ []
 Ask words Migrate = words ≡ codes "migrate" ∷ []
+Ask words (Files task files) = AskForFiles words task (texts_of files.items)
 Ask words (Threads sites tellers seed) = AskForThreads words sites tellers seed
 Ask words (Site me journal is_new resend recorded bank) =
     AskForSite words me journal.now is_new resend recorded (text_if_any bank)
@@ -174,9 +196,23 @@ values_rule name = record (new_rule name) {
   required = true;
 }
 
+-- from one value up to this many behind a command, that needn't be given
+abbrev pub files_rule : ℕ → Rule
+files_rule most = record (new_rule (codes "files")) {
+  value_names = 1;
+  range = Some (record { start_inclusive = 1; end_inclusive = most });
+}
+
 -- a number from the first to the second
 abbrev pub within : ℕ → ℕ → Option ValueParser
 within least most = Some (Signed (pos least) (pos most))
+
+-- a task with lines, which may be given up to this many files
+abbrev pub files_line : List ℕ → ℕ → App
+files_line name most = with_rule (new_app name) (files_rule most)
+
+abbrev pub task_line : Task → App
+task_line task = files_line (task_name task) (most_files task)
 
 -- a run of threads, with its options
 abbrev pub threads_line : App
@@ -214,16 +250,17 @@ site_line names =
 abbrev pub close_line : App
 close_line =
     with_rule
-    (with_rule (with_rule (new_app (codes "close")) (option_rule (codes "sites") (within 2 MOST_SITES) false)) (repeated_rule (codes "account")))
+    (with_rule (with_rule (new_app (codes "close")) (option_rule (codes "sites") (within 2 MOST_SITES) false))
+    (repeated_rule (codes "account")))
     (values_rule (codes "journals"))
 
--- the command line with the subcommands that have no options
+-- the command line with the tasks, which have no options
 abbrev pub plain_line : App
 plain_line =
     with_subcommand
     (with_subcommand
-    (with_subcommand (with_subcommand (record { top = top_line; subs = [] }) (new_app (codes "script")).top) (new_app (codes "histories")).top)
-    (new_app (codes "audit")).top) (new_app (codes "migrate")).top
+    (with_subcommand (with_subcommand (record { top = top_line; subs = [] }) (task_line ScriptTask).top) (task_line HistoriesTask).top)
+    (task_line AuditTask).top) (task_line MigrateTask).top
 
 -- the command line: a subcommand for each thing
 abbrev pub command_line : TextRefs → App
@@ -249,6 +286,7 @@ pub data Asked : Type 0 where
   histories : Asked
   audit : Asked
   migrate : Asked
+  over : Task → List Text → Asked
   threads : ℕ → ℕ → ℕ → Asked
   site : ℕ → Text → Bool → Option ℕ → Record → Option Text → Asked
   seal : ℕ → Text → Asked
@@ -259,6 +297,7 @@ as_asked Script = script
 as_asked Histories = histories
 as_asked Audit = audit
 as_asked Migrate = migrate
+as_asked (Files task files) = over task (texts_of files.items)
 as_asked (Threads sites tellers seed) = threads sites tellers seed
 as_asked (Site me journal is_new resend recorded bank) = site me journal.now is_new resend recorded (text_if_any bank)
 as_asked (Seal me journal) = seal me journal.now
@@ -288,6 +327,17 @@ choice_at rows = option_map_or record_of (first_of (codes "record") rows) Change
 abbrev pub texts_at : Text → List Row → List Text
 texts_at name rows = unwrap_or (all_of name rows) []
 
+-- what a task asks for without files, and with those that are given
+abbrev pub of_input : Task → Asked
+of_input ScriptTask = script
+of_input HistoriesTask = histories
+of_input AuditTask = audit
+of_input MigrateTask = migrate
+
+abbrev pub task_asked : Task → List Text → Asked
+task_asked task [] = of_input task
+task_asked task (file ∷ files) = over task (file ∷ files)
+
 -- a run of threads has all three of its options
 abbrev pub with_run : Option ℕ → Option ℕ → Option ℕ → Option Asked
 with_run (Some sites) (Some tellers) (Some seed) = Some (threads sites tellers seed)
@@ -316,8 +366,11 @@ close_asked rows = close (number_at (codes "sites") rows) (texts_at (codes "acco
 -- what a command with its options asks for
 abbrev pub words_of_command : Text → List Row → Option Asked
 words_of_command name rows =
-    if bytes_eq name (codes "script") then Some script else if bytes_eq name (codes "histories") then Some histories
-    else if bytes_eq name (codes "audit") then Some audit else if bytes_eq name (codes "migrate") then Some migrate
+    let files = texts_at (codes "files") rows in
+    if bytes_eq name (codes "script") then Some (task_asked ScriptTask files)
+    else if bytes_eq name (codes "histories") then Some (task_asked HistoriesTask files)
+    else if bytes_eq name (codes "audit") then Some (task_asked AuditTask files)
+    else if bytes_eq name (codes "migrate") then Some (task_asked MigrateTask files)
     else if bytes_eq name (codes "threads") then threads_asked rows else if bytes_eq name (codes "site") then site_asked rows
     else if bytes_eq name (codes "close") then Some (close_asked rows) else None
 
@@ -362,6 +415,7 @@ abbrev pub IsInRange : Asked → Type 0
 IsInRange (threads sites tellers seed) =
     (2 ≤ sites) × (sites ≤ MOST_SITES) × (1 ≤ tellers) × (tellers ≤ MOST_TELLERS) × (seed < 2 ^ 32)
 IsInRange (site me journal is_new resend recorded bank) = (me < MOST_SITES) × IfSome resend (λ n. n ≤ MOST_HISTORY)
+IsInRange (over task files) = 1 ≤ length files
 IsInRange (seal me journal) = me < MOST_SITES
 IsInRange (close sites accounts journals) = IfSome sites (λ n. (2 ≤ n) × (n ≤ MOST_SITES)) × (1 ≤ length journals)
 IsInRange _ = Unit {0}

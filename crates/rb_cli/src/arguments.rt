@@ -1,8 +1,9 @@
 //! The options of the commands.
-ghost use Rattle.std.specs.Prelude.{◌≡◌, None, codes, false, pos, true};
+ghost use Rattle.std.specs.Prelude.{◌≡◌, ◌≤◌, None, codes, false, pos, true};
 ghost use Rattle.clap.specs.Words.{rule_of};
 ghost use Rattle.clap.specs.declared.builder.value_parser.ValueParser.TheVariants.{Signed};
-ghost use Rattle.rb_cli.specs.Words.{IsRecordRule, option_rule, repeated_rule, switch_rule, values_rule, within};
+ghost use Rattle.rb_cli.specs.Words.{IsRecordRule, files_rule, option_rule, repeated_rule, switch_rule, values_rule};
+ghost use Rattle.rb_cli.specs.Words.{within};
 ghost use Rattle.rb_money.specs.declared.limits.TheConstants.{MOST_HISTORY as most_resent, MOST_SITES as most_sites};
 ghost use Rattle.rb_cli.specs.declared.words.TheConstants.{MOST_TELLERS as most_tellers};
 
@@ -84,6 +85,18 @@ pub fn journals<'a>(alloc: Global) -> Arg<'a>
         .num_args(1..)
 }
 
+/// Up to this many files, whose lines are taken in place of standard input.
+pub fn files<'a>(alloc: Global, most: usize) -> Arg<'a>
+    requires some { 1 ≤ most }
+    ensures rule { rule_of result ≡ files_rule most }
+    ensures local { result.global ≡ false }
+{
+    Arg::new(alloc, "files")
+        .value_name("FILE")
+        .help(texts::FILES)
+        .num_args(1..=most)
+}
+
 /// How many tellers a run of threads has.
 pub fn tellers<'a>(alloc: Global) -> Arg<'a>
     ensures rule { rule_of result ≡ option_rule (codes "tellers") (within 1 most_tellers) true }
@@ -93,7 +106,7 @@ pub fn tellers<'a>(alloc: Global) -> Arg<'a>
     with_numbers(tellers, 1, MOST_TELLERS)
 }
 
-/// What the numbers of a run of threads begin with.
+/// The seed with which the numbers of a run of threads begin.
 pub fn seed<'a>(alloc: Global) -> Arg<'a>
     ensures rule { rule_of result ≡ option_rule (codes "seed") (within 0 4294967295) true }
     ensures local { result.global ≡ false }

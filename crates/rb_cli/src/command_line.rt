@@ -1,8 +1,10 @@
 //! The command line that the program takes.
-ghost use Rattle.std.specs.Prelude.{◌≡◌, [], false, true, IfOk, codes};
+ghost use Rattle.std.specs.Prelude.{◌≡◌, ◌≤◌, [], false, true, IfOk, codes};
 ghost use Rattle.clap.specs.Words.{app_of, new_app, rule_of, with_rule, with_subcommand};
 ghost use Rattle.clap.specs.declared.builder.command.Command.TheViews.{out-Command};
-ghost use Rattle.rb_cli.specs.Words.{IsCommandLine, IsSiteLine, close_line, plain_line, threads_line, top_line};
+ghost use Rattle.rb_cli.specs.Words.{IsCommandLine, IsSiteLine, close_line, files_line, plain_line, task_line};
+ghost use Rattle.rb_cli.specs.Words.{threads_line, top_line};
+ghost use Rattle.rb_cli.specs.declared.task.Task.TheVariants.{Audit, Histories, Migrate, Script};
 
 use crate::{arguments, texts};
 use clap::{Arg, Command};
@@ -23,6 +25,23 @@ fn part<'a>(
         .override_usage(usage)
         .about(about)
         .after_help(help)
+}
+
+/// A command over the lines of standard input, or of up to this many files.
+fn over_lines<'a>(
+    alloc: Global,
+    name: &'a str,
+    usage: &'a str,
+    about: &'a str,
+    help: &'a str,
+    most: usize,
+) -> Result<Command<'a>, AllocError>
+    requires some { 1 ≤ most }
+    ensures shape { IfOk result (λ command. app_of command ≡ files_line name.entry.now most) }
+    ensures local { IfOk result (λ command. (out-Command command).has_globals ≡ false) }
+{
+    let options = vec![in alloc; arguments::files(alloc, most)]?;
+    part(alloc, name, usage, about, help).args(options)
 }
 
 /// The command for a run of threads, with its options.
@@ -95,64 +114,69 @@ fn top<'a>(alloc: Global) -> Command<'a>
 {
     Command::new(alloc, "rbbank")
         .about(texts::ABOUT)
+        .after_help(texts::EXAMPLES)
         .version(texts::VERSION)
         .no_binary_name(true)
         .subcommand_required(true)
 }
 
 /// The command `script`.
-fn script<'a>(alloc: Global) -> Command<'a>
-    ensures shape { app_of result ≡ new_app (codes "script") }
-    ensures local { (out-Command result).has_globals ≡ false }
+fn script<'a>(alloc: Global) -> Result<Command<'a>, AllocError>
+    ensures shape { IfOk result (λ command. app_of command ≡ task_line Script) }
+    ensures local { IfOk result (λ command. (out-Command command).has_globals ≡ false) }
 {
-    part(
+    over_lines(
         alloc,
         "script",
         texts::SCRIPT_USAGE,
         texts::SCRIPT,
         texts::SCRIPT_HELP,
+        1,
     )
 }
 
 /// The command `histories`.
-fn histories<'a>(alloc: Global) -> Command<'a>
-    ensures shape { app_of result ≡ new_app (codes "histories") }
-    ensures local { (out-Command result).has_globals ≡ false }
+fn histories<'a>(alloc: Global) -> Result<Command<'a>, AllocError>
+    ensures shape { IfOk result (λ command. app_of command ≡ task_line Histories) }
+    ensures local { IfOk result (λ command. (out-Command command).has_globals ≡ false) }
 {
-    part(
+    over_lines(
         alloc,
         "histories",
         texts::HISTORIES_USAGE,
         texts::HISTORIES,
         texts::HISTORIES_HELP,
+        1,
     )
 }
 
 /// The command `audit`.
-fn audit<'a>(alloc: Global) -> Command<'a>
-    ensures shape { app_of result ≡ new_app (codes "audit") }
-    ensures local { (out-Command result).has_globals ≡ false }
+fn audit<'a>(alloc: Global) -> Result<Command<'a>, AllocError>
+    ensures shape { IfOk result (λ command. app_of command ≡ task_line Audit) }
+    ensures local { IfOk result (λ command. (out-Command command).has_globals ≡ false) }
 {
-    part(
+    over_lines(
         alloc,
         "audit",
         texts::AUDIT_USAGE,
         texts::AUDIT,
         texts::AUDIT_HELP,
+        usize::MAX,
     )
 }
 
 /// The command `migrate`.
-fn migrate<'a>(alloc: Global) -> Command<'a>
-    ensures shape { app_of result ≡ new_app (codes "migrate") }
-    ensures local { (out-Command result).has_globals ≡ false }
+fn migrate<'a>(alloc: Global) -> Result<Command<'a>, AllocError>
+    ensures shape { IfOk result (λ command. app_of command ≡ task_line Migrate) }
+    ensures local { IfOk result (λ command. (out-Command command).has_globals ≡ false) }
 {
-    part(
+    over_lines(
         alloc,
         "migrate",
         texts::MIGRATE_USAGE,
         texts::MIGRATE,
         texts::MIGRATE_HELP,
+        1,
     )
 }
 
@@ -160,17 +184,13 @@ fn migrate<'a>(alloc: Global) -> Command<'a>
 pub fn command_line<'a>(alloc: Global) -> Result<Command<'a>, AllocError>
     ensures { IfOk result (λ command. IsCommandLine (app_of command)) }
 {
+    let script = script(alloc)?;
+    let histories = histories(alloc)?;
+    let audit = audit(alloc)?;
+    let migrate = migrate(alloc)?;
     let threads = threads(alloc)?;
     let site = site(alloc)?;
     let close = close(alloc)?;
-    let parts = vec![in alloc;
-        script(alloc),
-        histories(alloc),
-        audit(alloc),
-        migrate(alloc),
-        threads,
-        site,
-        close,
-    ]?;
+    let parts = vec![in alloc; script, histories, audit, migrate, threads, site, close]?;
     top(alloc).subcommands(parts)
 }

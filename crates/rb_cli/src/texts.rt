@@ -1,23 +1,23 @@
-//! What the program says about itself.
+//! The texts of the program's help.
 
 /// The newest version of the lines that it reads and writes. Each configuration names its own.
 pub const VERSION: &str = "2";
 
-/// What the program is.
+/// The program in one line.
 pub const ABOUT: &str =
     "A replicated bank of two to sixteen sites, whose operations can be undone exactly";
 
 /// How `script` is used.
-pub const SCRIPT_USAGE: &str = "rbbank script < COMMANDS";
+pub const SCRIPT_USAGE: &str = "rbbank script [FILE]";
 
 /// How `histories` is used.
-pub const HISTORIES_USAGE: &str = "rbbank histories < COMMANDS";
+pub const HISTORIES_USAGE: &str = "rbbank histories [FILE]";
 
 /// How `audit` is used.
-pub const AUDIT_USAGE: &str = "rbbank audit < HISTORIES";
+pub const AUDIT_USAGE: &str = "rbbank audit [FILE]..";
 
 /// How `migrate` is used.
-pub const MIGRATE_USAGE: &str = "rbbank migrate < HISTORIES";
+pub const MIGRATE_USAGE: &str = "rbbank migrate [FILE]";
 
 /// How `site` is used.
 pub const SITE_USAGE: &str =
@@ -55,6 +55,9 @@ pub const CLOSE: &str =
 /// What `threads` does.
 pub const THREADS: &str =
     "Runs tellers in threads at the sites of a bank, and writes the sites' histories";
+
+/// The help of the files of `script`, `histories`, `audit` and `migrate`.
+pub const FILES: &str = "What to read in place of standard input";
 
 /// What `--sites` is.
 pub const SITES: &str = "How many sites there are, 2 to 16";
@@ -100,8 +103,26 @@ pub const NEXT_SITES: &str =
 pub const ACCOUNT: &str =
     "An account to add behind the others, which starts with 0; given again for each";
 
-/// What the words behind the options of `close` are.
+/// The words behind the options of `close`.
 pub const JOURNALS: &str = "The sealed journals of all sites, in the order of their numbers";
+
+/// An example of each command.
+pub const EXAMPLES: &str = r#"An example of each command:
+
+  rbbank script day.jsonl                         answers a script
+  rbbank histories day.jsonl > histories.jsonl    writes the histories of its sites
+  rbbank audit histories.jsonl                    says whether one world can have recorded them
+  rbbank audit 0.journal 1.journal                says it of the journals of all sites
+  rbbank migrate histories.jsonl                  writes the histories in version 2
+  rbbank threads --sites 3 --tellers 4 --seed 7   writes the histories of tellers in threads
+  rbbank site --me 0 --journal 0.journal --new < events.jsonl
+                                                  runs site 0 over a new journal
+  rbbank site --me 0 --journal 0.journal --seal   seals its journal
+  rbbank close 0.journal 1.journal                writes the next bank's configuration
+
+Without a file script, histories, audit and migrate read standard input. rbbank COMMAND --help has the
+lines of a command, an example each. All lines, limits, refusals and statuses: man 5 rbbank (in the
+sources docs/FORMAT.md)"#;
 
 /// A script with its replies, the refusals and the statuses.
 pub const SCRIPT_HELP: &str =
@@ -122,6 +143,22 @@ The replies, one line for each command:
   {"balance":500}
 
 A command that isn't done is answered by its reason, as {"refused":1} for an unknown account.
+
+The commands, an example each. "R1", "B0.1" and the like are names of operations:
+
+  {"deposit":["ann",500],"site":0}       adds 500 cents
+  {"withdraw":["ann",200],"site":0}      takes 200 cents, or declines if less is there
+  {"interest":["ann",150],"site":0}      adds 150 basis points of the balance, rounded down
+  {"site":0,"transfer":["ann","bob",30]} moves 30 cents from ann to bob, or declines if ann has less
+  {"cancel":"R1","site":0}               undoes an operation exactly
+  {"batch":[{"deposit":["ann",50]},{"withdraw":["ann",80]}],"site":0}
+                                         makes up to 16 of these five, all or none
+  {"deliver":1,"site":1}                 the first message that was ever sent comes to site 1
+  {"apply":"B0.1","site":1}              applies an operation that came
+  {"pass":1,"site":0}                    sends the token to site 1: taking and moving money needs it
+  {"balance":"ann","site":1}             what site 1 has for ann
+  {"asof":["ann",3],"site":1}            what it had after the first 3 operations that it applied
+  {"site":1,"statement":"ann"}           a row for each operation on ann's account that it applied
 
 Refusals:
    1  unknown account
@@ -155,7 +192,7 @@ Statuses:
   3  a read or a write failed
   4  out of memory
 
-All lines, limits, refusals and statuses: docs/FORMAT.md"#;
+All lines, limits, refusals and statuses: man 5 rbbank (in the sources docs/FORMAT.md)"#;
 
 /// A script with the histories of its sites, and the statuses.
 pub const HISTORIES_HELP: &str =
@@ -175,7 +212,7 @@ place of a delivery with the message:
   {"event":{"balance":"ann"},"reply":{"balance":0},"site":1}
 
 What is indented further here is the rest of the line above it. An audit accepts these lines, unless
-one is longer than a line may be. At a bad line nothing is written.
+one is longer than a line may be. At a bad line nothing is written. The commands: rbbank script --help
 
 Statuses:
   0  the histories were written
@@ -183,7 +220,7 @@ Statuses:
   3  a read or a write failed
   4  out of memory
 
-All lines, limits, refusals and statuses: docs/FORMAT.md"#;
+All lines, limits, refusals and statuses: man 5 rbbank (in the sources docs/FORMAT.md)"#;
 
 /// An audit with its answers, and the statuses.
 pub const AUDIT_HELP: &str =
@@ -203,6 +240,11 @@ The answer is one line, after the last entry:
 Where no order goes on, these entries wait for messages that no entry before sent. A site at its end
 shows one more than its entries.
 
+With several files, as the journals of all sites, each has to have the first one's first line, and the
+lines behind it follow those of the files before:
+
+  rbbank audit 0.journal 1.journal
+
 Statuses:
   0  one world has the histories
   1  no world has them
@@ -210,7 +252,7 @@ Statuses:
   3  a read or a write failed
   4  out of memory
 
-All lines, limits, refusals and statuses: docs/FORMAT.md"#;
+All lines, limits, refusals and statuses: man 5 rbbank (in the sources docs/FORMAT.md)"#;
 
 /// A migration of a history, and the statuses.
 pub const MIGRATE_HELP: &str =
@@ -235,7 +277,7 @@ Statuses:
   3  a read or a write failed
   4  out of memory
 
-All lines, limits, refusals and statuses: docs/FORMAT.md"#;
+All lines, limits, refusals and statuses: man 5 rbbank (in the sources docs/FORMAT.md)"#;
 
 /// An event at a site with its answer, and the statuses.
 pub const SITE_HELP: &str =
@@ -253,8 +295,14 @@ sent, and the replies of the operations that became ready, which are applied the
 
 What is indented further here is the rest of the line above it. A message is given to its receivers as an event,
 as it is: an operation to every other site, the token to the site that it is for. A line that is no event is answered
-{"bad":"line","line":N}, by its number, and a too long one {"bad":"long","line":N}. {"about":"site"} shows what the
-site has, and {"resend":N} writes the messages of its last N entries again.
+{"bad":"line","line":N}, by its number, and a too long one {"bad":"long","line":N}. The events, an example each:
+
+  {"deposit":["ann",500]}                any command of a script but "deliver", without its site
+  {"deposit":["ann",500],"id":"a-1"}     made once, however often it comes; also with any other operation and a batch
+  {"shadow":{..}}                        an operation of another site, as that site sent it
+  {"token":[1,0,2]}                      the token, as another site sent it
+  {"about":"site"}                       shows what the site has
+  {"resend":5}                           sends the messages of its last 5 entries again
 
 Without --new the journal has to be there, and goes on: first the messages of its last N entries are written again,
 those of all entries if --resend isn't given. With --new it isn't there, or is empty: no other operations are made
@@ -279,7 +327,7 @@ Statuses:
   3  a read or a write failed, or the journal did
   4  out of memory
 
-All lines, limits, refusals and statuses: docs/FORMAT.md"#;
+All lines, limits, refusals and statuses: man 5 rbbank (in the sources docs/FORMAT.md)"#;
 
 /// Books to close with the answers, and the statuses.
 pub const CLOSE_HELP: &str =
@@ -312,7 +360,7 @@ Statuses:
   3  a read or a write failed
   4  out of memory
 
-All lines, limits, refusals and statuses: docs/FORMAT.md"#;
+All lines, limits, refusals and statuses: man 5 rbbank (in the sources docs/FORMAT.md)"#;
 
 /// A run with its audit, and the statuses.
 pub const THREADS_HELP: &str =
@@ -332,4 +380,4 @@ Statuses:
   4  out of memory, or a thread couldn't be made
   5  a site's history is full, or isn't what its clients were answered
 
-All lines, limits, refusals and statuses: docs/FORMAT.md"#;
+All lines, limits, refusals and statuses: man 5 rbbank (in the sources docs/FORMAT.md)"#;

@@ -1,14 +1,14 @@
-//! What a command line asks for.
+//! The request of a command line.
 ghost use Rattle.std.specs.Prelude.{◌≡◌, codes, map, option_map, IfErr, IfOk, IfSome};
 ghost use Rattle.clap.specs.Words.{FailsBy, found_of, kind_of, rows_of, subcommand_rows_of};
 ghost use Rattle.clap.specs.declared.error.kind.ErrorKind.TheVariants.{ArgumentConflict, OutOfMemory};
 ghost use Rattle.rb_cli.specs.Words.{AreFit, AreReadAs, Ask, FailsByWords, FitsWithin, HasSwitchWord, IsAsUsual};
 ghost use Rattle.rb_cli.specs.Words.{IsInRange, as_asked, choice_at, close_asked, conflict_of, names_bank_to_seal};
-ghost use Rattle.rb_cli.specs.Words.{number_at, record_of, seals_bank, site_asked, switch_at, texts_at, threads_asked};
-ghost use Rattle.rb_cli.specs.Words.{words_of_matches};
+ghost use Rattle.rb_cli.specs.Words.{number_at, of_input, record_of, seals_bank, site_asked, switch_at, task_asked};
+ghost use Rattle.rb_cli.specs.Words.{texts_at, threads_asked, words_of_matches};
 
 use crate::command_line::{command_line, site as site_line};
-use crate::{Record, texts};
+use crate::{Record, Task, texts};
 use clap::error::ErrorKind;
 use clap::{ArgMatches, Error};
 use std::alloc::{AllocError, Global};
@@ -16,7 +16,7 @@ use std::alloc::{AllocError, Global};
 /// The most tellers of a run.
 pub const MOST_TELLERS: u32 = 64;
 
-/// What the program is asked to do.
+/// A request to the program.
 #[derive(Debug, Drop, PartialEq, Eq)]
 pub enum Words<'a> {
     /// To answer the script on standard input.
@@ -27,6 +27,11 @@ pub enum Words<'a> {
     Audit,
     /// To write the histories on standard input again, in the newest version of their lines.
     Migrate,
+    /// To do this with the lines of these files, one or more, in place of standard input.
+    Files {
+        task: Task,
+        files: Vec<&'a str>,
+    },
     /// To run 1 to `MOST_TELLERS` tellers at 2 to `MOST_SITES` sites. The first numbers of the tellers begin at the
     /// seed.
     Threads {
@@ -107,6 +112,35 @@ fn texts<'a>(alloc: Global, given: &ArgMatches<'a>, name: &str) -> Result<Vec<&'
     }
 }
 
+/// To do this with the lines of standard input.
+fn of_input<'a>(task: Task) -> Words<'a>
+    ensures { as_asked result ≡ of_input task }
+{
+    match task {
+        Task::Script => Words::Script,
+        Task::Histories => Words::Histories,
+        Task::Audit => Words::Audit,
+        Task::Migrate => Words::Migrate,
+    }
+}
+
+/// To do this with the lines of the files behind the command, or of standard input if there are none.
+fn over_lines<'a>(
+    alloc: Global,
+    given: &ArgMatches<'a>,
+    task: Task,
+) -> Result<Words<'a>, AllocError>
+    ensures { IfOk result
+        (λ words. as_asked words ≡ task_asked task (texts_at (codes "files") (rows_of (found_of given.now)))) }
+{
+    let files = texts(alloc, given, "files")?;
+    if files.is_empty() {
+        Ok(of_input(task))
+    } else {
+        Ok(Words::Files { task, files })
+    }
+}
+
 /// The run of threads that its options ask for.
 fn threads<'a>(given: &ArgMatches<'a>) -> Option<Words<'a>>
     requires { AreFit (codes "threads") (rows_of (found_of given.now)) }
@@ -122,7 +156,7 @@ fn threads<'a>(given: &ArgMatches<'a>) -> Option<Words<'a>>
     })
 }
 
-/// What the options of `site` ask for. With the switch for it the history is sealed, whatever else is given.
+/// The request of the options of `site`. With the switch for it the history is sealed, whatever else is given.
 fn site<'a>(given: &ArgMatches<'a>) -> Option<Words<'a>>
     requires { AreFit (codes "site") (rows_of (found_of given.now)) }
     ensures { option_map as_asked result ≡ site_asked (rows_of (found_of given.now)) }
@@ -197,7 +231,7 @@ fn conflict(alloc: Global) -> Result<Error, AllocError>
     site.error(ErrorKind::ArgumentConflict, texts::CONFLICT)
 }
 
-/// What the command that was met asks for, with its options. It is refused if it names a bank to a seal.
+/// The request of the command that was met, with its options. It is refused if it names a bank to a seal.
 fn asked_by<'a>(alloc: Global, matches: &ArgMatches<'a>) -> Result<Option<Words<'a>>, Error>
     requires { IfSome (subcommand_rows_of matches.now) (λ met. AreFit met.0 met.1) }
     ensures ok { IfOk result
@@ -211,10 +245,10 @@ fn asked_by<'a>(alloc: Global, matches: &ArgMatches<'a>) -> Result<Option<Words<
         return Ok(None);
     };
     let asked = match name {
-        "script" => Some(Words::Script),
-        "histories" => Some(Words::Histories),
-        "audit" => Some(Words::Audit),
-        "migrate" => Some(Words::Migrate),
+        "script" => Some(over_lines(alloc, given, Task::Script)?),
+        "histories" => Some(over_lines(alloc, given, Task::Histories)?),
+        "audit" => Some(over_lines(alloc, given, Task::Audit)?),
+        "migrate" => Some(over_lines(alloc, given, Task::Migrate)?),
         "threads" => threads(given),
         "site" => site(given),
         "close" => Some(close(alloc, given)?),
@@ -223,10 +257,10 @@ fn asked_by<'a>(alloc: Global, matches: &ArgMatches<'a>) -> Result<Option<Words<
     Ok(asked)
 }
 
-/// What the words after the program's name ask for. The error has the text to show: `ErrorKind::DisplayHelp` is help
+/// The request of the words after the program's name. The error has the text to show: `ErrorKind::DisplayHelp` is help
 /// that was asked for, `ErrorKind::DisplayVersion` the version.
 pub fn read_words<'a>(alloc: Global, words: &'a [&'a str]) -> Result<Words<'a>, Error>
-    // What the command line reads the words as.
+    // The words as the command line reads them.
     ensures ok { IfOk result (AreReadAs (map (λ word. word.now) words.entry.now)) }
     ensures ranges { IfOk result (λ asked. IsInRange (as_asked asked)) }
     // Ok comes only for words that the command line takes and that name no bank to a seal, and an error's kind is what

@@ -5,16 +5,22 @@ use Rattle.std.specs.declared.io.ErrorKind.TheVariants.{OutOfMemory as IoOutOfMe
 use Rattle.clap.specs.declared.error.kind.ErrorKind.{ErrorKind}
 use Rattle.clap.specs.declared.error.kind.ErrorKind.TheVariants.{DisplayHelp, DisplayVersion, OutOfMemory as NoMemory}
 use Rattle.rb_lines.specs.declared.fault.ScriptFault.{ScriptFault}
-use Rattle.rb_lines.specs.declared.fault.ScriptFault.TheVariants.{NoConfig, OutOfMemory, Write}
+use Rattle.rb_lines.specs.declared.fault.ScriptFault.TheVariants.{NoConfig, OutOfMemory, Read, Write}
 use Rattle.rb_lines.specs.Messages.{status_of}
 use Rattle.rb_run_site.specs.declared.fault.SiteFault.{SiteFault}
 use Rattle.rb_runs.specs.declared.books.close_fault.CloseFault.{CloseFault}
 use Rattle.rbbank.specs.declared.over_files.OverFiles.{OverFiles}
-use Rattle.rbbank.specs.declared.over_files.OverFiles.TheVariants.{Nothing, Site, Closed}
+use Rattle.rbbank.specs.declared.over_files.OverFiles.TheVariants.{Nothing, Site, Closed, Lines}
 use Rattle.rbbank.specs.declared.on_streams.Streamed.{Streamed}
 use Rattle.rbbank.specs.declared.on_streams.Streamed.TheVariants.{Script, Histories, Audit, Migrate, Threads, SiteAsked, SealAsked}
-use Rattle.rbbank.specs.declared.on_streams.Streamed.TheVariants.{BadBank, CloseAsked}
-use Rattle.rbbank.specs.Statuses.{IsEnd, IsEndOf, IsEndOfAudit, IsEndOfClosing, IsEndOfHistories, IsEndOfScript, IsEndOfSite, IsEndOfWords}
+use Rattle.rbbank.specs.declared.on_streams.Streamed.TheVariants.{BadBank, CloseAsked, FilesAsked}
+use Rattle.rbbank.specs.declared.joined.FilesFault.{FilesFault}
+use Rattle.rbbank.specs.declared.joined.FilesFault.TheVariants.{Unread, AnotherBank, OutOfMemory as NoFilesMemory}
+use Rattle.rbbank.specs.declared.task.TaskRan.{TaskRan}
+use Rattle.rbbank.specs.declared.task.TaskRan.TheVariants.{Script as ScriptRan, Histories as HistoriesRan, Audit as AuditRan}
+use Rattle.rbbank.specs.declared.task.TaskRan.TheVariants.{Migrate as MigrationRan}
+use Rattle.rbbank.specs.Statuses.{IsEnd, IsEndOf, IsEndOfAudit, IsEndOfClosing, IsEndOfFiles, IsEndOfHistories, IsEndOfScript, IsEndOfSite}
+use Rattle.rbbank.specs.Statuses.{IsEndOfTask, IsEndOfWords}
 use Rattle.rbbank.specs.Statuses.{IsReportedStatus, status_of_unread}
 
 -- memory ran out
@@ -49,6 +55,18 @@ closing_end n (Ok false) e = inr (inl e)
 closing_end n (Err fault) (inl e) = inr (inr (inr (inr (fault, e))))
 closing_end n (Err fault) (inr e) = no_memory n e
 
+task_end : (n : ℕ) (ran : TaskRan) → IsEndOfTask ran n → IsEnd n
+task_end n (ScriptRan ran) e = script_end n ran e
+task_end n (HistoriesRan ran) e = histories_end n ran e
+task_end n (AuditRan ran) e = audit_end n ran e
+task_end n (MigrationRan ran) e = script_end n ran e
+
+files_end : (n : ℕ) (ran : Result TaskRan FilesFault) → IsEndOfFiles ran n → IsEnd n
+files_end n (Ok ran) e = task_end n ran e
+files_end n (Err (Unread file)) e = fault_end n Read e
+files_end n (Err (AnotherBank file)) e = fault_end n NoConfig e
+files_end n (Err NoFilesMemory) e = fault_end n OutOfMemory e
+
 -- whatever was done
 pub any_end : (n : ℕ) (streamed : Streamed) (input left : Option (List ℕ)) (done : OverFiles) (text : List ℕ)
     → IsEndOf streamed input left done text n → IsEnd n
@@ -60,13 +78,20 @@ any_end n (Threads ran) input left done text e = histories_end n ran e.0
 any_end n (SiteAsked me journal is_new resend recorded bank) input left (Site ran) text e = site_end n ran.ended e.1
 any_end n (SiteAsked me journal is_new resend recorded bank) input left Nothing text e = absurd e
 any_end n (SiteAsked me journal is_new resend recorded bank) input left (Closed ran) text e = absurd e
+any_end n (SiteAsked me journal is_new resend recorded bank) input left (Lines ran) text e = absurd e
 any_end n (BadBank name) input left done text e = fault_end n NoConfig e.0
 any_end n (SealAsked me journal) input left (Site ran) text e = site_end n ran.ended e.1
 any_end n (SealAsked me journal) input left Nothing text e = absurd e
 any_end n (SealAsked me journal) input left (Closed ran) text e = absurd e
+any_end n (SealAsked me journal) input left (Lines ran) text e = absurd e
 any_end n (CloseAsked sites accounts journals) input left (Closed ran) text e = closing_end n ran.ended e.1
 any_end n (CloseAsked sites accounts journals) input left Nothing text e = absurd e
 any_end n (CloseAsked sites accounts journals) input left (Site ran) text e = absurd e
+any_end n (CloseAsked sites accounts journals) input left (Lines ran) text e = absurd e
+any_end n (FilesAsked task files) input left (Lines ran) text e = files_end n ran.ended e.1
+any_end n (FilesAsked task files) input left Nothing text e = absurd e
+any_end n (FilesAsked task files) input left (Site ran) text e = absurd e
+any_end n (FilesAsked task files) input left (Closed ran) text e = absurd e
 
 shown_end : (n : ℕ) → (n ≡ 0) ⊎ IsReportedStatus (status_of Write) n → IsEnd n
 shown_end n (inl e) = inl e

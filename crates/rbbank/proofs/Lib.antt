@@ -1,3 +1,5 @@
 mod Ends
+mod LinesOfFiles
 mod OnDisk
+mod PlacesInFiles
 mod Done

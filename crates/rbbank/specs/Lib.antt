@@ -1,3 +1,4 @@
 pub mod Asked
+pub mod Files
 pub mod OnDisk
 pub mod Statuses

@@ -14,12 +14,17 @@ use Rattle.rb_run_site.specs.Faults.{site_status_of}
 use Rattle.rb_runs.specs.Closes.{ClosesAs, close_status_of}
 use Rattle.rb_runs.specs.declared.books.close_fault.CloseFault.{CloseFault}
 use Rattle.rb_history.specs.Ids.{is_id}
+use Rattle.rbbank.specs.Files.{FilesEndAs, files_status_of}
+use Rattle.rbbank.specs.declared.joined.FilesFault.{FilesFault}
+use Rattle.rbbank.specs.declared.task.TaskRan.{TaskRan}
+use Rattle.rbbank.specs.declared.task.TaskRan.TheVariants.{Script as ScriptRan, Histories as HistoriesRan, Audit as AuditRan}
+use Rattle.rbbank.specs.declared.task.TaskRan.TheVariants.{Migrate as MigrationRan}
 use Rattle.rbbank.specs.OnDisk.{IsRunOn, IsSealOn, bank_name_of, records_all}
 use Rattle.rbbank.specs.declared.over_files.OverFiles.{OverFiles}
-use Rattle.rbbank.specs.declared.over_files.OverFiles.TheVariants.{Site, Closed}
+use Rattle.rbbank.specs.declared.over_files.OverFiles.TheVariants.{Site, Closed, Lines}
 use Rattle.rbbank.specs.declared.on_streams.Streamed.{Streamed}
 use Rattle.rbbank.specs.declared.on_streams.Streamed.TheVariants.{Script, Histories, Audit, Migrate, Threads, SiteAsked, SealAsked}
-use Rattle.rbbank.specs.declared.on_streams.Streamed.TheVariants.{BadBank, CloseAsked}
+use Rattle.rbbank.specs.declared.on_streams.Streamed.TheVariants.{BadBank, CloseAsked, FilesAsked}
 
 -- the status if the words can't be read
 abbrev pub status_of_unread : IoErrorKind → ℕ
@@ -68,9 +73,21 @@ IsEndOfClosing (Ok true) n = n ≡ 0
 IsEndOfClosing (Ok false) n = n ≡ 1
 IsEndOfClosing (Err fault) n = IsReportedStatus (close_status_of fault) n
 
+-- a task with the lines of files ends as it does with those of standard input; or in the status of why they are no
+-- input
+abbrev pub IsEndOfTask : TaskRan → ℕ → Type 0
+IsEndOfTask (ScriptRan ran) n = IsEndOfScript ran n
+IsEndOfTask (HistoriesRan ran) n = IsEndOfHistories ran n
+IsEndOfTask (AuditRan ran) n = IsEndOfAudit ran n
+IsEndOfTask (MigrationRan ran) n = IsEndOfScript ran n
+
+abbrev pub IsEndOfFiles : Result TaskRan FilesFault → ℕ → Type 0
+IsEndOfFiles (Ok ran) n = IsEndOfTask ran n
+IsEndOfFiles (Err fault) n = IsReportedStatus (files_status_of fault) n
+
 -- what was done between a reader and a writer ends as it does by what it came to, and nothing more is written. A site
--- that was asked for ran over the file that its words name, a journal was sealed, or the books were closed by the files
--- that were read, as the words say; and that ends as it does by what it came to
+-- that was asked for ran over the file that its words name, a journal was sealed, or the books were closed, or a task
+-- done, by the files that were read, as the words say; and that ends as it does by what it came to
 abbrev pub IsEndOf : Streamed → Option (List ℕ) → Option (List ℕ) → OverFiles → List ℕ → ℕ → Type 0
 IsEndOf (Script ran) input left done text n = IsEndOfScript ran n × (text ≡ [])
 IsEndOf (Histories ran) input left done text n = IsEndOfHistories ran n × (text ≡ [])
@@ -86,6 +103,8 @@ IsEndOf (SealAsked me journal) input left (Site ran) text n =
 IsEndOf (CloseAsked sites accounts journals) input left (Closed ran) text n =
     ClosesAs (record { sites = sites; added = map (λ name. name.now) accounts.items }) (length journals.items) ran.read.files ran.ended text
     × IsEndOfClosing ran.ended n × (left ≡ input)
+IsEndOf (FilesAsked task files) input left (Lines ran) text n =
+    FilesEndAs task (length files.items) ran.read.files ran.ended text × IsEndOfFiles ran.ended n × (left ≡ input)
 IsEndOf _ input left done text n = ⊥
 
 -- what is said of a name that is none of a bank
@@ -97,16 +116,18 @@ abbrev pub IsEnd : ℕ → Type 0
 IsEnd n = (n ≡ 0) ⊎ ((n ≡ 1) ⊎ (((fault : ScriptFault) × (n ≡ status_of fault)) ⊎ (((fault : SiteFault) × (n ≡ site_status_of fault))
     ⊎ ((fault : CloseFault) × (n ≡ close_status_of fault)))))
 
--- files are to be run over, by a site, a seal or closing the books
+-- files are to be run over, by a site, a seal, closing the books or a task
 abbrev pub IsAskedOfFiles : Streamed → Type 0
 IsAskedOfFiles (SiteAsked me journal is_new resend recorded bank) = Unit {0}
 IsAskedOfFiles (SealAsked me journal) = Unit {0}
 IsAskedOfFiles (CloseAsked sites accounts journals) = Unit {0}
+IsAskedOfFiles (FilesAsked task files) = Unit {0}
 IsAskedOfFiles _ = ⊥
 
 -- a bank's name is an id; the books are to be closed by one journal or more, and for a number of sites that a bank may
--- have
+-- have; a task has one file or more
 abbrev pub IsFitting : Streamed → Type 0
 IsFitting (SiteAsked me journal is_new resend recorded bank) = IfSome bank (λ name. is_id name.now ≡ true)
 IsFitting (CloseAsked sites accounts journals) = IfSome sites (λ n. (2 ≤ n) × (n ≤ MOST_SITES)) × (1 ≤ length journals.items)
+IsFitting (FilesAsked task files) = 1 ≤ length files.items
 IsFitting _ = Unit {0}

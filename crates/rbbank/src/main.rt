@@ -15,13 +15,18 @@ ghost use Rattle.rbbank.specs.Statuses.{IsAskedOfFiles, IsFitting};
 ghost use Rattle.rbbank.specs.Statuses.{IsReportedStatus, bank_message_of, status_of_unread};
 
 mod closing;
+mod files_on_disk;
+mod files_task;
+mod joined;
 mod on_disk;
 mod on_streams;
 mod over_files;
 mod read_log;
+mod task;
 
 use clap::error::ErrorKind;
 use closing::close_books;
+use files_task::run_over_files;
 use on_disk::{RanOnDisk, run_on_disk, seal_on_disk};
 use on_streams::{Streamed, run_on_streams};
 use over_files::OverFiles;
@@ -176,7 +181,7 @@ fn of_site(ran: RanOnDisk) -> Ended
     Ended { code, done }
 }
 
-/// How whatever was asked for ends the program. What runs over files runs now.
+/// How whatever was asked for ends the program. A task over files runs now.
 fn end<S: Source, W: Sink>(
     rt: &HostRuntime,
     reader: &mut S,
@@ -195,6 +200,12 @@ fn end<S: Source, W: Sink>(
         Streamed::Histories(ran) => without_files(end_of_histories(rt, ran)),
         Streamed::Audit(ran) => without_files(end_of_audit(rt, ran)),
         Streamed::Migrate(ran) => without_files(end_of_script(rt, ran)),
+        Streamed::FilesAsked { task, files } => {
+            let ran = run_over_files(rt, task, &files, writer);
+            let code = ran.code;
+            let done = OverFiles::Lines(ran);
+            Ended { code, done }
+        }
         Streamed::Threads(ran) => without_files(end_of_histories(rt, ran)),
         Streamed::SiteAsked {
             me,

@@ -1,4 +1,4 @@
-//! What the words ask for, done between any reader and any writer, as far as these suffice.
+//! The request of the words, done between any reader and any writer, as far as these suffice.
 ghost use Rattle.std.specs.Prelude.{◌≡◌, ◌+◌, ◌≤◌, ℕ, List, false, map, IfOk, IfErr, OnErr};
 ghost use Rattle.std.specs.Io.KnownBytes.{Appends};
 ghost use Rattle.clap.specs.Words.{kind_of};
@@ -10,7 +10,7 @@ ghost use Rattle.rbbank.specs.Asked.{DoesAsAsked};
 ghost use Rattle.rbbank.specs.Statuses.{IsAskedOfFiles, IsFitting};
 
 use rb_branch::NoGate;
-use rb_cli::{Record, Words, read_words};
+use rb_cli::{Record, Task, Words, read_words};
 use rb_history::is_id;
 use rb_lines::{ScriptFault, Sink, Source};
 use rb_run_threads::run_threads;
@@ -19,7 +19,7 @@ use std::alloc::Global;
 use std::sync::Wait;
 use std::thread::Threads;
 
-/// What was done between a reader and a writer, and what it came to.
+/// A run between a reader and a writer, and its outcome; or a request that wants files.
 #[derive(Drop)]
 pub enum Streamed<'a> {
     /// A script was answered.
@@ -30,6 +30,11 @@ pub enum Streamed<'a> {
     Audit(Result<bool, ScriptFault>),
     /// Histories were written again.
     Migrate(Result<u64, ScriptFault>),
+    /// This is to be done with the lines of these files. Nothing is done yet.
+    FilesAsked {
+        task: Task,
+        files: Vec<&'a str>,
+    },
     /// Tellers ran.
     Threads(Result<(), ScriptFault>),
     /// A site is to run over this file, or over a new one, which takes a disk as well. Nothing is done yet. If its bank
@@ -60,8 +65,9 @@ pub enum Streamed<'a> {
 }
 
 /// Does what the words after the program's name ask for, from this reader to this writer. Tellers read nothing;
-/// the handle starts their threads, and waits for them. A site, its seal and closing the books take files as well, so
-/// they are the caller's to run. If the words ask for nothing, the error says so, and nothing is read or written.
+/// the handle starts their threads, and waits for them. A task with files, a site, its seal and closing the books take
+/// files as well, so they are the caller's to run. If the words ask for nothing, the error says so, and nothing is read
+/// or written.
 pub fn run_on_streams<'a, H: Threads + Wait + Sync, S: Source, W: Sink>(
     handle: &H,
     alloc: Global,
@@ -92,6 +98,7 @@ pub fn run_on_streams<'a, H: Threads + Wait + Sync, S: Source, W: Sink>(
         Ok(Words::Histories) => Ok(Streamed::Histories(run_histories(alloc, reader, writer))),
         Ok(Words::Audit) => Ok(Streamed::Audit(run_audit(alloc, reader, writer))),
         Ok(Words::Migrate) => Ok(Streamed::Migrate(run_migrate(alloc, reader, writer))),
+        Ok(Words::Files { task, files }) => Ok(Streamed::FilesAsked { task, files }),
         Ok(
             Words::Threads {
                 sites,

@@ -1,8 +1,9 @@
-//! What runs over files.
+//! Runs over files.
 use crate::closing::RanClosing;
+use crate::files_task::RanOverFiles;
 use crate::on_disk::RanOnDisk;
 
-/// What ran over files, and what it came to.
+/// A run over files, and its outcome.
 #[derive(Drop)]
 pub enum OverFiles {
     /// Nothing did.
@@ -11,4 +12,6 @@ pub enum OverFiles {
     Site(RanOnDisk),
     /// The books were closed.
     Closed(RanClosing),
+    /// A task with the lines of files.
+    Lines(RanOverFiles),
 }

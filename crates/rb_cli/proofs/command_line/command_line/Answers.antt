@@ -16,15 +16,19 @@ added old part new app of_part old_is part_is local adds = adds.shape local
 pub returns : goal.returns
 returns c =
     let Adds = AddsInTurn AddsSubcommand c.top.result in
+    let script = c.in_ok-script.ensures in
+    let histories = c.in_ok-histories.ensures in
+    let audit = c.in_ok-audit.ensures in
+    let migrate = c.in_ok-migrate.ensures in
     let threads = c.in_ok-threads.ensures in
     let site = c.in_ok-site.ensures in
     let close = c.in_ok-close.ensures in
     IfOk-weaker c.subcommands.result (Adds c.in_ok-parts.parts.items) (λ it. IsCommandLine (app_of it)) (λ it in_turn.
     let all = subst (λ parts. Adds parts it) c.in_ok-parts.ensures.items in_turn in
-    let one = added _ _ all.0 _ _ c.top.ensures c.script.ensures.shape c.script.ensures.local all.1 in
-    let two = added _ _ all.2.0 _ _ one c.histories.ensures.shape c.histories.ensures.local all.2.1 in
-    let three = added _ _ all.2.2.0 _ _ two c.audit.ensures.shape c.audit.ensures.local all.2.2.1 in
-    let four = added _ _ all.2.2.2.0 _ _ three c.migrate.ensures.shape c.migrate.ensures.local all.2.2.2.1 in
+    let one = added _ _ all.0 _ _ c.top.ensures script.shape script.local all.1 in
+    let two = added _ _ all.2.0 _ _ one histories.shape histories.local all.2.1 in
+    let three = added _ _ all.2.2.0 _ _ two audit.shape audit.local all.2.2.1 in
+    let four = added _ _ all.2.2.2.0 _ _ three migrate.shape migrate.local all.2.2.2.1 in
     let five = added _ _ all.2.2.2.2.0 _ _ four threads.shape threads.local all.2.2.2.2.1 in
     let six = added _ _ all.2.2.2.2.2.0 _ _ five site.shape.2 site.local all.2.2.2.2.2.1 in
     let seven = added _ _ all.2.2.2.2.2.2.0 _ _ six close.shape close.local all.2.2.2.2.2.2.1 in

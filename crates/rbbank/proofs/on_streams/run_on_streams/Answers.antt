@@ -3,7 +3,7 @@ use Rattle.std.proofs.Common.{◌≤◌, Bor, List, [], map, refl, sym, subst, �
 use Rattle.std.proofs.lemmas.List.{length-map}
 use Rattle.rb_cli.specs.Words.{AreReadAs, IsAsUsual, IsInRange, as_asked}
 use Rattle.rb_cli.specs.declared.words.Words.{Words}
-use Rattle.rb_cli.specs.declared.words.Words.TheVariants.{Script, Histories, Audit, Migrate, Threads, Site, Seal, Close}
+use Rattle.rb_cli.specs.declared.words.Words.TheVariants.{Script, Histories, Audit, Migrate, Files, Threads, Site, Seal, Close}
 use Rattle.clap.specs.Words.{Text}
 use Rattle.rbbank.proofs.Done.{appends_nothing}
 use Rattle.rbbank.proofs.on_streams.run_on_streams.Goals as goal
@@ -43,6 +43,19 @@ returns-in-Ok-Migrate-clause-done g c =
     let asked = subst (AreAsked words) c.in-Ok-Migrate.field-0-is (read.ok, read.usual) in
     let ran = c.run_migrate.ensures in
     (Migrate, asked.0, asked.1, ran.written.0, ran.written.1, (ran.gather, ran.written.2))
+
+pub returns-in-Ok-Files-clause-done : goal.returns-in-Ok-Files-clause-done
+returns-in-Ok-Files-clause-done g c =
+    let words = map (λ word. word.now) c.args.words.now in
+    let met = c.in-Ok-Files in
+    let asked = subst (AreAsked words) met.field-0-is (met.ensures.ok, met.ensures.usual) in
+    (Files met.task met.files, asked.0, asked.1, [], appends_nothing _, (refl, refl, refl, refl))
+
+pub returns-in-Ok-Files-clause-fitting : goal.returns-in-Ok-Files-clause-fitting
+returns-in-Ok-Files-clause-fitting g c =
+    let met = c.in-Ok-Files in
+    let range = subst (λ asked. IsInRange (as_asked asked)) met.field-0-is met.ensures.ranges in
+    subst (λ n. 1 ≤ n) (length-map met.files.items (λ (text : Bor Text). text.now)) range
 
 pub returns-in-Ok-Threads-clause-done : goal.returns-in-Ok-Threads-clause-done
 returns-in-Ok-Threads-clause-done g c =

@@ -11,9 +11,13 @@ complete -c rbbank -n '__fish_use_subcommand' -a help -d 'Print this message or 
 complete -c rbbank -n '__fish_use_subcommand' -s h -l help -d 'Print help'
 complete -c rbbank -n '__fish_use_subcommand' -s V -l version -d 'Print version'
 complete -c rbbank -n '__fish_seen_subcommand_from script' -s h -l help -d 'Print help'
+complete -c rbbank -n '__fish_seen_subcommand_from script' -F
 complete -c rbbank -n '__fish_seen_subcommand_from histories' -s h -l help -d 'Print help'
+complete -c rbbank -n '__fish_seen_subcommand_from histories' -F
 complete -c rbbank -n '__fish_seen_subcommand_from audit' -s h -l help -d 'Print help'
+complete -c rbbank -n '__fish_seen_subcommand_from audit' -F
 complete -c rbbank -n '__fish_seen_subcommand_from migrate' -s h -l help -d 'Print help'
+complete -c rbbank -n '__fish_seen_subcommand_from migrate' -F
 complete -c rbbank -n '__fish_seen_subcommand_from threads' -l sites -x -d 'How many sites there are, 2 to 16'
 complete -c rbbank -n '__fish_seen_subcommand_from threads' -l tellers -x -d 'How many tellers there are, 1 to 64'
 complete -c rbbank -n '__fish_seen_subcommand_from threads' -l seed -x -d 'What the tellers\' numbers begin with, 0 to 4294967295'

@@ -1,0 +1,137 @@
+//! A task with the lines of files of the operating system.
+ghost use Rattle.std.specs.Prelude.{◌≡◌, ◌≤◌, ◌++◌, IfOk, List, ℕ, codes, false, length, string_bytes};
+ghost use Rattle.std.specs.Io.KnownBytes.{Appends};
+ghost use Rattle.std.specs.Process.{exit_status};
+ghost use Rattle.rbbank.specs.Files.{FilesEndAs, files_status_of, lines_message_of};
+ghost use Rattle.rb_lines.specs.Messages.{status_of};
+ghost use Rattle.rbbank.specs.Statuses.{IsEndOfFiles, IsEndOfTask, IsReportedStatus};
+
+use crate::files_on_disk::{FilesOnDisk, name_of, report_unread};
+use crate::joined::{FilesFault, Joined, join_files};
+use crate::read_log::ReadLog;
+use crate::task::{TaskRan, run_task};
+use crate::{FAULT_FOUND, out_of_memory, print_line, report_fault};
+use rb_cli::Task;
+use rb_lines::{ScriptFault, Sink, status};
+use rb_runs::{JournalFault, journal_message, journal_status};
+use std::alloc::{AllocError, Global};
+use std::io;
+use std::process::ExitCode;
+
+/// The outcome of a task with the lines of files: the files that were read; how the task ended, or why the files aren't
+/// one input; and the status that the program ends with.
+#[derive(Drop)]
+pub struct RanOverFiles {
+    pub read: ReadLog,
+    pub ended: Result<TaskRan, FilesFault>,
+    pub code: ExitCode,
+}
+
+/// The text about a fault of a file's lines.
+fn lines_message(alloc: Global, name: &str, fault: ScriptFault) -> Result<String, AllocError>
+    ensures { IfOk result (λ text. string_bytes text ≡ lines_message_of name.now fault) }
+{
+    format!(in alloc; "rbbank: {name}: {fault}")
+}
+
+/// A fault of a line by the line's number in its own file, and which that is. `None` for a fault of no line.
+fn in_its_file(joined: &Joined, fault: ScriptFault) -> Option<(u64, ScriptFault)> {
+    match fault {
+        ScriptFault::NoConfig => Some((0, fault)),
+        ScriptFault::BadConfig { line } => {
+            let (file, line) = joined.place_of(line);
+            Some((file, ScriptFault::BadConfig { line }))
+        }
+        ScriptFault::BadLine { line } => {
+            let (file, line) = joined.place_of(line);
+            Some((file, ScriptFault::BadLine { line }))
+        }
+        ScriptFault::LongLine { line } => {
+            let (file, line) = joined.place_of(line);
+            Some((file, ScriptFault::LongLine { line }))
+        }
+        _ => None,
+    }
+}
+
+/// Says why a task stopped: of a fault of a line, with its file.
+fn report_stop(rt: &HostRuntime, names: &[&str], joined: &Joined, fault: ScriptFault) -> ExitCode
+    ensures { IsReportedStatus (status_of fault) (exit_status result) }
+{
+    match in_its_file(joined, fault) {
+        Some((file, own)) => print_line(
+            rt,
+            lines_message(rt.alloc(), name_of(names, file), own),
+            status(fault),
+        ),
+        None => report_fault(rt, fault),
+    }
+}
+
+/// How a task ends the program.
+fn end_of_task(rt: &HostRuntime, names: &[&str], joined: &Joined, ran: TaskRan) -> ExitCode
+    ensures { IsEndOfTask ran (exit_status result) }
+{
+    match ran {
+        TaskRan::Script(Ok(_)) => ExitCode::SUCCESS,
+        TaskRan::Histories(Ok(())) => ExitCode::SUCCESS,
+        TaskRan::Audit(Ok(true)) => ExitCode::SUCCESS,
+        TaskRan::Audit(Ok(false)) => ExitCode::from(FAULT_FOUND),
+        TaskRan::Migrate(Ok(_)) => ExitCode::SUCCESS,
+        TaskRan::Script(Err(fault)) => report_stop(rt, names, joined, fault),
+        TaskRan::Histories(Err(fault)) => report_stop(rt, names, joined, fault),
+        TaskRan::Audit(Err(fault)) => report_stop(rt, names, joined, fault),
+        TaskRan::Migrate(Err(fault)) => report_stop(rt, names, joined, fault),
+    }
+}
+
+/// Says why files aren't one input. If one can't be read, this is the system's error.
+fn report_files(
+    rt: &HostRuntime,
+    names: &[&str],
+    fault: FilesFault,
+    why: Option<io::Error>,
+) -> ExitCode
+    ensures { IsReportedStatus (files_status_of fault) (exit_status result) }
+{
+    match fault {
+        FilesFault::Unread { file } => report_unread(rt, name_of(names, file), why),
+        FilesFault::AnotherBank { file } => {
+            let fault = JournalFault::AnotherBank;
+            let line = journal_message(rt.alloc(), name_of(names, file), fault);
+            print_line(rt, line, journal_status(fault))
+        }
+        FilesFault::OutOfMemory => out_of_memory(rt),
+    }
+}
+
+/// Does this with the lines of these files, to the writer.
+pub fn run_over_files<W: Sink>(
+    rt: &HostRuntime,
+    task: Task,
+    names: &[&str],
+    writer: &mut W,
+) -> RanOverFiles
+    requires some { 1 ≤ length names.now }
+    requires fresh { W.failed writer.old ≡ false }
+    ensures written { (text : List ℕ) × Appends (W.contents writer.old) (W.contents writer.new) text
+        × FilesEndAs task (length names.now) result.read.files result.ended text }
+    ensures status { IsEndOfFiles result.ended (exit_status result.code) }
+{
+    let mut files = FilesOnDisk::new(rt, names);
+    let joined = join_files(rt.alloc(), &mut files, names.len() as u64);
+    let (read, error) = files.end();
+    match joined {
+        Ok(joined) => {
+            let ran = run_task(rt.alloc(), task, &joined.bytes, writer);
+            let code = end_of_task(rt, names, &joined, ran);
+            let ended = Ok(ran);
+            RanOverFiles { read, ended, code }
+        }
+        Err(fault) => {
+            let code = report_files(rt, names, fault, error);
+            let ended = Err(fault);
+            RanOverFiles { read, ended, code }
+        }
+    }
+}
