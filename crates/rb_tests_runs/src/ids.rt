@@ -6,7 +6,7 @@ use crate::entries::TWO_ACCOUNTS;
 use crate::lines::lines;
 use crate::scripts::{Program, WHOLE, ran};
 use rb_history::{
-    LineFault, RequestId, append_asked_line, read_asked_entry, read_asked_event, read_config,
+    LineFault, RequestId, append_asked_line, read_asked_entry, read_config, read_event_to,
     read_line,
 };
 use rb_money::Config;
@@ -41,6 +41,18 @@ fn any_entry() -> Entry {
     }
 }
 
+/// The event that a line is to a bank without a name, with its id. No line is of another bank than that.
+fn read_event(
+    alloc: Global,
+    config: &Config,
+    line: &str,
+    id: &mut RequestId,
+) -> Result<Event, LineFault> {
+    let no_name = RequestId::none(alloc);
+    let event = read_event_to(alloc, config, &no_name, line, id)?;
+    event.ok_or(LineFault::OutOfMemory)
+}
+
 /// The line is this event, with this id.
 fn is_event(
     rt: &(impl Abort + AllocGlobal),
@@ -50,7 +62,7 @@ fn is_event(
     wanted: &Event,
 ) -> Result<(), Fail> {
     let mut found = RequestId::none(rt.alloc());
-    let event = read_asked_event(rt.alloc(), config, line, &mut found)?;
+    let event = read_event(rt.alloc(), config, line, &mut found)?;
     equal_at(rt, line, found.as_bytes(), id.as_bytes());
     holds(rt, line, event.same(wanted));
     Ok(())
@@ -63,7 +75,7 @@ fn events_have_ids_in_each_order(rt: HostRuntime) -> Result<(), Fail> {
     let mut found = RequestId::none(alloc);
     for event in EVENTS {
         let alone = format!(in alloc; "{{{event}}}")?;
-        let wanted = read_asked_event(alloc, &config, alone.as_str(), &mut found)?;
+        let wanted = read_event(alloc, &config, alone.as_str(), &mut found)?;
         equal(&rt, found.as_bytes().len(), 0);
         for id in IDS {
             let line = format!(in alloc; r#"{{{event},"id":"{id}"}}"#)?;
@@ -154,7 +166,7 @@ fn bad_ids_of_events(rt: HostRuntime) -> Result<(), Fail> {
     let config = read_config(rt.alloc(), TWO_ACCOUNTS)?;
     let mut id = RequestId::none(rt.alloc());
     for line in NO_EVENTS.lines() {
-        let read = read_asked_event(rt.alloc(), &config, line, &mut id);
+        let read = read_event(rt.alloc(), &config, line, &mut id);
         equal_at(&rt, line, read.err(), Some(LineFault::Bad));
     }
     Ok(())
