@@ -58,15 +58,15 @@ def is_same(program, path):
 
 
 def shown(program, command):
-    """The parts of a command's help that are indented: its worked input, and the answer. What is indented further is
-    the rest of the line above it."""
+    """The parts of a command's help that are indented and have lines: its worked input, the answer, and examples. What
+    is indented further is the rest of the line above it."""
     text = subprocess.run([program, command, "--help"], capture_output=True, text=True).stdout.replace("\n    ", "")
     return [part for part in re.findall(r"(?m)(?:^  \S.*\n)+", text) if "{" in part]
 
 
 def helps(program, command):
     """Whether the input that help shows is answered as it shows. An audit's answer is the first of those it lists."""
-    given, told = shown(program, command)
+    given, told = shown(program, command)[:2]
     with tempfile.TemporaryDirectory() as folder:
         options = ["--me", "0", "--journal", os.path.join(folder, "journal"), "--new"] if command == "site" else []
         words = [program, command, *options]
