@@ -253,6 +253,7 @@ class Run:
                 self.period += 1
                 return
             self.count["closings killed" if process.returncode < 0 else "closings given up"] += 1
+            await asyncio.sleep(self.pick.random() * 4)
         raise Wrong(f"{self.name} wasn't closed in {self.asked.patience} s: {await self.everyone()}")
 
     # ---- the end
@@ -403,11 +404,11 @@ def look(run: Run, balances: Json) -> tuple[int, int]:
 
 
 def look_logs(bank: cluster.Bank) -> None:
-    """No queue has to be out of order, and no site refuses what another sent."""
+    """No site has refused what another sent."""
     for site in range(bank.sites):
         with open(os.path.join(bank.folder, f"{site}.log")) as file:
             for line in file:
-                if any(text in line for text in ("nothing was applied", "doesn't take", "no message")):
+                if any(text in line for text in ("doesn't take", "no message")):
                     raise Wrong(f"the log of site {site}: {line}")
 
 
@@ -424,12 +425,17 @@ async def happens(run: Run) -> tuple[Json, float]:
         clients = [asyncio.create_task(run.client(number)) for number in range(asked.clients)]
         kills = [asyncio.create_task(run.breaks(until)), asyncio.create_task(run.breaks_broker(until)),
                  asyncio.create_task(periods(run, begun))]
-        while not all(kill.done() for kill in kills):
-            done, _ = await asyncio.wait(clients + kills, timeout=1, return_when=asyncio.FIRST_EXCEPTION)
-            for task in done:
-                task.result()
-        run.is_over = True
-        await asyncio.wait_for(asyncio.gather(*clients), asked.patience)
+        try:
+            while not all(kill.done() for kill in kills):
+                done, _ = await asyncio.wait(clients + kills, timeout=1, return_when=asyncio.FIRST_EXCEPTION)
+                for task in done:
+                    task.result()
+            run.is_over = True
+            await asyncio.wait_for(asyncio.gather(*clients), asked.patience)
+        finally:
+            for task in clients + kills:
+                task.cancel()
+            await asyncio.gather(*clients, *kills, return_exceptions=True)
         begun = time.monotonic()
         await run.drains()
         drained, balances = time.monotonic() - begun, await run.compare()
@@ -507,7 +513,7 @@ def options() -> argparse.Namespace:
     reader.add_argument("--slow", type=int, help="microseconds that each wait for the disk takes longer; wants cc")
     reader.add_argument("--pause", type=float, default=0.5, help="seconds between two kills, in the mean")
     reader.add_argument("--timeout", type=float, default=5, help="seconds after which a client asks again")
-    reader.add_argument("--patience", type=float, default=300, help="seconds in which all has to have come")
+    reader.add_argument("--patience", type=float, default=600, help="seconds in which all has to have come")
     reader.add_argument("--folder", help="where journals and logs stay")
     asked = reader.parse_args()
     if not os.access(asked.program, os.X_OK) or os.path.isdir(asked.program):

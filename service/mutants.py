@@ -68,14 +68,6 @@ MUTANTS = {
     "nobody_is_sent_away": Mutant("service.py", 'raise No(503, "too much waits")', "pass", WAITS),
     "a_client_sends_messages": Mutant("service.py", "or not verbs <= MAY.keys()", "", ASKS),
     "not_one_at_a_time": Mutant("wires.py", '"x-single-active-consumer": True', '"x-max-length": 10**9', QUEUES),
-    "cancelled_before_it_ends": Mutant("wires.py", '''        while True:
-            delivery = await deliveries.get()
-            await self.take(delivery.body)
-            await delivery.ack()
-''', '''        async for delivery in (await self.queue(channel, site, self.me)).iterator():
-            await self.take(delivery.body)
-            await delivery.ack()
-''', QUEUES),
     "acknowledged_before_answered": Mutant("wires.py", '''            await self.take(delivery.body)
             await delivery.ack()
 ''', '''            await delivery.ack()

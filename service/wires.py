@@ -34,6 +34,7 @@ MOST_LINES = 500  # of one message of the broker
 PREFETCH = 4  # deliveries of each queue that wait here
 PATIENCE = 20  # seconds for a confirm
 LONG = 60  # seconds that a queue may wait for an operation that others bring
+ALONE = 5  # times in a row that a queue is seen without a consumer, after which a new session is tried
 SAY = 1.0  # seconds between two times that a service says where it is
 FULL = (16, 23)  # refusals of a message that isn't lost by them: its queue waits
 FAULTS = (aio_pika.exceptions.AMQPError, OSError, asyncio.TimeoutError, RuntimeError)
@@ -128,11 +129,15 @@ class Wires:
         await coming.set_qos(prefetch_count=PREFETCH, timeout=PATIENCE)
         for pair in self.pairs():  # both ends make both queues, so nothing is published if there is none
             await self.queue(coming, *pair)
+        came: dict[int, asyncio.Queue[AbstractIncomingMessage]] = {site: asyncio.Queue() for site in self.others}
+        for site, deliveries in came.items():  # (consumers end with their channel alone: if one were cancelled first,
+            # the next would be given later messages before those that are in hand here)
+            await (await self.queue(coming, site, self.me)).consume(deliveries.put, timeout=PATIENCE)
         self.counts["sessions"] += 1
         self.url = url
         await together(1, gone.wait(), self.look(looking), self.talk(looking),
                        *(self.publish(going, site) for site in self.others),
-                       *(self.receive(coming, site) for site in self.others))
+                       *(self.receive(deliveries, site) for site, deliveries in came.items()))
 
     def pairs(self) -> list[tuple[int, int]]:
         return [pair for site in self.others for pair in ((self.me, site), (site, self.me))]
@@ -157,11 +162,8 @@ class Wires:
             self.more[site].clear()
             await self.more[site].wait()
 
-    async def receive(self, channel: AbstractChannel, site: int) -> None:
-        """Gives the site what another one sent, and acknowledges what it has answered. The consumer ends with its
-        channel alone: if it were cancelled first, the next one would be given later messages before those of here."""
-        deliveries: asyncio.Queue[AbstractIncomingMessage] = asyncio.Queue()
-        await (await self.queue(channel, site, self.me)).consume(deliveries.put, timeout=PATIENCE)
+    async def receive(self, deliveries: asyncio.Queue[AbstractIncomingMessage], site: int) -> None:
+        """Gives the site what another one sent, and acknowledges what it has answered."""
         while True:
             delivery = await deliveries.get()
             await self.take(delivery.body)
@@ -210,13 +212,15 @@ class Wires:
         """How many messages wait in the queues to this site; and writes down what is confirmed."""
         for sender, receiver in self.pairs() if self.closed else []:
             await channel.queue_delete(f"{self.closed}.{sender}.{receiver}", timeout=PATIENCE)
+        alone: Counter[int] = Counter()  # how often a queue was seen without a consumer: its channel is gone then
         while True:
             await asyncio.sleep(1)
             for site in self.others:
                 found = (await self.queue(channel, site, self.me, passive=True)).declaration_result
                 self.depth[site] = found.message_count or 0
-                if not found.consumer_count:
-                    raise ConnectionError("a queue has no consumer: its channel is gone")
+                alone[site] = 0 if found.consumer_count else alone[site] + 1
+                if alone[site] == ALONE:
+                    raise ConnectionError("a queue has no consumer")
             if self.site.starts:
                 self.save()
 
