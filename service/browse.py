@@ -189,6 +189,7 @@ class Browse:
         page.type("#amount", "12.34")
         page.click("#do")
         page.says("#asks", "done: B0.")
+        time.sleep(0.6)
         page.click("#do")
         page.until(lambda: len(page.all("#asks .done")) == 2)
         asked = bank.wait_for(2)
@@ -211,7 +212,7 @@ class Browse:
         bank, page = self.open()
         ActionChains(page.driver).double_click(page.one("#do")).perform()
         page.says("#asks", "done")
-        time.sleep(0.3)
+        time.sleep(0.6)
         same("once", "a double click", len(bank.asked), 1)
         page.one("#amount").click()
         for repeats in (False, True, True):
@@ -223,12 +224,17 @@ class Browse:
         page.until(lambda: len(page.all("#asks .done")) == 2)
         time.sleep(0.3)
         same("once", "a key that is held down", len(bank.asked), 2)
+        time.sleep(0.6)
+        page.type("#amount", "7")
+        page.press(Keys.ENTER, Keys.ENTER)
+        page.until(lambda: len(page.all("#asks .done")) == 3)
+        same("once", "a key that is pressed twice", len(bank.wait_for(4, 0.6)), 3)
         bank.sites[0].busy = 1
         page.click("#do")
         page.click("#do")
-        page.until(lambda: len(page.all("#asks .done")) == 3)
-        same("once", "ids while it is asked", len({key for _, key, _ in bank.asked[2:]}), 1)
-        same("once", "requests", len(page.all("#asks li")), 3)
+        page.until(lambda: len(page.all("#asks .done")) == 4)
+        same("once", "ids while it is asked", len({key for _, key, _ in bank.asked[3:]}), 1)
+        same("once", "requests", len(page.all("#asks li")), 4)
 
     def lost(self) -> None:
         """Replies that are lost: the same id is asked again, and the deposit is made once."""
@@ -406,6 +412,40 @@ class Browse:
         page.click("#do")
         same("own_down", "a deposit elsewhere", page.says("#asks", "done: B2."), True)
 
+    def periods(self) -> None:
+        """The books are closed: names begin anew, and what was asked before isn't made in the next period."""
+        bank, page = self.open()
+        before = page.column(0)
+        bank.sites[1].lost = 1_000_000
+        page.press("1")
+        page.click("#do")
+        page.says("#asks", "by the same id")
+        for site in bank.sites:
+            site.state["closing"] = True
+            site.tell([])
+        same("periods", "while it closes", page.says("#heads th:nth-child(2)", "closes its books: clients wait"), True)
+        for site in bank.sites:
+            site.state["up"] = False
+            site.tell([])
+        same("periods", "while its program is away", [page.column(0), page.text("#heads th:nth-child(2) .why")],
+             [before, "closes its books: clients wait"])
+        bank.name, first = bank.name + "-next", bank.name
+        for site in bank.sites:
+            site.state["balances"]["zed"] = 0
+            site.state |= {"applied": [[], 0], "bank": bank.name, "closing": False, "operations": [], "up": True}
+            site.state["token"] = {"epoch": 0, "here": site.number == 0, "to": 0}
+            site.tell([])
+        bank.sites[1].lost = 0
+        same("periods", "the old request", page.says("#asks .no", "this is of a period that is closed"), True)
+        same("periods", "the period", page.says("#who", f"{bank.name}: 3 sites, 6 accounts"), True)
+        same("periods", "its operations", page.says("#rows", "None yet."), True)
+        same("periods", "balances are carried forward", page.column(0), [*before[:-1], "0.00", before[-1]])
+        page.click("#do")
+        same("periods", "a deposit", page.says("#asks", "done: B1.1."), True)
+        same("periods", "its row", page.until(lambda: page.texts("#rows .name")), ["B1.1"])
+        same("periods", "where it is", len(page.all("#rows .at .has")), 3)
+        same("periods", "the periods that were named", bank.named, {first, bank.name})
+
     def access(self) -> None:
         """A bank that wants a client's token gets it with each request, and the page asks for it."""
         bank, page = self.open(secret="s3cret")
@@ -554,8 +594,8 @@ class Browse:
         count = 0
         for check in (self.shows, self.differs, self.clocks, self.click, self.once, self.lost, self.busy, self.again,
                       self.refusals, self.cancels, self.token, self.statements, self.down, self.up_again,
-                      self.asked_down, self.silent, self.own_down, self.access, self.markup, self.keys, self.names,
-                      self.contrast, self.network, self.thousand, self.sixteen, self.phone):
+                      self.asked_down, self.silent, self.own_down, self.periods, self.access, self.markup, self.keys,
+                      self.names, self.contrast, self.network, self.thousand, self.sixteen, self.phone):
             if only not in (None, check.__name__):
                 continue
             count += 1

@@ -105,12 +105,16 @@ class Handler(http.server.BaseHTTPRequestHandler):
         key = self.headers.get("Idempotency-Key", "")
         with bank.lock:
             event = json.loads(line)
-            bank.named.add(event.pop("bank", None))
+            period = event.pop("bank", None)
+            bank.named.add(period)
             bank.asked.append((site.number, key, event))
             if site.busy:
                 site.busy -= 1
                 return self.answer({"error": "too much waits"}, 503, Retry_After="1")
-            reply = site.known.get(key) or bank.reply(site, event, key)
+            if period not in (None, bank.name):
+                reply = {"refused": 26, "error": "this is of a period that is closed"}
+            else:
+                reply = site.known.get(key) or bank.reply(site, event, key)
             if key and "refused" not in reply and "error" not in reply:
                 site.known[key] = reply
             site.lost -= 1
