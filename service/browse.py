@@ -415,11 +415,12 @@ class Browse:
     def periods(self) -> None:
         """The books are closed: names begin anew, and what was asked before isn't made in the next period."""
         bank, page = self.open()
-        before = page.column(0)
         bank.sites[1].lost = 1_000_000
         page.press("1")
         page.click("#do")
         page.says("#asks", "by the same id")
+        page.says("#accounts", money(self.states[0]["balances"]["ann"] + 500))
+        before = page.column(0)
         for site in bank.sites:
             site.state["closing"] = True
             site.tell([])
