@@ -41,6 +41,7 @@ import cluster  # noqa: E402
 
 ACCOUNTS, BEGIN = 1_000, 1_000_000  # accounts, and cents of each
 BATCH = 64  # transactions of a larger commit
+MADE = 400_000  # lines that are made before a site is measured: making them costs more than reading answers
 CLIENTS, LINES = (1, 16, 256), (1, 64, 1_000)
 CONFIG = '{"accounts":[' + ",".join(f'["a{n}",{BEGIN}]' for n in range(ACCOUNTS)) + '],"sites":3,"version":1}\n'
 TABLES = ("CREATE TABLE accounts (id INTEGER PRIMARY KEY, balance BIGINT NOT NULL CHECK (balance >= 0))",
@@ -69,22 +70,23 @@ UPDATE accounts SET balance = balance + :amount{n} WHERE id = :a{n};
 """
 
 
+def moves() -> list[tuple[int, int]]:
+    """Accounts, and what is added to each or taken from it."""
+    pick = random.Random(7)
+    return [(pick.randrange(ACCOUNTS), pick.choice((-1, 1)) * pick.randrange(1, 101)) for _ in range(MADE)]
+
+
 class Site:
     """The program alone, with a window of lines that aren't answered yet."""
 
     def __init__(self, program: str, folder: str) -> None:
         self.program, self.folder = program, folder
-
-    def events(self) -> Iterator[bytes]:
-        pick = random.Random(7)
-        for number in itertools.count():
-            verb = pick.choice(("deposit", "withdraw"))
-            yield (f'{{"{verb}":["a{pick.randrange(ACCOUNTS)}",{1 + pick.randrange(100)}],'
-                   f'"id":"order-{number:07}"}}\n').encode()
+        self.lines = [f'{{"{"deposit" if cents > 0 else "withdraw"}":["a{account}",{abs(cents)}],'
+                      f'"id":"order-{number:07}"}}\n'.encode() for number, (account, cents) in enumerate(moves())]
 
     def measure(self, lines: int, seconds: float) -> float:
-        """From the first answer on: the program's start isn't measured."""
-        journal, events = os.path.join(self.folder, "site.journal"), self.events()
+        """From the first answer on: the program's start isn't measured. It ends with the lines that were made."""
+        journal, events = os.path.join(self.folder, "site.journal"), iter(self.lines)
         if os.path.exists(journal):
             os.remove(journal)
         words = [self.program, "site", "--me", "0", "--journal", journal, "--new"]
@@ -94,7 +96,7 @@ class Site:
             while not os.read(site.stdout.fileno(), 1 << 20).endswith(b"\n"):
                 pass
             ready, answered, begun = list(itertools.islice(events, lines)), 0, time.perf_counter()
-            while (taken := time.perf_counter() - begun) < seconds:
+            while (taken := time.perf_counter() - begun) < seconds and answered + lines < MADE:
                 site.stdin.write(b"".join(ready))
                 came = os.read(site.stdout.fileno(), 1 << 20).count(b"\n")
                 ready = list(itertools.islice(events, came))
@@ -105,8 +107,8 @@ class Site:
 
 class Sqlite:
     def __init__(self, folder: str) -> None:
-        self.path, self.numbers = os.path.join(folder, "ledger.db"), itertools.count()
-        self.base = sqlite3.connect(self.path, isolation_level=None)
+        self.numbers, self.moves = itertools.count(), itertools.cycle(moves())
+        self.base = sqlite3.connect(os.path.join(folder, "ledger.db"), isolation_level=None)
         self.base.execute("PRAGMA journal_mode=WAL")
         self.base.execute("PRAGMA synchronous=FULL")
         for table in TABLES:
@@ -114,10 +116,10 @@ class Sqlite:
         self.base.executemany("INSERT INTO accounts VALUES (?, ?)", [(n, BEGIN) for n in range(ACCOUNTS)])
 
     def measure(self, batch: int, seconds: float) -> float:
-        pick, done, begun = random.Random(7), 0, time.perf_counter()
+        done, begun = 0, time.perf_counter()
         while (taken := time.perf_counter() - begun) < seconds:
-            rows = [(f"order-{number:07}", pick.randrange(ACCOUNTS), pick.randrange(-100, 101))
-                    for number in itertools.islice(self.numbers, batch)]
+            rows = [(f"order-{number:07}", *move) for number, move in
+                    zip(itertools.islice(self.numbers, batch), self.moves)]
             self.base.execute("BEGIN IMMEDIATE")
             self.base.executemany("INSERT INTO operations VALUES (?, ?, ?)", rows)
             self.base.executemany("UPDATE accounts SET balance = balance + ? WHERE id = ?",
@@ -179,7 +181,7 @@ class Service:
     """Three nodes of the broker and three sites. The first one is asked, and has the token."""
 
     def __init__(self, program: str, folder: str) -> None:
-        self.folder, self.seed, self.latency = os.path.join(folder, "service"), 0, ""
+        self.folder, self.seed = os.path.join(folder, "service"), 0
         os.mkdir(self.folder)
         self.cluster = cluster.Cluster(os.path.join(self.folder, "broker"))
         accounts = [[f"a{n}", BEGIN] for n in range(ACCOUNTS)]
@@ -197,8 +199,8 @@ class Service:
         out = subprocess.run(["wrk", *given, url], capture_output=True, text=True).stdout
         if "Non-2xx" in out or "Socket errors" in out or "Requests/sec" not in out:
             raise SystemExit(f"wrk: {out}")
-        self.latency = "half in {}, 99 of 100 in {}".format(*(re.findall(rf"(?m)^\s+{part}%\s+(\S+)", out)[0]
-                                                            for part in (50, 99)))
+        half, most = (re.findall(rf"(?m)^\s+{part}%\s+(\S+)", out)[0] for part in (50, 99))
+        print(f"  half of the answers in {half}, 99 of 100 in {most}")
         return float(re.findall(r"Requests/sec:\s+([\d.]+)", out)[0])
 
     def measure(self, clients: int, seconds: float) -> float:
