@@ -1,5 +1,5 @@
 .PHONY: help demo try play play-test build install install-libs test toolchain check examples bench bindings refuse \
-	wrong-bodies crash disk wires broker service service-setup service-test service-mutants
+	wrong-bodies crash disk wires broker service service-setup service-test service-page service-mutants
 
 help:
 	@echo 'At once:'
@@ -40,6 +40,7 @@ help:
 	@echo '  make service-setup installs what it wants, by apt-get: RabbitMQ, aiohttp, aio-pika'
 	@echo '  make service       three nodes of the broker and three sites with HTTP on this machine'
 	@echo '  make service-test  its parts killed for SECONDS=60, SEEDS=1 times; SEED=7 makes the same choices again'
+	@echo '  make service-page  its console used in a browser, mutants of the page, and the files of service/deploy'
 	@echo '  make service-mutants'
 	@echo '                     changes of the service that its tests have to catch; an hour'
 
@@ -195,6 +196,14 @@ service-test:
 	@$(SERVICE_PYTHON) service/check.py $(SERVICE_PROGRAM) --broker
 	@$(SERVICE_PYTHON) service/chaos.py $(SERVICE_PROGRAM) --seconds $(SECONDS) --seeds $(SEEDS) \
 		$(if $(SEED),--seed $(SEED))
+
+# The console in a browser, over sites that answer from recorded states, and over real services.
+service-page:
+	@test -x $(SERVICE_PROGRAM) || { echo 'there is no program yet: make build'; exit 1; }
+	@$(SERVICE_PYTHON) service/browse.py
+	@$(SERVICE_PYTHON) service/browse.py --services $(SERVICE_PROGRAM)
+	@$(SERVICE_PYTHON) service/browse.py --mutants
+	@$(SERVICE_PYTHON) service/deploy/check_deploy.py
 
 service-mutants:
 	@test -x $(SERVICE_PROGRAM) || { echo 'there is no program yet: make build'; exit 1; }
