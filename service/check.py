@@ -306,6 +306,34 @@ class Http:
         return self.process.wait(PATIENCE)
 
 
+def refuses(service: Http) -> None:
+    """What is no event, and who may not ask."""
+    for bad in ("{", "[[", "7", '{"deposit":["ann",5],"id":[]}', '{"deposit":["ann"]}', '{"shadow":{}}',
+                '{"token":[1,0,0]}', '{"about":"site"}', '{"apply":"B0.1"}', '{"deposit":["ann",5],"site":0}',
+                '{"deposit":["ann",5],"id":"ü"}', "[" * 100_000):
+        same(f"bad: {bad[:40]}", (service.event(bad)[0], "error" in service.event(bad)[1]), (400, True))
+    same("a form", service.event("x=1", Content_Type="application/x-www-form-urlencoded")[0], 400)
+    same("another page", service.event({"pass": 1}, Origin="http://evil.example")[0], 403)
+    same("another name", service.ask("/state", Host="evil.example")[0], 403)
+
+
+def listens(service: Http) -> None:
+    """A state at first, and then what changed."""
+    with contextlib.closing(http.client.HTTPConnection("127.0.0.1", service.port, timeout=PATIENCE)) as live:
+        live.request("GET", "/live")
+        stream = live.getresponse()
+        first = json.loads(stream.readline().removeprefix(b"data: "))
+        same("a state at first", [one["name"] for one in first["operations"]], ["B0.1", "B0.2", "B0.3"])
+        for name, balance in (("B0.4", 7), ("B0.5", 14)):
+            service.event({"deposit": ["bob", 7]})
+            names: list[str] = []
+            while name not in names:
+                change = json.loads((stream.readline() + stream.readline()).strip().removeprefix(b"data: "))
+                names = [one["name"] for one in change["operations"]]
+            same("then what changed", (names[-1], change["balances"]["bob"]), (name, balance))
+        same("and nothing else", names, ["B0.5"])
+
+
 def asks(folder: str) -> None:
     """What clients are answered."""
     service = Http(folder)
@@ -326,28 +354,10 @@ def asks(folder: str) -> None:
     same("declined", service.event({"withdraw": ["bob", 1]}), (200, {"kind": "declined", "name": "B0.3"}))
     same("refused", service.event({"cancel": "B0.9"})[1]["error"], "unknown operation at this site")
     same("no path", service.ask("/zed"), (404, {"error": "Not Found"}))
-    for bad in ("{", "[[", "7", '{"deposit":["ann",5],"id":[]}', '{"deposit":["ann"]}', '{"shadow":{}}',
-                '{"token":[1,0,0]}', '{"about":"site"}', '{"apply":"B0.1"}', '{"deposit":["ann",5],"site":0}',
-                '{"deposit":["ann",5],"id":"ü"}', "[" * 100_000):
-        same(f"bad: {bad[:40]}", (service.event(bad)[0], "error" in service.event(bad)[1]), (400, True))
-    same("a form", service.event("x=1", Content_Type="application/x-www-form-urlencoded")[0], 400)
-    same("another page", service.event({"pass": 1}, Origin="http://evil.example")[0], 403)
-    same("another name", service.ask("/state", Host="evil.example")[0], 403)
+    refuses(service)
     same("the state", [service.ask("/state")[1][key] for key in ("bank", "balances", "unsent")],
          [NAME, {"ann": 1006, "bob": 0}, {"1": 3}])
-    with contextlib.closing(http.client.HTTPConnection("127.0.0.1", service.port, timeout=PATIENCE)) as live:
-        live.request("GET", "/live")
-        stream = live.getresponse()
-        first = json.loads(stream.readline().removeprefix(b"data: "))
-        same("a state at first", [one["name"] for one in first["operations"]], ["B0.1", "B0.2", "B0.3"])
-        for name, balance in (("B0.4", 7), ("B0.5", 14)):
-            service.event({"deposit": ["bob", 7]})
-            names: list[str] = []
-            while name not in names:
-                change = json.loads((stream.readline() + stream.readline()).strip().removeprefix(b"data: "))
-                names = [one["name"] for one in change["operations"]]
-            same("then what changed", (names[-1], change["balances"]["bob"]), (name, balance))
-        same("and nothing else", names, ["B0.5"])
+    listens(service)
     text = service.ask("/metrics")[1]
     for line in ('rbbank_events_total{event="deposit"} ', 'rbbank_refusals_total{number="4"} 1',
                  "rbbank_token_here{} 1", 'rbbank_unconfirmed_messages{to="1"} 5', "rbbank_child_restarts_total{} 0",
@@ -407,55 +417,50 @@ def tokens(folder: str) -> None:
 # ---- the broker
 
 
+class Pretended:
+    """A site that notes what it is asked, and answers once it may."""
+
+    def __init__(self) -> None:
+        self.view, self.told, self.starts, self.up = View(CONFIG, 1), 7, 1, asyncio.Event()
+        self.asked: list[str] = []
+
+    def ask(self, event: Json) -> Awaitable[Json]:
+        self.asked.append(event["shadow"]["name"])
+        return asyncio.ensure_future(self.answer())
+
+    async def answer(self) -> Json:
+        await self.up.wait()
+        return {"reply": {"held": "B0.1"}}
+
+
 async def queues(folder: str) -> None:
     """A queue gives what it has in order, to one at a time; and what it has confirmed is counted."""
-    import aio_pika
-    from wires import Wires
+    import wires as module
     broker = cluster.Cluster(folder, PATIENCE)
     try:
         broker.start(0)
         await asyncio.to_thread(broker.wait, 0)
 
-        class Pretended:
-            """A site that notes what it is asked, and answers once it may."""
-
-            def __init__(self) -> None:
-                self.view, self.told, self.starts, self.up = View(CONFIG, 1), 7, 1, asyncio.Event()
-                self.asked: list[str] = []
-
-            def ask(self, event: Json) -> Awaitable[Json]:
-                self.asked.append(event["shadow"]["name"])
-                return asyncio.ensure_future(self.answer())
-
-            async def answer(self) -> Json:
-                await self.up.wait()
-                return {"reply": {"held": "B0.1"}}
-
-        def wires(me: int) -> tuple[Wires, Any]:
-            made, pretended = Wires(me, 2, broker.urls()[:1], NAME, None, os.path.join(folder, f"{me}.c")), Pretended()
+        def wires(me: int) -> tuple[module.Wires, Any]:
+            made, pretended = module.Wires(me, 2, broker.urls()[:1], NAME, None, f"{folder}/{me}.c"), Pretended()
             made.site = pretended  # type: ignore[assignment]
             made.says, made.hears = (lambda: {}), (lambda said: None)
             return made, pretended
 
-        async def connected(one: Wires, task: asyncio.Task[Any]) -> None:
-            await until("connected", lambda: bool(one.url))
         sender, _ = wires(0)
         names = [f"B0.{n}" for n in range(1, 41)]
         for entry, name in enumerate(names):
             sender.send(entry, [{"shadow": {"name": name}}])
         same("confirmed before there is a broker", sender.confirmed(), 0)
-        first, slow = wires(1)
-        second, late = wires(1)
+        (first, slow), (second, late) = wires(1), wires(1)
         tasks = [asyncio.create_task(first.run())]
-        await connected(first, tasks[0])
-        await until("it consumes", lambda: True)
-        import wires as module
+        await until("connected", lambda: bool(first.url))
         module.MOST_LINES = 1  # a message of the broker for each
         tasks.append(asyncio.create_task(sender.run()))
         await until("the first is asked", lambda: bool(slow.asked))
         await until("all is confirmed", lambda: sender.confirmed() == 7 and not sender.unconfirmed())
         tasks.append(asyncio.create_task(second.run()))
-        await connected(second, tasks[2])
+        await until("connected", lambda: bool(second.url))
         await asyncio.sleep(1)
         same("a second consumer waits", late.asked, [])
         tasks[0].cancel()
