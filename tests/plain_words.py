@@ -80,7 +80,7 @@ PAGES = {
     "examples/broker/README.md": (260, 17),
     "examples/shop/README.md": (330, 18),
     "play/README.md": (700, 17),
-    "service/README.md": (700, 17),
+    "service/README.md": (744, 17),
     "service/deploy/README.md": (550, 17),
 }
 PATTERNS = ("*.md", "docs/*.md", "bench/**/*.md", "bindings/**/*.md", "examples/**/*.md", "play/**/*.md",
