@@ -64,7 +64,7 @@ PAGES = {
     "CHANGELOG.md": (None, 16),
     "CONTRIBUTING.md": (420, 15),
     "README.md": (900, 14),
-    "bench/README.md": (1855, 20),
+    "bench/README.md": (1800, 20),
     "bench/plain/README.md": (460, 17),
     "bindings/README.md": (739, 21),
     "crates/*/README.md": (480, 21),
