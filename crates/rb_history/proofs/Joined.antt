@@ -1,6 +1,6 @@
 -- Parts that are read one after another are the text that is written.
 use Rattle.std.proofs.Common.{◌≡◌, ℕ, List, ◌++◌, codes, sym, ap, ◌∙◌, append_assoc}
-use Rattle.rb_shadow.specs.Labels.{word_of}
+use Rattle.rb_history.specs.KindWords.{word_of}
 use Rattle.rb_shadow.specs.NameText.{IsName, name_text}
 use Rattle.rb_shadow.specs.declared.label.Label.{Label}
 use Rattle.rb_shadow.specs.declared.op_name.OpName.{OpName}
@@ -32,7 +32,6 @@ pub name_written : (x : OpName) (text rest : List ℕ) → IsName x → text ≡
 name_written x text rest h e = string_written (name_text x) text rest (escape_plain (name_text x) (plain_name x h)) e
 
 -- a kind's word
-pub label_written : (k : Label) (word text mid rest : List ℕ) → word ≡ word_of k → text ≡ word ++ mid → mid ≡ codes "\"" ++ rest
+pub label_written : (k : Label) (text mid rest : List ℕ) → text ≡ word_of k ++ mid → mid ≡ codes "\"" ++ rest
     → text ≡ behind_quote (word_of k) ++ rest
-label_written k word text mid rest is e f =
-    string_written (word_of k) text rest (label_plain k) (e ∙ ap (λ l. l ++ mid) is ∙ ap (λ l. word_of k ++ l) f)
+label_written k text mid rest is e = string_written (word_of k) text rest (label_plain k) (is ∙ ap (λ l. word_of k ++ l) e)

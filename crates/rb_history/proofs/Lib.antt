@@ -1,5 +1,6 @@
 pub mod Public
 mod Shapes
+mod KindWords
 mod Utf8
 mod Reading
 mod Plain

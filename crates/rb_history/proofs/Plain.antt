@@ -14,7 +14,7 @@ use Rattle.rb_money.specs.Settings.{is_account_name, is_name_byte}
 use Rattle.rb_shadow.specs.NameText.{name_text, IsName}
 use Rattle.rb_shadow.specs.declared.op_name.OpName.{OpName}
 use Rattle.rb_shadow.specs.declared.op_name.OpName.TheVariants.{Blue, Red}
-use Rattle.rb_shadow.specs.Labels.{word_of}
+use Rattle.rb_history.specs.KindWords.{word_of}
 use Rattle.rb_shadow.specs.declared.label.Label.{Label}
 use Rattle.rb_shadow.specs.declared.label.Label.TheVariants.{Deposit}
 use Rattle.rb_shadow.proofs.Public.Digits.{in_digits}

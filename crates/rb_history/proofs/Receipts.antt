@@ -7,7 +7,8 @@ use Rattle.serde_json.specs.Written.{compact_text, members_text}
 use Rattle.rb_money.specs.Settings.{Settings}
 use Rattle.rb_money.specs.declared.place.Place.{Place}
 use Rattle.rb_shadow.specs.NameText.{name_text}
-use Rattle.rb_shadow.specs.Labels.{label_of, word_of}
+use Rattle.rb_shadow.specs.Labels.{label_of}
+use Rattle.rb_history.specs.KindWords.{word_of}
 use Rattle.rb_shadow.specs.declared.shadow.Shadow.{Shadow}
 use Rattle.rb_site.specs.declared.event.Event.TheVariants.{Receive}
 use Rattle.rb_site.specs.declared.message.Message.TheVariants.{Shadow as ShadowMessage}

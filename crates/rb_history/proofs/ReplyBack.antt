@@ -17,7 +17,7 @@ use Rattle.rb_history.specs.Fits.{Each, IsMoved, IsRefusal, IsReply, IsStatement
 use Rattle.rb_history.specs.Replies.{refusal_json, reply_json}
 use Rattle.rb_history.specs.RepliesRead.{moved_parsed, names_in, reply_parsed, row_at, rows_in}
 use Rattle.rb_history.specs.Statements.{row_json}
-use Rattle.rb_shadow.specs.Labels.{label_of_word, word_of}
+use Rattle.rb_history.specs.KindWords.{label_of_word, word_of}
 use Rattle.rb_history.specs.Values.{integer_json, name_json}
 use Rattle.rb_money.proofs.Public.Tests.{is_below as below}
 use Rattle.rb_history.proofs.Reading.{back}

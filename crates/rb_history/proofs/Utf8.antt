@@ -24,7 +24,7 @@ use Rattle.rb_site.specs.declared.reply.Reply.TheVariants.{Refused}
 use Rattle.rb_statements.specs.declared.row.Row.{Row}
 use Rattle.rb_history.specs.Replies.{line, reply_json, refusal_json}
 use Rattle.rb_history.specs.Statements.{row_json}
-use Rattle.rb_shadow.specs.Labels.{word_of}
+use Rattle.rb_history.specs.KindWords.{word_of}
 use Rattle.rb_history.specs.Values.{name_json}
 
 either_ascii : (b : Bool) (xs ys : List ℕ) → are_ascii xs ≡ true → are_ascii ys ≡ true → are_ascii (cond b xs ys) ≡ true

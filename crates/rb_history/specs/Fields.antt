@@ -3,7 +3,7 @@ use Rattle.std.specs.Prelude.{ℕ, List, Option, Some, None, option_and_then}
 use Rattle.serde_json.specs.Data.{Data, Items, no_items, item}
 use Rattle.serde_json.specs.Find.{as_array, as_str, get}
 use Rattle.rb_shadow.specs.declared.label.Label.{Label}
-use Rattle.rb_shadow.specs.Labels.{label_of_word}
+use Rattle.rb_history.specs.KindWords.{label_of_word}
 
 -- the kind that a value is
 abbrev pub label_at : Data → Option Label

@@ -1,3 +1,4 @@
+pub mod KindWords
 pub mod Values
 pub mod Statements
 pub mod Placed

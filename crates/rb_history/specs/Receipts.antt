@@ -4,7 +4,8 @@ use Rattle.serde_json.specs.Written.{members_text}
 use Rattle.rb_money.specs.Settings.{Settings}
 use Rattle.rb_money.specs.declared.place.Place.{Place}
 use Rattle.rb_shadow.specs.NameText.{IsName, name_text}
-use Rattle.rb_shadow.specs.Labels.{label_of, word_of}
+use Rattle.rb_shadow.specs.Labels.{label_of}
+use Rattle.rb_history.specs.KindWords.{word_of}
 use Rattle.rb_history.specs.declared.fast.shadow.Back.{Back}
 use Rattle.rb_history.specs.Beginnings.{account_behind_quote, behind_quote}
 use Rattle.rb_history.specs.Entries.{last_members}

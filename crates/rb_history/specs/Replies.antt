@@ -13,7 +13,7 @@ use Rattle.rb_site.specs.declared.reply.Reply.{Reply}
 use Rattle.rb_site.specs.declared.reply.Reply.TheVariants.{Made, Names, Held, Already, Taken, Stale, Applied, Passed, Balance, Statement}
 use Rattle.rb_site.specs.declared.reply.Reply.TheVariants.{Refused}
 use Rattle.rb_history.specs.Statements.{statement_json}
-use Rattle.rb_shadow.specs.Labels.{word_of}
+use Rattle.rb_history.specs.KindWords.{word_of}
 use Rattle.rb_history.specs.Values.{number_json, name_json, list_json, one_json}
 
 -- an operation was made: its kind and its name

@@ -3,7 +3,7 @@ use Rattle.std.specs.Prelude.{codes}
 use Rattle.serde_json.specs.Data.{Data, boolean, string, array, object, no_items, item, member, no_members}
 use Rattle.rb_statements.specs.declared.account.Statement.{Statement}
 use Rattle.rb_statements.specs.declared.row.Row.{Row}
-use Rattle.rb_shadow.specs.Labels.{word_of}
+use Rattle.rb_history.specs.KindWords.{word_of}
 use Rattle.rb_history.specs.Values.{number_json, integer_json, name_json, list_json}
 
 -- a row: its position, name and kind, what it moved, whether it is cancelled, and the balance after it

@@ -1,6 +1,5 @@
 //! The words of the formats, each once: the keys of objects, and the words that are values. The crates above write
-//! theirs by [`spell!`](crate::spell) too. rb_shadow has the words of kinds once more, as `Label::word`, since it
-//! is below this crate.
+//! theirs by [`spell!`](crate::spell) too.
 //!
 //! They are macros, and not constants, so that each call is one literal: a text of a known length is compared, or
 //! added, by a few steps, and a word apart from its quotes would cost a second comparison.

@@ -16,6 +16,7 @@ mod fast;
 mod fault;
 mod id;
 mod keys;
+mod labels;
 mod lines;
 mod on_line;
 mod question;

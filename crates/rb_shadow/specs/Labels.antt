@@ -1,6 +1,4 @@
--- Kinds as replies show them, and their words.
-use Rattle.std.specs.Prelude.{ℕ, List, [], ◌∷◌, codes, find, Option}
-use Rattle.std.specs.Str.{bytes_eq}
+-- Kinds as replies show them.
 use Rattle.rb_shadow.specs.declared.kind.Kind.{Kind}
 use Rattle.rb_shadow.specs.declared.kind.Kind.TheVariants.{Deposit, Withdraw, Declined, Interest, Cancel, Transfer}
 use Rattle.rb_shadow.specs.declared.label.Label.{Label}
@@ -15,17 +13,3 @@ label_of Declined = DeclinedLabel
 label_of Interest = InterestLabel
 label_of (Cancel x) = CancelLabel
 label_of (Transfer to) = TransferLabel
-
--- a kind's word in lines
-abbrev pub word_of : Label → List ℕ
-word_of DepositLabel = codes "deposit"
-word_of WithdrawLabel = codes "withdraw"
-word_of DeclinedLabel = codes "declined"
-word_of InterestLabel = codes "interest"
-word_of CancelLabel = codes "cancel"
-word_of TransferLabel = codes "transfer"
-
--- the kind whose word that is
-abbrev pub label_of_word : List ℕ → Option Label
-label_of_word word = find (λ l. bytes_eq word (word_of l)) (DepositLabel ∷ WithdrawLabel ∷ DeclinedLabel ∷ InterestLabel ∷ CancelLabel
-    ∷ TransferLabel ∷ [])

@@ -3,7 +3,8 @@ ghost use Rattle.std.specs.Prelude.{◌≡◌, ◌<◌, ◌++◌, IfSome, true};
 ghost use Rattle.rb_history.specs.Fits.{IsKind};
 ghost use Rattle.rb_history.specs.Beginnings.{behind_quote};
 ghost use Rattle.serde_json.specs.Written.{members_text};
-ghost use Rattle.rb_shadow.specs.Labels.{label_of, word_of};
+ghost use Rattle.rb_shadow.specs.Labels.{label_of};
+ghost use Rattle.rb_history.specs.KindWords.{word_of};
 ghost use Rattle.rb_shadow.specs.declared.label.Label.TheVariants.{Cancel, Transfer};
 ghost use Rattle.rb_history.specs.Entries.{last_members};
 
@@ -11,6 +12,7 @@ use crate::fast::account::parse_account_between;
 use crate::fast::name::parse_name_between;
 use crate::fast::scan::parse_prefix;
 use crate::keys::spell;
+use crate::labels::strip_word;
 use rb_money::Config;
 use rb_shadow::{Kind, Label};
 
@@ -19,15 +21,7 @@ use rb_shadow::{Kind, Label};
 pub fn parse_label(text: &str) -> Option<(Label, &str)>
     ensures { IfSome result (λ p. text.now ≡ behind_quote (word_of p.0) ++ p.1.now) }
 {
-    let label = match (text.as_bytes().first(), text.as_bytes().get(2)) {
-        (Some(b'd'), Some(b'p')) => Label::Deposit,
-        (Some(b'd'), _) => Label::Declined,
-        (Some(b'w'), _) => Label::Withdraw,
-        (Some(b'i'), _) => Label::Interest,
-        (Some(b't'), _) => Label::Transfer,
-        _ => Label::Cancel,
-    };
-    let rest = parse_prefix(text, label.word())?;
+    let (label, rest) = strip_word(text)?;
     Some((label, parse_prefix(rest, "\"")?))
 }
 

@@ -8,6 +8,7 @@ ghost use Rattle.rb_history.specs.Lines.{GivesAs};
 ghost use Rattle.rb_history.specs.Values.{number_below, name_at, pair_of, size_of, three_of};
 
 use crate::fault::LineFault;
+use crate::labels::label_of_word;
 use rb_shadow::{Label, OpName, read_name};
 use serde_json::Value;
 use std::alloc::Global;
@@ -67,7 +68,7 @@ pub fn label(value: &Value) -> Option<Label>
     ensures { result ≡ label_at (view value.now) }
 {
     let word = value.as_str()?;
-    Label::from_word(word)
+    label_of_word(word)
 }
 
 /// The two items of a list of two.

@@ -6,10 +6,11 @@ ghost use Rattle.std.specs.Prelude.{◌≡◌, ◌≤◌, ◌<◌, ◌+◌, ◌^
 ghost use Rattle.std.specs.Fmt.{signed_decimal};
 ghost use Rattle.json.specs.Print.{quoted};
 ghost use Rattle.rb_history.specs.Placed.{Placed};
-ghost use Rattle.rb_shadow.specs.Labels.{word_of};
+ghost use Rattle.rb_history.specs.KindWords.{word_of};
 ghost use Rattle.rb_shadow.specs.NameText.{name_text};
 ghost use Rattle.rb_shadow.specs.declared.op_name.OpName.TheVariants.{Blue, Red};
 
+use crate::keys::key;
 use itoa::write_digits;
 use rb_shadow::{Label, OpName};
 
@@ -216,11 +217,11 @@ pub fn put_word(space: &mut [u8], at: usize, kind: Label) -> usize
     ensures short { result ≤ at + 8 }
 {
     match kind {
-        Label::Deposit => put_text(space, at, Label::Deposit.word()),
-        Label::Withdraw => put_text(space, at, Label::Withdraw.word()),
-        Label::Declined => put_text(space, at, Label::Declined.word()),
-        Label::Interest => put_text(space, at, Label::Interest.word()),
-        Label::Cancel => put_text(space, at, Label::Cancel.word()),
-        Label::Transfer => put_text(space, at, Label::Transfer.word()),
+        Label::Deposit => put_text(space, at, key!(deposit)),
+        Label::Withdraw => put_text(space, at, key!(withdraw)),
+        Label::Declined => put_text(space, at, key!(declined)),
+        Label::Interest => put_text(space, at, key!(interest)),
+        Label::Cancel => put_text(space, at, key!(cancel)),
+        Label::Transfer => put_text(space, at, key!(transfer)),
     }
 }

@@ -1,12 +1,14 @@
 //! Shadows of a history's line, added at the end of bytes.
 ghost use Rattle.std.specs.Prelude.{◌++◌, codes, decimal, true};
 ghost use Rattle.serde_json.specs.Written.{compact_text, members_text};
-ghost use Rattle.rb_shadow.specs.Labels.{label_of, word_of};
+ghost use Rattle.rb_shadow.specs.Labels.{label_of};
+ghost use Rattle.rb_history.specs.KindWords.{word_of};
 ghost use Rattle.rb_history.specs.Adds.{Adds};
 ghost use Rattle.rb_history.specs.Entries.{account_json, deps_json, last_members, shadow_json};
 ghost use Rattle.rb_history.specs.Values.{name_json, one_json};
 
 use crate::keys::spell;
+use crate::labels::word_of;
 use crate::write::account::append_account;
 use crate::write::append::{append, append_named, append_number};
 use crate::write::counts::append_counts;
@@ -60,7 +62,7 @@ fn append_back(out: &mut Vec<u8>, config: &Config, shadow: Shadow) -> Result<(),
         shadow.home as u64,
         spell!("," kind ":\""),
     )?;
-    append(out, shadow.kind.label().word())?;
+    append(out, word_of(shadow.kind.label()))?;
     append_named(out, spell!("\"," name ":"), shadow.name, "")?;
     append_last(out, config, shadow.kind)
 }

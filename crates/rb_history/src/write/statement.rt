@@ -13,7 +13,7 @@ ghost use Rattle.rb_history.specs.Adds.{Adds};
 ghost use Rattle.rb_history.specs.Placed.{Placed};
 ghost use Rattle.rb_history.specs.Statements.{row_json, statement_json};
 ghost use Rattle.rb_history.specs.declared.write.statement.TheConstants.{EMPTY, ROW};
-ghost use Rattle.rb_shadow.specs.Labels.{word_of};
+ghost use Rattle.rb_history.specs.KindWords.{word_of};
 
 use crate::keys::spell;
 use crate::write::append::{append_number, make_space};

@@ -1,6 +1,6 @@
 use Rattle.std.proofs.Common.{◌++◌, codes}
 use Rattle.rb_shadow.specs.NameText.{name_text}
-use Rattle.rb_shadow.specs.Labels.{word_of}
+use Rattle.rb_history.specs.KindWords.{word_of}
 use Rattle.rb_history.specs.Beginnings.{behind_quote}
 use Rattle.rb_history.proofs.Joined.{between}
 use Rattle.json.specs.Print.{escape_byte}

@@ -2,7 +2,7 @@ use Rattle.std.proofs.Common.{◌≡◌, ◌++◌, List, ℕ, true, codes, decim
 use Rattle.json.specs.Print.{escape_byte}
 use Rattle.serde_json.specs.Written.{members_text}
 use Rattle.rb_shadow.specs.NameText.{name_text}
-use Rattle.rb_shadow.specs.Labels.{word_of}
+use Rattle.rb_history.specs.KindWords.{word_of}
 use Rattle.rb_history.specs.Entries.{last_members}
 use Rattle.rb_history.specs.Beginnings.{behind_quote}
 use Rattle.rb_history.proofs.Joined.{name_written}

@@ -3,7 +3,7 @@ use Rattle.std.specs.Fmt.{signed_decimal}
 use Rattle.json.specs.Print.{token_text}
 use Rattle.json.specs.Token.{boolean}
 use Rattle.rb_shadow.specs.NameText.{name_text}
-use Rattle.rb_shadow.specs.Labels.{word_of}
+use Rattle.rb_history.specs.KindWords.{word_of}
 use Rattle.rb_history.proofs.Numerals.{integer_text}
 use Rattle.rb_history.specs.Beginnings.{behind_quote}
 use Rattle.rb_history.proofs.Joined.{name_written}

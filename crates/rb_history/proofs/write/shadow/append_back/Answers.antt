@@ -1,6 +1,7 @@
 use Rattle.std.proofs.Common.{◌≡◌, ◌++◌, List, ℕ, [], codes, decimal, ap, ◌∙◌, append_assoc, append-nil, true}
 use Rattle.serde_json.specs.Written.{compact_text, members_text}
-use Rattle.rb_shadow.specs.Labels.{label_of, word_of}
+use Rattle.rb_shadow.specs.Labels.{label_of}
+use Rattle.rb_history.specs.KindWords.{word_of}
 use Rattle.rb_history.specs.Entries.{last_members}
 use Rattle.rb_history.specs.Values.{name_json}
 use Rattle.rb_history.proofs.Public.Appended.{both, failed, then}
@@ -19,7 +20,7 @@ returns-in_err-append c = failed c.from_residual-in_err-append.result c.args.out
 
 pub returns-in_err-append_named : goal.returns-in_err-append_named
 returns-in_err-append_named c =
-    let word = rw c.word.ensures at c.in_ok-append.ensures in
+    let word = rw c.word_of.ensures at c.in_ok-append.ensures in
     let two = both c.args.out.now.items c.append_number.new.out.items c.append.new.out.items _ _ c.in_ok-append_number.ensures word in
     failed c.from_residual-in_err-append_named.result c.args.out.now.items c.append.new.out.items c.append_named.new.out.items _ _
     c.from_residual-in_err-append_named.ensures.0 two c.in_err-append_named.ensures
@@ -33,7 +34,7 @@ returns c =
     let last = members_text true (last_members c.args.config.now made.kind) in
     let first = codes ",\"home\":" ++ (decimal made.home ++ codes ",\"kind\":\"") in
     let third = codes "\",\"name\":" ++ (name ++ []) in
-    let word = rw (c.word.ensures, c.label.ensures) at c.in_ok-append.ensures in
+    let word = rw (c.word_of.ensures, c.label.ensures) at c.in_ok-append.ensures in
     let two = both old c.append_number.new.out.items c.append.new.out.items first kind c.in_ok-append_number.ensures word in
     let three = both old c.append.new.out.items c.append_named.new.out.items (first ++ kind) third two c.in_ok-append_named.ensures in
     then c.append_last.result old c.append_named.new.out.items c.append_last.new.out.items

@@ -1,7 +1,8 @@
 use Rattle.std.proofs.Common.{◌≡◌, ◌++◌, List, ℕ, true, codes, decimal, append_assoc, ap, sym, ◌∙◌}
 use Rattle.json.specs.Print.{escape_byte}
 use Rattle.serde_json.specs.Written.{compact_text, members_text}
-use Rattle.rb_shadow.specs.Labels.{label_of, word_of}
+use Rattle.rb_shadow.specs.Labels.{label_of}
+use Rattle.rb_history.specs.KindWords.{word_of}
 use Rattle.rb_history.specs.Entries.{account_json, deps_json, last_members}
 use Rattle.rb_history.specs.Values.{name_json}
 use Rattle.rb_history.proofs.Public.Appended.{both, failed, then}

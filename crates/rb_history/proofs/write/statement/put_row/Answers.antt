@@ -3,7 +3,7 @@ use Rattle.std.specs.Fmt.{signed_decimal}
 use Rattle.json.specs.Print.{token_text, quoted}
 use Rattle.json.specs.Token.{boolean}
 use Rattle.rb_shadow.specs.NameText.{name_text}
-use Rattle.rb_shadow.specs.Labels.{word_of}
+use Rattle.rb_history.specs.KindWords.{word_of}
 use Rattle.rb_history.proofs.Numerals.{integer_text}
 use Rattle.rb_history.proofs.Plain.{quoted_label}
 use Rattle.rb_history.proofs.Put.{placed_is, placed_then}

@@ -1,9 +1,9 @@
 use Rattle.std.proofs.Common.{◌≡◌, ◌∙◌, sym, []}
 use Rattle.std.proofs.lemmas.List.{append-nil}
-use Rattle.rb_shadow.specs.Labels.{word_of}
+use Rattle.rb_history.specs.KindWords.{word_of}
 use Rattle.rb_shadow.specs.declared.label.Label.{Label}
-use Rattle.rb_shadow.proofs.label.Label.from_word.Goals as goal
-use Rattle.rb_shadow.proofs.Words.{no_word}
+use Rattle.rb_history.proofs.labels.label_of_word.Goals as goal
+use Rattle.rb_history.proofs.KindWords.{no_word}
 
 -- the text is no kind's word, since it begins with none
 unknown : (c : goal.After-from_residual) (label : Label) → c.args.word.now ≡ word_of label → ⊥
