@@ -32,7 +32,8 @@ help:
 	@echo '  make crash         sites ended at random moments, over and over, and started again; books closed between, and'
 	@echo '                     a disk lost in the end; some minutes'
 	@echo '  make disk          each call of a site on its file, its input and its output at fault in turn; wants cc'
-	@echo '  make wires         sites over pipes, 20,000 deposits each at once, one of them stopped for a while'
+	@echo '  make wires         sites over pipes, 20,000 deposits each at once, one of them stopped for a while; and'
+	@echo '                     mutants of wire.py'
 	@echo '  make broker        three sites over the message broker mosquitto, if it is installed'
 	@echo '  make play-test     the page of make play, used in a browser, and its mutants; wants chromium (play/README.md)'
 	@echo
@@ -170,9 +171,10 @@ crash: build
 disk: build
 	@tests/disk.py crates/rbbank/out/rbbank
 
-# Two and three sites over pipes and examples/tools/wire.py.
+# Two and three sites over pipes and examples/tools/wire.py, and mutants of it.
 wires: build
 	@tests/wires.py crates/rbbank/out/rbbank
+	@tests/wire_mutants.py crates/rbbank/out/rbbank
 
 # Three sites over mosquitto.
 broker: build

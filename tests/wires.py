@@ -2,19 +2,23 @@
 """Runs sites over pipes with examples/tools/wire.py, gives all of them deposits at once, stops one for a while, and
 starts each again with all that it sends: nothing freezes, and in the end all have the same balance.
 
-usage: wires.py [--quiet] [--deposits N] [--stop SECONDS] [--wire PATH] PROGRAM
+usage: wires.py [--quiet] [--deposits N] [--stop SECONDS] [--wire PATH] [--alone] [--patience SECONDS] PROGRAM
 
 Two sites, and then three, have N deposits each, 20,000 if it isn't given, which come all at once. The last site is
 stopped by SIGSTOP for a time, 2 seconds if it isn't given, and the others have to answer all of their deposits
-meanwhile. A site that held as many operations as it may refuses more (16), so that some messages are lost; when their
-sender starts again it sends them all again. At the end an audit orders the journals.
+meanwhile. More messages than may wait for it are dropped, and have to come again without a restart: at two sites all
+are applied then. At three, a site that held as many operations as it may refuses more (16), so that some are lost; when
+their sender starts again it sends them all again. At the end an audit orders the journals.
 
-Before that, wire.py alone: a command that ends over and over, of its own accord or by SIGKILL, and a reader of the
-replies and a command that take nothing for a while. --wire names another wire.py to be tried.
+Before that, wire.py alone: a command that ends over and over, of its own accord or by SIGKILL; a reader of the replies
+and a command that take nothing for a while; messages that are dropped, and asked for again; whose each reply is.
+--wire names another wire.py to be tried, and --patience the seconds after which something counts as frozen, 60.
+tests/wire_mutants.py tries wrong ones.
 """
 import argparse
 import json
 import os
+import re
 import signal
 import subprocess
 import sys
@@ -26,10 +30,13 @@ from site_process import compact, words_of_start
 
 ROOT = os.path.dirname(os.path.dirname(os.path.abspath(__file__)))
 WIRE = os.path.join(ROOT, "examples", "tools", "wire.py")
-PATIENCE = 60  # seconds without anything new, after which all of it counts as frozen
+PATIENCE = [60.0]  # seconds without anything new, after which all of it counts as frozen
+MAY_WAIT = 10  # the part of a site's deposits that may wait for another one as messages
 PIPE_BUF = 4096  # bytes that a pipe takes whole, whoever else writes into it
 DEPOSIT = b'{"deposit":["ann",1]}\n'
 BALANCE = b'{"balance":"ann"}\n'
+WHOSE = {"kind": "client", "balance": "client", "held": "peer", "already": "peer", "refused 16": "peer",
+         "applied": "then"}
 
 
 class Failed(Exception):
@@ -46,13 +53,13 @@ class Clock:
         """Fails if what is seen has been the same for too long."""
         if seen != self.seen:
             self.seen, self.since = seen, time.monotonic()
-        if time.monotonic() - self.since > PATIENCE:
+        if time.monotonic() - self.since > PATIENCE[0]:
             raise Failed(f"frozen: {what}: {seen}")
         time.sleep(0.02)
 
 
 class Replies:
-    """The file of a site's replies, and how many there are of each kind."""
+    """The file of a site's replies, each with whose it is, and how many there are of each kind."""
 
     def __init__(self, path):
         self.path, self.at, self.count, self.balance = path, 0, {}, None
@@ -67,8 +74,10 @@ class Replies:
         data = data[:data.rfind(b"\n") + 1]
         self.at += len(data)
         for line in data.splitlines():
-            reply = json.loads(line)
+            [(whose, reply)] = json.loads(line).items()
             kind = f"refused {reply['refused']}" if "refused" in reply else next(iter(reply))
+            if WHOSE.get(kind) != whose:
+                raise Failed(f"a reply is said to be of a {whose}: {reply}")
             self.count[kind] = self.count.get(kind, 0) + 1
             self.balance = reply.get("balance", self.balance)
         return self.count
@@ -87,17 +96,19 @@ class Site:
         self.pipe = os.open(self.path, os.O_RDWR)
         self.journal = os.path.join(bank.folder, f"{number}.journal")
         self.replies = Replies(os.path.join(bank.folder, f"{number}.replies"))
+        self.said = os.path.join(bank.folder, f"{number}.said")  # by its wire
         self.parts = []
 
     def start(self):
         to = f"grep --line-buffered '' > {self.bank.folder}/to{{}}"
-        wire = [sys.executable, self.bank.wire, "--me", str(self.number), "--sites", str(self.bank.sites), "--to", to]
+        wire = [sys.executable, self.bank.wire, "--me", str(self.number), "--sites", str(self.bank.sites), "--to", to,
+                "--apart", "--resend", "1", "--most", str(max(1, self.bank.deposits // MAY_WAIT))]
         bring = ["sh", "-c", 'echo "$0"; exec cat "$1"', self.bank.config, self.path]
         brings = subprocess.Popen(bring, stdout=subprocess.PIPE)
         runs = subprocess.Popen(words_of_start(self.bank.program, self.number, self.journal), stdin=brings.stdout,
                                 stdout=subprocess.PIPE)
-        with open(self.replies.path, "ab") as replies:
-            carries = subprocess.Popen(wire, stdin=runs.stdout, stdout=replies)
+        with open(self.replies.path, "ab") as replies, open(self.said, "ab") as said:
+            carries = subprocess.Popen(wire, stdin=runs.stdout, stdout=replies, stderr=said)
         brings.stdout.close()
         runs.stdout.close()
         self.parts = [brings, runs, carries]
@@ -110,6 +121,11 @@ class Site:
             os.write(self.pipe, line * number)
             count -= number
 
+    def dropped(self, number):
+        """How many messages for this site were said to be dropped."""
+        with open(self.said, encoding="utf-8") as file:
+            return sum(map(int, re.findall(rf"^wire: site {number}: (\d+) messages dropped", file.read(), re.M)))
+
     def signal(self, number):
         self.parts[1].send_signal(number)
 
@@ -120,7 +136,7 @@ class Site:
             runs.kill()
         brings.kill()
         brings.wait()
-        status, clock = runs.wait(PATIENCE), Clock()
+        status, clock = runs.wait(PATIENCE[0]), Clock()
         while carries.poll() is None:
             clock.look(None, f"site {self.number} has ended, and its wire hasn't")
         if status not in (0, -by) or carries.returncode != 0:
@@ -172,13 +188,14 @@ class Bank:
         return before
 
     def settled(self):
-        """Whether every site has applied each operation of the others that it didn't refuse."""
+        """Whether every site has held each operation of the others that it didn't refuse. Two sites refuse none, since
+        an operation rests on those alone that came before it."""
         for site in self.all:
             count = site.replies.read()
             messages = (self.sites - 1) * self.deposits
             if count.get("held", 0) + count.get("refused 16", 0) < messages:
                 return False
-        return True
+        return self.sites > 2 or all(site.replies.of("applied") == self.deposits for site in self.all)
 
     def again(self):
         """Starts each site again with all that it sends, until all sites have all. How many rounds that took."""
@@ -223,6 +240,9 @@ def run_bank(asked, sites):
         try:
             before = bank.deposit()
             bank.wait(bank.settled, "the messages arrive")
+            dropped = [site.dropped(sites - 1) for site in bank.all[:-1]]
+            if not all(dropped):
+                raise Failed(f"of the messages for the site that was stopped, dropped: {dropped}")
             refused = sum(site.replies.of("refused 16") for site in bank.all)
             rounds = bank.again()
             entries = bank.compare()
@@ -231,6 +251,7 @@ def run_bank(asked, sites):
                 site.stop()
     return (f"{sites} sites: {sites * asked.deposits:,} deposits at once; site {sites - 1} was stopped for "
             f"{asked.stop:g} s or more after {before:,} of its own, and the others went on.\n"
+            f"  {sum(dropped):,} messages for it were dropped, and came again.\n"
             f"  {refused:,} messages were refused by a full inbox. Restarts of each, with all sends: {rounds}.\n"
             f"  The same balance everywhere; an audit orders {entries:,} entries; {time.monotonic() - begun:.1f} s")
 
@@ -260,7 +281,7 @@ class Alone:
         """Gives it all. What was delivered, and whether the replies are there and the status is 0."""
         run = self.start(command, *more)
         try:
-            replies, _ = run.communicate(self.text, timeout=PATIENCE)
+            replies, _ = run.communicate(self.text, timeout=PATIENCE[0])
         except subprocess.TimeoutExpired:
             run.kill()
             raise Failed(f"frozen: {command}") from None
@@ -288,7 +309,7 @@ def slow_readers(asked, folder):
     giver = threading.Thread(target=lambda: (run.stdin.write(alone.text), run.stdin.close()), daemon=True)
     giver.start()
     try:
-        giver.join(10)
+        giver.join(PATIENCE[0])
         given = not giver.is_alive()
         with open(os.path.join(folder, "go"), "wb"):
             pass
@@ -296,13 +317,117 @@ def slow_readers(asked, folder):
         while given and len(alone.delivered()) < len(alone.messages):
             clock.look(len(alone.delivered()), "a command that is slow")
         return given and alone.delivered() == alone.messages and (
-            run.stdout.read().splitlines(keepends=True) == alone.replies) and run.wait(PATIENCE) == 0
+            run.stdout.read().splitlines(keepends=True) == alone.replies) and run.wait(PATIENCE[0]) == 0
     finally:
         run.kill()
         run.wait()
 
 
-ALONE = [ended_command, killed_command, slow_readers]
+class Pretended:
+    """A site with two others, whose wire may have 200 messages wait for each. Site 1 takes nothing unless the file `go`
+    is there. A question gets into the file `asked`, and is answered by what a site sends again."""
+
+    def __init__(self, asked, folder):
+        self.folder, self.alone = folder, Alone(asked, folder, 6_000)
+        command = (f"case {{}} in 0) exec cat >> {folder}/asked;; 2) exec cat > OUT.2;; esac; while read -r line; "
+                   f"do while [ -d {folder} ] && [ ! -e {folder}/go ]; do sleep 0.1; done; echo \"$line\"; done > OUT")
+        self.run = self.alone.start(command, "--sites", "3", "--most", "200", "--resend", "0.3")
+        self.lines, self.answered = self.alone.text.splitlines(keepends=True), 0
+
+    def give(self, first, last):
+        """Gives some of the site's answers, by 100, and waits each time for their replies, and for site 2 to have their
+        messages. Whether the replies are as they have to be."""
+        came = []
+        for begin in range(first, last, 100):
+            self.write(b"".join(self.lines[begin:begin + 100]))
+            came += [self.run.stdout.readline() for _ in range(100)]
+            while len(self.delivered("out.2")) < begin + 100 and self.run.poll() is None:
+                time.sleep(0.002)
+        return came == self.alone.replies[first:last]
+
+    def write(self, data):
+        self.run.stdin.write(data)
+        self.run.stdin.flush()
+
+    def questions(self):
+        """The numbers of the questions so far."""
+        path = os.path.join(self.folder, "asked")
+        if not os.path.exists(path):
+            return []
+        with open(path, "rb") as file:
+            return [json.loads(line)["resend"] for line in file]
+
+    def go(self, is_going=True):
+        """Has site 1 take messages, or no more."""
+        path = os.path.join(self.folder, "go")
+        if is_going:
+            with open(path, "wb"):
+                pass
+        else:
+            os.remove(path)
+
+    def answer(self):
+        """Answers the questions that are new."""
+        for number in self.questions()[self.answered:]:
+            self.answered += 1
+            again = self.alone.messages[-min(number, len(self.alone.messages)):]
+            self.write(b"".join(b'{"sends":[%s]}\n' % it[:-1] for it in again)
+                       + b'{"reply":{"resent":%d},"sends":[],"then":[]}\n' % len(again))
+
+    def delivered(self, name):
+        path = os.path.join(self.folder, name)
+        if not os.path.exists(path):
+            return []
+        with open(path, "rb") as file:
+            return file.read().splitlines(keepends=True)
+
+
+def dropped_messages(asked, folder):
+    """Messages that don't fit are dropped, and nothing is asked while none is taken; once they are, all come again, some
+    in another turn, in order, to this site alone, and the replies are those of clients alone."""
+    site = Pretended(asked, folder)
+    guard = threading.Timer(PATIENCE[0], site.run.kill)
+    guard.start()
+    try:
+        fine = site.give(0, 5_900)
+        time.sleep(1.5)
+        fine = fine and not site.questions()
+        site.go()
+        while not site.questions() and site.run.poll() is None:
+            time.sleep(0.02)
+        site.go(False)
+        fine = site.give(5_900, 6_000) and fine
+        site.answer()  # by more than fits
+        site.go()
+        while len(site.delivered("out")) < len(site.lines) and site.run.poll() is None:
+            site.answer()
+            time.sleep(0.02)
+        site.run.stdin.close()
+        return (fine and not site.run.stdout.read() and site.run.wait(PATIENCE[0]) == 0 and site.answered > 0
+                and site.delivered("out") == site.delivered("out.2") == site.alone.messages)
+    except OSError:
+        return False
+    finally:
+        guard.cancel()
+        site.run.kill()
+        site.run.wait()
+
+
+def whose_replies(asked, folder):
+    """With --apart each reply says whether it is a client's, another site's or an application's."""
+    alone = Alone(asked, folder, 0)
+    alone.text = b"".join(b'{%s"reply":%s,"sends":[],"then":[%s]}\n' % it for it in (
+        (b'"again":true,"id":"a",', b'{"kind":"deposit","name":"B0.1"}', b""), (b"", b'{"held":"B1.1"}',
+        b'{"applied":"B1.1"},{"refused":10}'), (b"", b'{"refused":16}', b""), (b'"id":"b",', b'{"refused":8}', b"")))
+    alone.text += b'{"bad":"line","line":6}\n'
+    alone.replies = [line + b"\n" for line in (
+        b'{"again":true,"client":{"kind":"deposit","name":"B0.1"},"id":"a"}', b'{"peer":{"held":"B1.1"}}',
+        b'{"then":{"applied":"B1.1"}}', b'{"then":{"refused":10}}', b'{"peer":{"refused":16}}',
+        b'{"client":{"refused":8},"id":"b"}', b'{"client":{"bad":"line","line":6}}')]
+    return alone.run("cat > OUT", "--apart") == ([], True)
+
+
+ALONE = [ended_command, killed_command, slow_readers, dropped_messages, whose_replies]
 
 
 def options():
@@ -311,6 +436,8 @@ def options():
     reader.add_argument("--deposits", metavar="N", type=int, default=20_000, help="of each site, 20,000")
     reader.add_argument("--stop", metavar="SECONDS", type=float, default=2, help="how long a site is stopped, 2")
     reader.add_argument("--wire", metavar="PATH", default=WIRE, help="another wire.py")
+    reader.add_argument("--alone", action="store_true", help="try wire.py alone, without sites")
+    reader.add_argument("--patience", metavar="SECONDS", type=float, default=PATIENCE[0], help="with what is frozen, 60")
     reader.add_argument("--quiet", action="store_true", help="print only what failed")
     asked = reader.parse_args()
     if not os.access(asked.program, os.X_OK) or os.path.isdir(asked.program):
@@ -320,13 +447,18 @@ def options():
 
 def main():
     asked, fine = options(), True
+    PATIENCE[0] = asked.patience
     for part in ALONE:
         with tempfile.TemporaryDirectory(prefix="wires-") as folder:
-            same = part(asked, folder)
+            try:
+                same = part(asked, folder)
+            except Failed as why:
+                print(f"wires: {why}", flush=True)
+                same = False
         fine = fine and same
         if not same or not asked.quiet:
             print("same     " if same else "DIFFERENT", part.__doc__.rstrip("."), flush=True)
-    for sites in (2, 3):
+    for sites in () if asked.alone else (2, 3):
         try:
             happened = run_bank(asked, sites)
         except Failed as why:
