@@ -56,7 +56,7 @@ class Answers:
         """The same of a script that is answered whole."""
         found = self.of_script(data)
         if found.error or found.config is None:
-            raise bank.Stop(bad_lines.explained(data, found.error, found.bad_line, False))
+            raise bank.Stop(bad_lines.explained(data, found.error, found.bad_line))
         return found
 
     def again(self, word: str, found: world.World, *more: str) -> list[str]:
@@ -85,7 +85,8 @@ class Answers:
         found = world.of_histories(self.program, data) if are_histories else self.of_script(data)
         words = list(explain.of_histories(found, data)) if are_histories and (found.config or found.error) else []
         if found.error:
-            words = bad_lines.explained(data, found.error, found.bad_line, found.is_histories).split("\n")
+            words = bad_lines.explained(data, found.error, found.bad_line,
+                                        "audit" if found.is_histories else "script").split("\n")
         events = [step.event for step in found.steps]
         events += [entry["event"] for entry in self.recorded(found)] if events else []
         tokens = {f"token {it['token'][0]}": it["token"] for it in events if "token" in it}

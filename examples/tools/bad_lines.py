@@ -125,6 +125,8 @@ EVENTS = REQUESTS | {
     "statement": text("the account"),
 }
 COMMANDS = EVENTS | {"deliver": number("a message's number", WORD)}
+QUESTIONS = {"about": word("thing to ask about", ("site",)),
+             "resend": number("the number of entries", LIMITS["history"])}
 WHYS = {6: ["position"], 9: ["seen", "needed"], 13: ["index", "cause"], 17: ["why"]}
 
 
@@ -273,18 +275,47 @@ def reply(node):
         one_of(node, "a reply", REPLIES)
 
 
+def receipts(version):
+    """What is received, by its key."""
+    token = items("the token", EPOCH, number("a site", BYTE), number("the number of red operations", WORD))
+    return {"shadow": shadow(version), "token": token}
+
+
+def id_of(node):
+    """The id of a request."""
+    is_a(node, "text", "an id")
+    if not re.fullmatch(r"[A-Za-z0-9._:-]{1,64}", node.value):
+        raise Fault(node.at, f'"{node.value}" is no id: 1 to 64 of A-Z, a-z, 0-9, ".", "_", ":" and "-"')
+
+
+def site_line(node, version):
+    """An event or a question, as `rbbank site` takes them."""
+    is_a(node, "object", "a line")
+    reasons = {"site": "a line of a site doesn't name it: it is the one of --me",
+               "deliver": 'a message comes to a site as it was sent: "shadow" or "token"',
+               "event": "this is an entry of a history, and a site has events; `rbbank audit` takes entries",
+               "bank": "a site that is started with --bank alone takes this key",
+               "accounts": "a configuration is the first line alone"}
+    for key, (at, _) in node.members.items():
+        if key in reasons:
+            raise Fault(at, reasons[key])
+    beside = ["id"] if "id" in node.members else []
+    one_of(node, "an event", EVENTS | receipts(version) | QUESTIONS, beside)
+    if beside:
+        id_of(node.get("id"))
+        if not set(node.members) & {*REQUESTS, "batch"}:
+            raise Fault(node.members["id"][0], "an id is that of an operation or a batch that is asked for")
+
+
 def entry(node, version, sites):
     is_a(node, "object", "a line")
     if "event" not in node.members and set(node.members) & set(COMMANDS):
         raise Fault(node.at, "this is a command, and a history has entries; `rbbank script` takes commands")
-    token = items("the token", EPOCH, number("a site", BYTE), number("the number of red operations", WORD))
-    receipts = {"shadow": shadow(version), "token": token}
-
     def event(each):
         is_a(each, "object", "an event")
         if "deliver" in each.members:
             raise Fault(each.at, 'a history has what was delivered: "shadow" or "token"')
-        one_of(each, "an event", EVENTS | receipts)
+        one_of(each, "an event", EVENTS | receipts(version))
     members(node, "an entry", {"event": event, "reply": reply, "site": number("a site", sites - 1)})
 
 
@@ -300,28 +331,34 @@ def decoded(line):
         raise Fault(before, f"the byte {line[error.start]:#04x} isn't UTF-8") from None
 
 
-def check_line(line, is_first, is_entry, first):
-    """Raises what is wrong with a line: the first, or a command or an entry behind this first one."""
+def check_line(line, is_first, kind, first):
+    """Raises what is wrong with a line: the first, or behind this first one a command, an entry if the kind is "audit",
+    or a line of a site."""
     if len(line) > LINE_LIMIT:
         raise Fault(LINE_LIMIT, f"the line has {len(line):,} bytes, and the limit is {LINE_LIMIT:,}")
     node = parse(decoded(line))
     if is_first:
         configuration(node)
-    elif is_entry:
-        config = parse(decoded(first))
-        entry(node, int(config.get("version").text), int(config.get("sites").text))
-    else:
+        return
+    if kind == "script":
         command(node)
+        return
+    config = parse(decoded(first))
+    version = int(config.get("version").text)
+    if kind == "audit":
+        entry(node, version, int(config.get("sites").text))
+    else:
+        site_line(node, version)
 
 
-def reason(data, bad_line, is_histories):
+def reason(data, bad_line, kind):
     """The place and the reason of a bad line."""
     lines = data.split(b"\n")
     first = next(line for line in lines if line.strip(b" \t\r"))
     line = lines[bad_line - 1]
     is_first = all(not before.strip(b" \t\r") for before in lines[:bad_line - 1])
     try:
-        check_line(line, is_first, is_histories, first)
+        check_line(line, is_first, kind, first)
     except Fault as fault:
         return fault.at, fault.why
     return 0, f"no reason was found here, but the program doesn't take the line ({bank.RULES} has the rules)"
@@ -336,12 +373,13 @@ def pointed(line, at, room=76):
     return f"{front}{shown[begin:begin + room]}{back}", " " * (len(front) + at - begin) + "^"
 
 
-def explained(data, error, bad_line, is_histories):
-    """The program's line on standard error; where it is about a line, with the line, a caret and the reason."""
+def explained(data, error, bad_line, kind="script"):
+    """What the program said of a line, with the line, a caret and the reason; or of no line. The kind of lines is
+    "script", "audit" or "site"."""
     error = error.removeprefix("rbbank: ")
     if bad_line is None:
         hint = f": the first line has to be one, as {CONFIGURATION}" if error == "no configuration" else ""
         return error + hint
-    at, why = reason(data, bad_line, is_histories)
+    at, why = reason(data, bad_line, kind)
     text, caret = pointed(data.split(b"\n")[bad_line - 1], at)
     return f"{error}, at column {at + 1}\n  {text}\n  {caret}\n  {why}"

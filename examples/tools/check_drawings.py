@@ -60,7 +60,8 @@ def reasons(program):
     for case in cases.written_down():
         if case.name.startswith("bad_lines: "):
             run = program.run(case.words[0], case.given)
-            found.append(bad_lines.explained(case.given, run.error, run.bad_line, case.words[0] != "script"))
+            found.append(bad_lines.explained(case.given, run.error, run.bad_line,
+                                             "script" if case.words[0] == "script" else "audit"))
     return "\n\n".join(found) + "\n"
 
 
@@ -111,6 +112,19 @@ def words(program):
     config = bank.read(path).split(b"\n")[0] + b"\n"
     out, err, status = run_of(program, ["explain.py", "-", *asked], config)
     yield "explain.py of a configuration alone", (err, status) == ("", 0) and out.endswith("No command.\n")
+    out, err, status = run_of(program, ["explain.py", bank.example("site_receives.site.jsonl"), *asked, "--as", "site",
+                                        "--me", "1"])
+    yield "explain.py --as site", (err, status) == ("", 0) and out.split("\n")[0].endswith("then B0.1: applied")
+    line = b'{"balance":"ann"}\n{"balence":"ann"}\n'
+    out, err, status = run_of(program, ["explain.py", "-", *asked, "--as", "site", "--me", "1"], config + line)
+    yield "explain.py of a site's bad line", status == 0 and (
+        out.startswith("line 2  site 1: the balance of") and 'did you mean "balance"?' in out)
+    missing = ("", "draw: no/such/file: No such file or directory", 1)
+    yield "draw.py to a missing folder", run_of(program, ["draw.py", path, *asked, "--svg", "no/such/file"]) == missing
+    out, err, status = run_of(program, ["draw.py", path, *asked, "--from", "99"])
+    yield "draw.py --from past the end", (out, status) == ("", 1) and "the last line that did something is" in err
+    yield "draw.py of a long run", all(row.width <= picture.ROW for row in picture.rows_of(
+        draw.drawing_of(bank.program(program), bank.read(bank.example("tellers.histories.jsonl")))))
     changed = bank.example("changed_reply.histories.jsonl")
     out, err, status = run_of(program, ["demo.py", changed, *asked, "--draw"])
     yield "demo.py of histories", status == 1 and "The replies are those that are stored." in out

@@ -66,7 +66,7 @@ def compared(path, written):
 def of_script(found, data, path):
     yield from table(found, data)
     if found.error:
-        yield bad_lines.explained(data, found.error, found.bad_line, False)
+        yield bad_lines.explained(data, found.error, found.bad_line)
     yield compared(path, "".join(bank.compact(step.reply) + "\n" for step in found.steps))
 
 

@@ -2,8 +2,9 @@
 """Draws a script, or the sites' histories, as a space-time diagram.
 
 In the terminal time goes downwards and each site that takes part has a column. At the left is the line of the file.
-With --svg time goes to the right, messages are slanted arrows in the operation's colour, dashed where repeated or
-refused, a yellow band shows where the token is, and a fault of an audit is ringed in red with its reason.
+With --svg time goes to the right, in as many rows as it wants; messages are slanted arrows in the operation's colour,
+dashed where repeated or refused, a yellow band shows where the token is, and a fault of an audit is ringed in red with
+its reason.
 
   ● made   ○ held   ◉ applied   ✕ refused   ◆ token   ? asked   = came again   ║ has the token   [..] balance after it
 
@@ -12,6 +13,7 @@ can't take comes last. The journals of sites are such histories, one after anoth
 line.
 """
 import argparse
+import copy
 import shutil
 import sys
 
@@ -45,6 +47,9 @@ class Drawing:
     def __init__(self, found, first=None, last=None, sites=None):
         self.world, self.config, self.fault = found, found.config, []
         places = {step.line: at for at, step in enumerate(found.steps)}
+        if first is not None and first > max(places, default=0):
+            raise bank.Stop(f"--from {first}: " + (f"the last line that did something is {max(places)}" if places else
+                                                   "no line did anything"))
         begin = place_of(places, first, 0)
         end = place_of(places, last, len(found.steps) - 1)
         begin, end = min(begin, end), max(begin, end)
@@ -53,9 +58,19 @@ class Drawing:
         self.sites = sorted(site for site in part if site is not None and (sites is None or site in sites))
         self.holder = holder_after(found.steps[:begin])
 
+    def origin(self, step):
+        """The step that sent what came."""
+        return self.world.steps[self.world.senders[step.came - 1][0]] if step.came else None
+
     def sender(self, step):
         """The site that sent what came."""
-        return self.world.steps[self.world.senders[step.came - 1][0]].site if step.came else None
+        return self.origin(step).site if step.came else None
+
+    def part(self, begin, end):
+        """Some of its steps, at the same sites."""
+        part = copy.copy(self)
+        part.steps, part.holder = self.steps[begin:end], holder_after(self.steps[:begin], self.holder)
+        return part
 
 
 def place_of(places, line, otherwise):
@@ -197,11 +212,12 @@ def sites_of(words, count):
 def drawing_of(program, data, first=None, last=None, sites=()):
     """The drawing of a file's bytes."""
     found = world.world_of(program, data)
+    kind = "audit" if found.is_histories else "script"
     if found.config is None or not found.steps and found.error:
-        raise bank.Stop(bad_lines.explained(data, found.error, found.bad_line, found.is_histories))
+        raise bank.Stop(bad_lines.explained(data, found.error, found.bad_line, kind))
     drawing = Drawing(found, first, last, sites_of(list(sites), found.config["sites"]))
     if found.error and last is None:
-        fault = bad_lines.explained(data, found.error, found.bad_line, found.is_histories)
+        fault = bad_lines.explained(data, found.error, found.bad_line, kind)
         drawing.fault = fault.removeprefix(f"line {found.bad_line}: ").split("\n")
     return drawing
 
@@ -211,8 +227,7 @@ def main():
     data = bank.read(asked.file)
     drawing = drawing_of(bank.program(asked.program), data, asked.first, asked.last, asked.site)
     if asked.svg:
-        with open(asked.svg, "w", encoding="utf-8") as file:
-            file.write(picture.svg(drawing))
+        bank.write(asked.svg, picture.svg(drawing))
         return 0
     columns = asked.columns or shutil.get_terminal_size((80, 24)).columns
     colours = asked.color == "always" or asked.color == "auto" and sys.stdout.isatty()

@@ -1,13 +1,17 @@
 #!/usr/bin/env python3
-"""Runs a script, or the audit of histories, and says in words what happened.
+"""Runs a script, the audit of histories, or a site, and says in words what happened.
 
 A script: what each command did, with the meaning of each refusal. Histories: whether one world has them, else which
-line is at fault, which entry that is, and what the site answers there. A bad line: the line, a caret and the reason.
+line is at fault, which entry that is, and what the site answers there. The lines of a site, with --as site: what site
+--me answers to each over a new journal, what it sends and what it applies then. A bad line: the line, a caret and the
+reason.
 
 The status is the program's: 0, or 1 if an audit found a fault, or 2 at a bad line.
 """
 import argparse
+import json
 import os
+import tempfile
 
 import bad_lines
 import bank
@@ -23,13 +27,16 @@ WORDS = {
     "passed": "sent, with epoch {}: this site hasn't it any more",
     "stale": "stale: a token of epoch {} came or left here before, so nothing changes",
     "balance": "{}",
+    "resent": "{} lines of messages sent again",
 }
 
 
 def options():
     reader = argparse.ArgumentParser(description=__doc__, formatter_class=argparse.RawDescriptionHelpFormatter)
-    reader.add_argument("file", metavar="FILE", help="a script or histories; - is standard input")
-    reader.add_argument("--as", dest="kind", choices=["script", "audit"], help="what to run; else by the second line")
+    reader.add_argument("file", metavar="FILE", help="a script, histories or a site's lines; - is standard input")
+    reader.add_argument("--as", dest="kind", choices=["script", "audit", "site"],
+                        help="what to run; else a script or an audit, by the second line")
+    reader.add_argument("--me", metavar="S", type=int, default=0, help="the site of --as site, 0")
     reader.add_argument("--program", metavar="PATH", help=bank.WHICH)
     return reader.parse_args()
 
@@ -72,7 +79,9 @@ def asked(found, step):
         account, count = event["asof"]
         when = {0: "before the first operation", 1: "after the first operation"}
         return f"the balance of {account} {when.get(count, f'after the first {count} operations')}"
-    return request(event)
+    if "about" in event:
+        return "what the site has"
+    return f"the messages of its last {event['resend']} entries again" if "resend" in event else request(event)
 
 
 def made(step):
@@ -95,6 +104,8 @@ def answered(step):
         return f"made as {', '.join(reply['names'])}"
     if "rows" in reply:
         return f"from {reply['start']} by {len(reply['rows'])} operations to {reply['balance']}"
+    if "about" in reply:
+        return bank.compact(reply["about"])
     key = next(key for key in WORDS if key in reply)
     return WORDS[key].format(reply[key])
 
@@ -113,7 +124,7 @@ def of_script(found, data):
     for step in found.steps:
         yield f"line {step.line:>{wide}}  {of_step(found, step)}"
     if found.error:
-        yield bad_lines.explained(data, found.error, found.bad_line, False)
+        yield bad_lines.explained(data, found.error, found.bad_line)
     elif not found.steps and found.config:
         yield f"A bank of {counted(found.config['accounts'], 'account')} at {found.config['sites']} sites. No command."
 
@@ -146,7 +157,7 @@ def of_fault(found, step, data):
 def of_histories(found, data):
     """The lines of an explained audit."""
     if found.error:
-        yield bad_lines.explained(data, found.error, found.bad_line, True)
+        yield bad_lines.explained(data, found.error, found.bad_line, "audit")
         return
     count, sites = len(found.steps), len({step.site for step in found.steps})
     entries, at_sites = f"{count} entr{'y' if count == 1 else 'ies'}", f"{sites} site{'' if sites == 1 else 's'}"
@@ -174,13 +185,48 @@ def of_absent(found):
         yield f"No entry of site {absent} is here: an audit wants the histories of all sites together."
 
 
+def name_of(message):
+    """A message in short."""
+    return message["shadow"]["name"] if "shadow" in message else f"token {message['token'][0]}"
+
+
+def of_answer(data, number, event, answer, me):
+    """A line of a site, with its answer."""
+    if "bad" in answer:
+        error = f"line {number}: {'line too long' if answer['bad'] == 'long' else 'bad line'}"
+        return bad_lines.explained(data, error, number, "site")
+    step = world.Step(number, me, {key: event[key] for key in event if key not in ("id", "bank")}, answer["reply"])
+    again = "made before, so it is answered again: " if "again" in answer else ""
+    words = [f"line {number}  site {me}: {asked(None, step)} -> {again}{answered(step)}"]
+    if answer["sends"]:
+        words.append(f"sends {', '.join(map(name_of, answer['sends']))}")
+    for reply in answer["then"]:
+        step = world.Step(number, me, {}, reply)
+        words.append(f"then {reply['applied']}: applied" if "applied" in reply else f"then {answered(step)}")
+    return "; ".join(words)
+
+
+def of_site(program, data, me):
+    """The lines of an explained site, and the status."""
+    with tempfile.TemporaryDirectory() as folder:
+        run = program.run("site", data, "--me", str(me), "--journal", os.path.join(folder, "journal"), "--new")
+    answers = [answer for answer in map(json.loads, run.replies) if "reply" in answer or "bad" in answer]
+    events = [(number, world.parsed(line) or {}) for number, line in world.lines_of(data)[1:]]
+    lines = [of_answer(data, *line, answer, me) for line, answer in zip(events, answers)]
+    if run.error:
+        lines.append(bad_lines.explained(data, run.error, run.bad_line, "site"))
+    return lines, run.status
+
+
 def status_of(found):
     """The program's status."""
     return 2 if found.error else 1 if "fault" in (found.verdict or {}) else 0
 
 
-def explained(program, data, kind=None):
+def explained(program, data, kind=None, me=0):
     """The lines that explain a file, and the status."""
+    if kind == "site":
+        return of_site(program, data, me)
     is_audit = kind == "audit" or kind is None and world.are_histories(world.lines_of(data))
     found = (world.of_histories if is_audit else world.of_script)(program, data)
     return list((of_histories if is_audit else of_script)(found, data)), status_of(found)
@@ -189,7 +235,7 @@ def explained(program, data, kind=None):
 def main():
     words = options()
     data = bank.read(words.file)
-    lines, status = explained(bank.program(words.program), data, words.kind)
+    lines, status = explained(bank.program(words.program), data, words.kind, words.me)
     for line in lines:
         print(line)
     return status

@@ -1,5 +1,6 @@
 """Draws as SVG: time goes to the right, and each site has a line."""
 import math
+import re
 from html import escape
 
 import saying
@@ -8,12 +9,14 @@ COLOURS = {"red": "#c62828", "blue": "#1565c0", "token": "#8d6e00", "refused": "
            "again": "#707070", "wrong": "#d50000", "plain": "#333333"}
 STYLE = (
     "text{font:10px Helvetica,Arial,sans-serif;text-anchor:middle;paint-order:stroke;stroke:#fff;stroke-width:3px}"
-    ".h{font-weight:bold;font-size:11px}.l{text-anchor:start}"
+    ".h{font-weight:bold;font-size:11px}.l{text-anchor:start}.f{stroke:#fdecea}"
 )
 LEFT = 64       # where the sites' lines begin
 LINE = 12       # from one line of a label to the next
 APART = 56      # between two sites' labels, for the arrows
 WIDEST = 26     # a line of a label, in characters
+ROW = 1400      # how wide a row may be; what comes then is in a row below
+DESCRIBED = 60  # the most steps that a picture's description has
 MARKS = {"●": "made", "○": "held", "◉": "applied", "✕": "refused", "◆": "token"}
 
 
@@ -24,18 +27,23 @@ class Label:
         said = saying.said(step)
         colour = "wrong" if step.fault else said.colour
         self.lines = [(said.head, "h", colour)]
-        rest, sender = said.rest, drawing.sender(step)
-        if sender is not None and sender not in drawing.sites:
-            rest += f" (message {step.came} from site {sender})"
+        rest, origin = said.rest, drawing.origin(step)
+        if origin is not None and all(origin is not each for each in drawing.steps):
+            rest += f" (message {step.came} from site {origin.site})"
         self.lines += [(line, "", colour) for line in saying.wrapped(rest, WIDEST)]
         balances = saying.balances(step, drawing.config)
         self.lines += [(line, "", "plain") for line in saying.wrapped(f"[{balances}]" if balances else "", WIDEST)]
-        self.lines += [(line, "", "wrong") for line in saying.wrapped(step.fault, WIDEST)]
+        self.lines += [(line, "", "wrong") for line in saying.wrapped(without_lines(step.fault), WIDEST)]
         self.half = max(16, *(len(text) * (3.9 if kind else 3.1) for text, kind, _ in self.lines))
 
 
+def without_lines(fault):
+    """Why an audit doesn't take an entry, without the numbers of lines, which a picture doesn't have."""
+    return re.sub(r" at line \d+, behind", " behind", re.sub(r" \(line \d+\)", "", fault))
+
+
 class Picture:
-    """Where everything goes."""
+    """Where everything of a row goes."""
 
     def __init__(self, drawing):
         self.drawing = drawing
@@ -43,18 +51,9 @@ class Picture:
         beside = self.beside()
         self.above = [self.is_above(step, beside[id(step)]) for step in drawing.steps]
         self.x = self.across()
-        self.legend = self.legend()
-        ends = [x + label.half + 30 for x, label in zip(self.x, self.labels)]
-        self.width = round(max([*ends, 12 + 5.6 * len(self.legend)]))
+        self.width = max([round(x + label.half + 30) for x, label in zip(self.x, self.labels)], default=0)
         self.y = self.down()
         self.place = {id(step): (x, self.y[step.site]) for step, x in zip(drawing.steps, self.x)}
-
-    def legend(self):
-        """What the marks that are used mean."""
-        said = [saying.said(step) for step in self.drawing.steps]
-        marks = ", ".join(f"{mark} {what}" for mark, what in MARKS.items() if any(each.mark == mark for each in said))
-        late = any(each.is_late and step.came for each, step in zip(said, self.drawing.steps))
-        return "; ".join([marks, "yellow: has the token", *(["dashed: repeated or refused"] if late else [])])
 
     def beside(self):
         """The sites that each step has a message from or to."""
@@ -96,7 +95,7 @@ class Picture:
             y += tall.get((site, True), 0) * LINE + 18
             found[site] = y
             y += tall.get((site, False), 0) * LINE + APART
-        self.height = y - APART + 36
+        self.height = max(y - APART + 36, 40)
         return found
 
     def bands(self):
@@ -115,13 +114,13 @@ class Picture:
 
     def arrow(self, step):
         """The message that came: a slanted arrow, or an arc where it came back to its own site."""
-        origin = self.drawing.world.steps[self.drawing.world.senders[step.came - 1][0]]
+        origin = self.drawing.origin(step)
         if id(origin) not in self.place:
             return
         (x1, y1), (x2, y2) = self.place[id(origin)], self.place[id(step)]
-        said = saying.said(step)
-        colour = "wrong" if x2 < x1 else said.colour
-        dashed = ' stroke-dasharray="4 3"' if said.is_late or x2 < x1 else ""
+        said, waits = saying.said(step), is_waited_for(self.drawing, step)
+        colour = "wrong" if waits else said.colour
+        dashed = ' stroke-dasharray="4 3"' if said.is_late or waits else ""
         style = f'fill="none" stroke="{COLOURS[colour]}" stroke-width="1.3" marker-end="url(#{colour})"{dashed}'
         if y1 == y2:
             side = 1 if step.site != self.drawing.sites[-1] else -1
@@ -152,6 +151,7 @@ class Picture:
         away = 6 if step.fault else 0
         top = y - 14 - away - LINE * (len(label.lines) - 1) if above else y + 22 + away
         for at, (text, kind, colour) in enumerate(label.lines):
+            kind = " ".join(each for each in (kind, "" if step.taken else "f") if each)
             kind = f' class="{kind}"' if kind else ""
             yield f'<text x="{x}" y="{top + LINE * at}"{kind} fill="{COLOURS[colour]}">{escape(text)}</text>'
 
@@ -162,7 +162,8 @@ class Picture:
         if first is not None:
             first -= round(max(18, self.labels[self.x.index(first)].half)) + 8
             yield f'<rect x="{first}" y="0" width="{self.width - first}" height="{self.height - 18}" fill="#fdecea"/>'
-            yield f'<text x="{first + 4}" y="11" class="l" fill="{COLOURS["wrong"]}">what the audit can\'t take</text>'
+            colour = f'fill="{COLOURS["wrong"]}"'
+            yield f'<text x="{first + 4}" y="11" class="l f" {colour}>what the audit can\'t take</text>'
         yield from self.bands()
         for site in drawing.sites:
             name = f"site {site}" if site < drawing.config["sites"] else f"no site {site}"
@@ -179,10 +180,51 @@ class Picture:
         for step, label, above in zip(drawing.steps, self.labels, self.above):
             yield from self.mark(step)
             yield from self.label(step, label, above)
-        accounts = ", ".join(f"{name} {cents}" for name, cents in drawing.config["accounts"][:6])
-        more = ", .." if len(drawing.config["accounts"]) > 6 else ""
-        yield f'<text x="6" y="11" class="l" fill="#707070">{escape(accounts + more)}</text>'
-        yield f'<text x="6" y="{self.height - 5}" class="l" fill="#707070">{self.legend}</text>'
+
+
+def is_waited_for(drawing, step):
+    """Whether what came is at fault, since an audit can't take the entry that sent it either."""
+    return bool(step.fault) and not drawing.origin(step).taken
+
+
+def legend_of(drawing):
+    """What the marks and colours that are used mean."""
+    said = [saying.said(step) for step in drawing.steps]
+    marks = ", ".join(f"{mark} {what}" for mark, what in MARKS.items() if any(each.mark == mark for each in said))
+    came = [step for step in drawing.steps if step.came]
+    late = any(saying.said(step).is_late for step in came)
+    waits = any(is_waited_for(drawing, step) for step in came)
+    return "; ".join([marks, "yellow: has the token", *(["dashed: repeated or refused"] if late else []),
+                      *(["ringed: at fault"] if any(step.fault for step in drawing.steps) else []),
+                      *(["red and dashed: waited for"] if waits else [])])
+
+
+def accounts_of(drawing):
+    accounts = ", ".join(f"{name} {cents}" for name, cents in drawing.config["accounts"][:6])
+    return accounts + (", .." if len(drawing.config["accounts"]) > 6 else "")
+
+
+def rows_of(drawing):
+    """The drawing in rows, none wider than a row may be unless it has one step."""
+    rows, begin, count = [], 0, len(drawing.steps)
+    while begin < count or not rows:
+        end = count
+        row = Picture(drawing.part(begin, end))
+        while row.width > ROW and end > begin + 1:
+            end = begin + max(1, 9 * (end - begin) // 10)
+            row = Picture(drawing.part(begin, end))
+        rows.append(row)
+        begin = end
+    return rows
+
+
+def described(drawing):
+    """The picture in words, for whoever doesn't see it."""
+    more = len(drawing.steps) - DESCRIBED
+    steps = [f"site {step.site}: {saying.said(step).line}" + (f" ({without_lines(step.fault)})" if step.fault else "")
+             for step in drawing.steps[:DESCRIBED]] + ([f"and {more} more"] if more > 0 else [])
+    title = f"A run of a bank at {drawing.config['sites']} sites, as a space-time diagram"
+    return f"<title>{title}</title>\n<desc>{escape('; '.join(steps))}</desc>\n"
 
 
 def head(colour):
@@ -193,9 +235,17 @@ def head(colour):
 
 def svg(drawing):
     """The picture's text."""
-    picture = Picture(drawing)
-    body = "\n".join(picture.body())
+    rows, legend, height, parts = rows_of(drawing), legend_of(drawing), 0, []
+    width = max([round(12 + 5.6 * len(legend)), *(row.width for row in rows)])
+    for row in rows:
+        row.width = width
+        parts += [f'<g transform="translate(0,{height})">', *row.body(), "</g>"] if len(rows) > 1 else row.body()
+        height += row.height
+    grey = 'class="l" fill="#707070"'
+    parts += [f'<text x="6" y="11" {grey}>{escape(accounts_of(drawing))}</text>',
+              f'<text x="6" y="{height - 5}" {grey}>{legend}</text>']
+    body = "\n".join(parts)
     heads = "".join(head(colour) for colour in COLOURS if f"url(#{colour})" in body)
-    return (f'<svg xmlns="http://www.w3.org/2000/svg" width="{picture.width}" height="{picture.height}" '
-            f'viewBox="0 0 {picture.width} {picture.height}">\n<style>{STYLE}</style><defs>{heads}</defs>\n'
+    return (f'<svg xmlns="http://www.w3.org/2000/svg" role="img" width="{width}" height="{height}" '
+            f'viewBox="0 0 {width} {height}">\n{described(drawing)}<style>{STYLE}</style><defs>{heads}</defs>\n'
             f'<rect width="100%" height="100%" fill="#fff"/>\n{body}\n</svg>\n')
