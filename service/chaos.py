@@ -280,7 +280,7 @@ class Run:
             now = await self.everyone()
             if any(isinstance(each, str) for each in now):
                 continue
-            left = any(each[part] for each in now for part in ("waiting", "given", "unsent", "held", "behind"))
+            left = any(each[part] for each in now for part in ("waiting", "unsent", "held", "behind"))
             ready = all(each["up"] and each["broker"] and each["bank"] == self.name for each in now)
             applied = [each["applied"] for each in now]
             quiet = quiet + 1 if ready and not left and applied == before and len(set(applied)) == 1 else 0

@@ -29,9 +29,8 @@ HERE = os.path.dirname(os.path.abspath(__file__))
 sys.path[:0] = [HERE, os.path.join(HERE, "..", "examples", "tools")]
 import bank
 import cluster
-from closing import Closing, Period, last_period, requests_of
+from close import Closing, Period, last_period, requests_of
 import passing
-import site_child
 from site_child import Fault, Site
 from view import Json, View
 
@@ -53,8 +52,8 @@ class Running:
     def __init__(self, folder: str, me: int = 0, confirmed: int = 0) -> None:
         self.sent: list[Json] = []
         self.view = View(CONFIG, me)
-        self.site = Site([PROGRAM, "site", "--me", str(me)], NAME, os.path.join(folder, f"0001.{me}.journal"), CONFIG,
-                         self.view, lambda entry, messages: self.sent.extend(messages), confirmed)
+        words = [PROGRAM, "site", "--me", str(me), "--journal", os.path.join(folder, f"0001.{me}.journal")]
+        self.site = Site(words, NAME, CONFIG, self.view, lambda entry, messages: self.sent.extend(messages), confirmed)
         self.task = asyncio.create_task(self.site.run())
 
     async def ask(self, *events: Json) -> list[Json]:
@@ -115,9 +114,12 @@ async def lines(folder: str) -> None:
 async def kills(folder: str) -> None:
     """A child is killed over and over: each request is made once, is answered, and is handed on in order."""
     async with site(folder) as one:
-        asked = [{"deposit": ["ann", 1 + n]} | ({"id": f"k-{n}"} if n % 2 else {}) for n in range(1000)]
-        site_child.MOST_GIVEN = 4  # so that a fast program has requests left at each kill
-        answers, ends, after = asyncio.create_task(one.replies(*asked)), 0, 100
+        gate = asyncio.Semaphore(20)  # so that there are requests under way, and others left, at each kill
+
+        async def reply(n: int) -> Json:
+            async with gate:
+                return (await one.replies({"deposit": ["ann", 1 + n]} | ({"id": f"k-{n}"} if n % 2 else {})))[0]
+        answers, ends, after = asyncio.gather(*map(reply, range(1000))), 0, 100
         while not answers.done():
             await asyncio.sleep(0.001)
             if one.site.up and one.site.process and one.site.entries > after:
@@ -149,13 +151,12 @@ async def restarts(folder: str) -> None:
         late = {"account": "bob", "amount": 7, "deps": [[0, 1, 0, 0, 0, 0, 0, 0], 0], "home": 1, "kind": "deposit",
                 "name": "B1.2"}
         await one.ask({"bank": NAME, "shadow": late})
-        before = one.view.shown(list(one.view.operations))
+        before = one.view.shown(0)
     for confirmed, wanted in ((0, sent), (2, sent[2:]), (5, [])):
         async with site(folder, confirmed=confirmed) as one:
             await one.ask({"balance": "ann"})
             same(f"sent again if {confirmed} entries are confirmed", one.sent, wanted)
-            same("the picture", {key: one.view.shown(list(one.view.operations))[key] for key in before
-                                 if key != "balances"}, {key: before[key] for key in before if key != "balances"})
+            same("the picture", one.view.shown(0) | {"balances": {}}, before | {"balances": {}})
             same("what is held waits for", before["held"][0]["waits"], ["B1.1"])
 
 
@@ -185,16 +186,19 @@ async def faults(folder: str) -> None:
 
 async def token(folder: str) -> None:
     """The token goes round the sites that want it, after a moment, and clients who wait ask again as it comes."""
-    same("for want of the token", [passing.lacks({"reply": reply}) for reply in (
-        {"refused": 8}, {"refused": 9}, {"cause": 8, "refused": 13}, {"cause": 10, "refused": 13}, {"refused": 10},
-        {"cause": "declined", "refused": 13}, {"balance": 8})], [8, 9, 8, None, None, None, None])
+    replies: list[tuple[Json, bool]] = [
+        ({"refused": 8}, True), ({"refused": 9}, True), ({"cause": 8, "refused": 13}, True), ({"refused": 10}, False),
+        ({"cause": 10, "refused": 13}, False), ({"cause": "declined", "refused": 13}, False), ({"balance": 8}, False)]
+    for reply, lacks in replies:
+        same(f"for want of the token: {reply}", passing.lacks(reply), lacks)
     async with site(folder) as one:
         passing.HOLD, passing.HEARD = 5.0, PATIENCE
-        desk = passing.Passing(0, 4, one.site, one.view, asyncio.Event(), lambda: True)
+        one.site.config = CONFIG | {"sites": 4}
+        desk = passing.Passing(one.site, asyncio.Event(), lambda: True)
         one.site.hears = desk.answered
         await one.ask({"balance": "ann"})
         task = asyncio.create_task(desk.run())
-        said = {"applied": [[], 0], "wants": True}
+        said = {"applied": {}, "wants": True}
         for other in (3, 1):
             desk.hears(said | {"site": other})
         await until("the token is passed", lambda: not one.view.token["here"])
@@ -209,8 +213,10 @@ async def token(folder: str) -> None:
         await until("it is passed on", lambda: not one.view.token["here"])
         short = await desk.ask(lambda: one.site.ask({"withdraw": ["ann", 1]}), 0.2)
         same("a wait has an end", short["reply"], {"refused": 8})
-        desk.hears({"applied": [[[0, 1], [1, 5]], 3], "site": 1, "wants": False})
-        same("behind another site", desk.behind[1], 1 + 5 + 2)
+        desk.hears({"applied": {"B0.": 1, "B1.": 5, "R": 3}, "site": 1, "wants": False})
+        same("behind another site", desk.behind(), {1: 1 + 5 + 2, 3: 0})
+        await one.ask({"deposit": ["ann", 1]})
+        same("behind it once more is applied here", desk.behind(), {1: 5 + 2, 3: 0})
         task.cancel()
 
 
@@ -228,7 +234,7 @@ async def closes(folder: str) -> None:
     period = Period(folder, "b", 1)
     period.begin(0, CONFIG)
     async with site(folder) as one:
-        closing = Closing(period, one.site, 0)
+        closing = Closing(period, one.site)
         one.task.add_done_callback(lambda _: closing.ended.set())
         await one.ask({"deposit": ["ann", 5], "id": "last"})
 
@@ -238,7 +244,7 @@ async def closes(folder: str) -> None:
         for _ in range(2):
             same("stop", await step("stop"), {"is": "stopped", "applied": [[1] + [0] * 7, 0]})
         same("by other words", str(await step("stop", words=["--account", "x"]))[:30], "the books are being closed by ")
-        same("a start goes on so", Closing(period, one.site, 0).mark, {"words": []})
+        same("a start goes on so", Closing(period, one.site).mark, {"words": []})
         same("clients are served again", (await step("open"), closing.mark), ({"is": "open"}, None))
         same("no next before the seal", (await step("stop") and await step("next", config=CONFIG)), "no next now")
         for _ in range(2):
@@ -249,7 +255,7 @@ async def closes(folder: str) -> None:
         same("next", (await step("next", config=CONFIG), closing.next.is_set()), ({"is": "next"}, True))
     following = last_period(folder, "b")
     same("the next period", following and (following.name, os.path.getsize(following.journal(0))), ("b.0002", 0))
-    past = await Closing(Period(folder, "b", 2), one.site, 0).step({"bank": NAME, "step": "next", "words": []})
+    past = await Closing(Period(folder, "b", 2), one.site).step({"bank": NAME, "step": "next", "words": []})
     same("its past", past, {"is": "closed"})
     same("requests of the closed one", list(requests_of(period.journal(0))), ["last"])
 
@@ -287,7 +293,7 @@ class Http:
         connection.request("GET" if event is None else "POST", path, body, kind | named)
         reply = connection.getresponse()
         text = reply.read().decode()
-        self.retry = reply.getheader("Retry-After")
+        self.retry, self.exposed = (reply.getheader(name) for name in ("Retry-After", "Access-Control-Expose-Headers"))
         return reply.status, json.loads(text) if text[:1] in ("{", "[") else text
 
     def event(self, event: Any, **heads: str) -> tuple[int, Any]:
@@ -360,11 +366,13 @@ def asks(folder: str) -> None:
     listens(service)
     text = service.ask("/metrics")[1]
     for line in ('rbbank_events_total{event="deposit"} ', 'rbbank_refusals_total{number="4"} 1',
-                 "rbbank_token_here{} 1", 'rbbank_unconfirmed_messages{to="1"} 5', "rbbank_child_restarts_total{} 0",
-                 "rbbank_journal_bytes{} "):
+                 "rbbank_token_here 1", 'rbbank_unsent{to="1"} 5', "rbbank_child_restarts_total 0",
+                 "rbbank_journal_bytes "):
         same(f"metrics have {line}", line in text, True)
     same("closing", service.ask("/closing", {"bank": NAME, "step": "stop", "words": []})[1]["is"], "stopped")
-    same("clients wait", (service.event({"deposit": ["ann", 5]})[0], service.retry), (503, "1"))
+    same("clients wait", (service.event({"deposit": ["ann", 5]})[0], service.retry, service.exposed), (503, "1", None))
+    status, _ = service.event({"deposit": ["ann", 5]}, Origin="http://127.0.0.1:1")
+    same("and pages of other sites read how long", (status, service.retry, service.exposed), (503, "1", "Retry-After"))
     same("it ends", service.end(), 0)
     with open(os.path.join(folder, "site0", "0001.confirmed")) as file:
         same("nothing was confirmed", file.read(), "0\n")
@@ -376,13 +384,14 @@ async def waits(folder: str) -> None:
     given = {"name": "b", "config": CONFIG, "program": PROGRAM, "folder": folder, "broker": [], "http": ["127.0.0.1:1"]}
     one = service.Service(given, 0, True)
     for waiting, unconfirmed in ((service.MOST_WAITING, 0), (0, service.MOST_UNCONFIRMED)):
-        one.site.waiting.clear()
-        one.site.waiting.extend([site_child.Asked({})] * waiting)
+        asked: tuple[Json, Any] = ({}, asyncio.get_running_loop().create_future())
+        one.site.asked.clear()
+        one.site.asked.extend([asked] * waiting)
         one.wires.out[1].clear()
         one.wires.out[1].extend([(0, "")] * unconfirmed)
         same("not yet too much", (await one.answer({"x": 1}, None, set()))[0], 400)
         one.ask({"balance": "ann"})
-        one.site.waiting.append(site_child.Asked({}))
+        one.site.asked.append(asked)
         one.wires.out[1].append((0, ""))
         status, said = await one.answer({"balance": "ann"}, None, {"read"})
         same("too much", (status, said), (503, {"error": "too much waits"}))
@@ -444,7 +453,7 @@ async def queues(folder: str) -> None:
         def wires(me: int) -> tuple[module.Wires, Any]:
             made, pretended = module.Wires(me, 2, broker.urls()[:1], NAME, None, f"{folder}/{me}.c"), Pretended()
             made.site = pretended  # type: ignore[assignment]
-            made.says, made.hears = (lambda: {}), (lambda said: None)
+            made.passing = passing.Passing(made.site, made.news, lambda: False)
             return made, pretended
 
         sender, _ = wires(0)
