@@ -147,14 +147,15 @@ class Browse:
         return states, last
 
     def clocks(self) -> None:
-        """What a site lacks is found by its operations too, if it doesn't report its clock."""
-        states, last = self.lacking()
-        del states[2]["applied"]
+        """What a site has applied is known by its clock, also of operations that it doesn't show any more."""
+        states = json.loads(json.dumps(self.states))
+        states[2]["operations"] = []
         _, page = self.open(states)
-        same("clocks", "behind", page.texts("#facts tr:nth-child(2) td"), ["0", "0", "1 operation"])
-        chips = page.js("return [...document.querySelectorAll(`#rows [data-key$='/${arguments[0]}'] .at span`)].map("
-                        "(it) => it.className.trim())", last["name"])
-        same("clocks", "where it is", chips, ["has", "has", ""])
+        same("clocks", "behind", page.texts("#facts tr:nth-child(2) td"), ["0", "0", "0"])
+        for name in ("B0.1", "R1"):
+            chips = page.js("return [...document.querySelectorAll(`#rows [data-key$='/${arguments[0]}'] .at span`)]"
+                            ".map((it) => it.className.trim())", name)
+            same("clocks", f"where {name} is", chips, ["has", "has", "has"])
 
     def differs(self) -> None:
         """A site that lacks an operation, holds others, and waits to send and to read."""

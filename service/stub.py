@@ -221,8 +221,8 @@ class Bank:
         numbers = [int(one["name"][len(home):]) for one in site.state["operations"] if one["name"].startswith(home)]
         name = home + str(max(numbers, default=0) + 1)
         for each in self.up():
-            if clock := each.state.get("applied"):
-                clock[0] = [*(dict(clock[0]) | {site.number: max(numbers, default=0) + 1}).items()]
+            clock = each.state["applied"]
+            clock[0] = [*(dict(clock[0]) | {site.number: max(numbers, default=0) + 1}).items()]
             place = max((one["place"] for one in each.state["operations"]), default=0) + 1
             each.state["operations"].append(operation | {"name": name, "cancelled": False, "place": place})
         return {"kind": operation["kind"], "name": name}
