@@ -270,18 +270,20 @@ def texts(folder: str) -> None:
 
 
 class Http:
-    """A service of site 0 that has no broker, and what it answers."""
+    """A service of a site that has no broker, and what it answers."""
 
-    def __init__(self, folder: str, **keys: Any) -> None:
-        self.port = cluster.free_ports(1)
-        given = {"name": "b", "config": CONFIG, "program": PROGRAM, "folder": folder, "broker": ["amqp://127.0.0.1:1/"],
-                 "http": [f"127.0.0.1:{self.port}", "127.0.0.1:1"], **keys}
+    def __init__(self, folder: str, me: int = 0, **keys: Any) -> None:
+        base = cluster.free_ports(2)
+        addresses = [f"127.0.0.1:{base + site}" for site in range(2)]
+        given: Json = {"name": "b", "config": CONFIG, "program": PROGRAM, "folder": folder,
+                       "broker": ["amqp://127.0.0.1:1/"], "http": addresses, **keys}
+        self.http, self.port = given["http"], int(given["http"][me].rpartition(":")[2])
         with open(os.path.join(folder, "bank.json"), "w") as file:
             json.dump(given, file)
-        self.words = [sys.executable, os.path.join(HERE, "service.py"), os.path.join(folder, "bank.json"), "0"]
+        words = [sys.executable, os.path.join(HERE, "service.py"), os.path.join(folder, "bank.json"), str(me)]
         with open(os.path.join(folder, "log"), "ab") as log:
-            new = [] if os.path.exists(os.path.join(folder, "site0")) else ["--new"]
-            self.process = subprocess.Popen(self.words + new, stdout=log, stderr=log)
+            new = [] if os.path.exists(os.path.join(folder, f"site{me}")) else ["--new"]
+            self.process = subprocess.Popen(words + new, stdout=log, stderr=log)
         SERVICES.append(self.process)
 
     def ask(self, path: str, event: Any = None, **heads: str) -> tuple[int, Any]:
@@ -371,11 +373,25 @@ def asks(folder: str) -> None:
         same(f"metrics have {line}", line in text, True)
     same("closing", service.ask("/closing", {"bank": NAME, "step": "stop", "words": []})[1]["is"], "stopped")
     same("clients wait", (service.event({"deposit": ["ann", 5]})[0], service.retry, service.exposed), (503, "1", None))
-    status, _ = service.event({"deposit": ["ann", 5]}, Origin="http://127.0.0.1:1")
+    status, _ = service.event({"deposit": ["ann", 5]}, Origin=f"http://{service.http[1]}")
     same("and pages of other sites read how long", (status, service.retry, service.exposed), (503, "1", "Retry-After"))
     same("it ends", service.end(), 0)
     with open(os.path.join(folder, "site0", "0001.confirmed")) as file:
         same("nothing was confirmed", file.read(), "0\n")
+
+
+def apart(folder: str) -> None:
+    """The books aren't closed while a site lacks what another one has, and clients are served again."""
+    first = Http(folder)
+    second = Http(folder, 1, http=first.http)
+    for service in (first, second):
+        service.wait()
+    first.event({"deposit": ["ann", 5]})
+    words = [sys.executable, os.path.join(HERE, "close.py"), os.path.join(folder, "bank.json"), NAME,
+             os.path.join(folder, "archive"), "--patience", "1"]
+    run = subprocess.run(words, capture_output=True, text=True, timeout=PATIENCE)
+    same("sites that are apart", (run.returncode, "the sites haven't applied the same" in run.stderr), (1, True))
+    same("clients are served", [service.event({"deposit": ["ann", 5]})[0] for service in (first, second)], [200, 200])
 
 
 async def waits(folder: str) -> None:
@@ -483,7 +499,7 @@ async def queues(folder: str) -> None:
         broker.stop()
 
 
-ALONE, HTTP, BROKER = (lines, kills, restarts, faults, token, closes, texts), (asks, waits, tokens), (queues,)
+ALONE, HTTP, BROKER = (lines, kills, restarts, faults, token, closes, texts), (asks, apart, waits, tokens), (queues,)
 GROUPS: dict[str, tuple[Callable[[str], Any], ...]] = {
     "": ALONE, "--http": ALONE + HTTP, "--broker": ALONE + HTTP + BROKER}
 

@@ -18,8 +18,8 @@ sys.dont_write_bytecode = True
 import cluster
 
 PATIENCE = 1500  # seconds, after which a check has caught what it doesn't end by
-LINES, KILLS, RESTARTS, FAULTS, TOKEN, CLOSES, ASKS, WAITS, TOKENS, QUEUES = (("check.py", name) for name in (
-    "lines", "kills", "restarts", "faults", "token", "closes", "asks", "waits", "tokens", "queues"))
+LINES, KILLS, RESTARTS, FAULTS, TOKEN, CLOSES, ASKS, APART, WAITS, TOKENS, QUEUES = (("check.py", name) for name in (
+    "lines", "kills", "restarts", "faults", "token", "closes", "asks", "apart", "waits", "tokens", "queues"))
 SMALL = ("chaos.py", "--inbox", "2", "--seconds", "40", "--seed", "3", "--patience", "600")
 CHAOS = ("chaos.py", "--inbox", "4096", "--seconds", "40", "--seed", "3", "--patience", "600")
 
@@ -92,7 +92,7 @@ MUTANTS = {
     "full_inbox_is_done": Mutant("wires.py", "FULL = (16, 23)", "FULL = (23,)", SMALL),
     "keys_of_the_closed_are_unknown": Mutant("service.py", "if line is None or event.get", "if True or event.get",
                                              CHAOS),
-    "sealed_while_apart": Mutant("close.py", "            self.rest()\n", '            self.all("stop")\n', CHAOS),
+    "sealed_while_apart": Mutant("close.py", "            self.rest()\n", '            self.all("stop")\n', APART),
 }
 
 
