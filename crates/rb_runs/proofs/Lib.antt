@@ -12,7 +12,7 @@ mod Kept
 mod Replays
 mod ReadAgain
 mod Parts
-mod Lines
+mod HistoryLines
 mod NextAccounts
 mod Recording
 mod RunFits

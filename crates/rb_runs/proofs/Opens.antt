@@ -1,26 +1,30 @@
--- The line of the configuration.
-use Rattle.std.proofs.Common.{◌≡◌, ◌+◌, ◌-◌, ℕ, false, List, [], Some, None, refl, sym, ap, subst, arith}
+-- The line of a script's configuration.
+use Rattle.std.proofs.Common.{◌≡◌, ◌+◌, ℕ, false, List, [], ◌∷◌, Some, None, refl, sym, ap, ◌∙◌, arith}
 use Rattle.rb_money.specs.Settings.{Settings}
-use Rattle.rb_world.specs.Laws.{opened}
-use Rattle.rb_runs.specs.declared.script.session.Session.{Session}
-use Rattle.rb_lines.specs.Answers.{AnswersLine, LinesOutcome, after_text}
-use Rattle.rb_lines.specs.Lines.{is_blank, is_long}
+use Rattle.rb_world.specs.Laws.{SeenWorld, opened}
 use Rattle.rb_history.specs.Configurations.{config_on}
-use Rattle.rb_runs.specs.Script.{commands_from, script_outcome}
-use Rattle.rb_runs.specs.ScriptSession.{session_state}
+use Rattle.rb_lines.specs.Answers.{LinesOutcome, after_text}
+use Rattle.rb_lines.specs.Lines.{is_blank, is_long}
+use Rattle.rb_runs.specs.declared.script.session.Session.{Session}
+use Rattle.rb_runs.specs.Script.{commands_from, script_from, script_outcome}
+use Rattle.rb_runs.specs.ScriptSession.{session_rest}
+use Rattle.rb_runs.specs.TakesLines.{TakesLine, makes_nothing}
+use Rattle.rb_runs.proofs.Unanswered.{nothing}
 
--- nothing was written, and nothing counted
-nothing : (n : ℕ) (o : LinesOutcome) → after_text [] (n - n) o ≡ o
-nothing n o = let none : (n - n) + o.count ≡ o.count = omega arith in ap (λ m. record { text = o.text; count = m; fault = o.fault }) none
+-- the outcome of the lines behind, by this world
+abbrev behind : SeenWorld → ℕ → List (List ℕ) → LinesOutcome
+behind w n ls = script_outcome w (commands_from w.settings (n + 1) ls)
 
--- the line of the configuration opens its world, and asks for no reply
-pub opens : (s s' : Session) (l : List ℕ) (k : Settings) → s.world ≡ None → is_long l ≡ false → is_blank l ≡ false → config_on l ≡ Some k
-    → s' ≡ record { world = Some (opened k); reply = s.reply; number = s.number + 1; count = s.count }
-    → AnswersLine (session_state s) (session_state s') l []
-opens s s' l k none short some is e =
-    subst (λ x. AnswersLine (session_state s) (session_state x) l []) (sym e) (record {
-      follows = λ ls. rw (none, short, some, is) (sym (nothing s.count (script_outcome (opened k) (commands_from k (s.number + 1) ls))));
-      number = refl;
-      count = omega arith;
-      one = omega arith;
-    })
+follows : (s : Settings) (n : ℕ) (l : List ℕ) (ls : List (List ℕ)) → is_long l ≡ false → is_blank l ≡ false → config_on l ≡ Some s
+    → script_from n (l ∷ ls) ≡ behind (opened s) n ls
+follows s n l ls short some is = rw (short, some, is) refl
+
+-- it opens its world, and asks for no reply
+pub opens : (x : Session) (s : Settings) (l : List ℕ) → is_long l ≡ false → is_blank l ≡ false → config_on l ≡ Some s
+    → x.world ≡ opened s → TakesLine session_rest makes_nothing None (Some x) l [] 0
+opens x s l short some is world = record {
+  follows = λ n ls. follows s n l ls short some is ∙ sym (nothing (behind (opened s) n ls))
+      ∙ ap (λ w. after_text [] 0 (behind w n ls)) (sym world);
+  makes = λ n ls. refl;
+  one = omega arith;
+}

@@ -1,5 +1,5 @@
 -- A script's recorder, and the histories that are written at its end.
-use Rattle.std.proofs.Common.{◌≡◌, ◌≢◌, ◌⊎◌, ℕ, List, [], ◌∷◌, ◌++◌, map, Option, Some, None, Result, Ok, Err}
+use Rattle.std.proofs.Common.{◌≡◌, ◌≢◌, ◌⊎◌, ◌+◌, ℕ, false, List, [], ◌∷◌, ◌++◌, map, Option, Some, None, Result, Ok, Err}
 use Rattle.std.proofs.Common.{refl, sym, ap, ap₂, ◌∙◌, subst, append-nil, inl, inr}
 use Rattle.std.specs.Prelude.{IfSome}
 use Rattle.std.specs.Io.KnownBytes.{Appends}
@@ -10,27 +10,65 @@ use Rattle.rb_site.specs.declared.report.SiteReport.{SiteReport}
 use Rattle.rb_site.specs.Events.{ModelSite}
 use Rattle.rb_site.specs.Histories.{history_of}
 use Rattle.rb_site.specs.Reports.{AreReports}
-use Rattle.rb_world.specs.Laws.{SeenWorld}
+use Rattle.rb_site.specs.declared.reply.Reply.{Reply}
+use Rattle.rb_site.specs.declared.world_event.WorldEvent.{WorldEvent}
+use Rattle.rb_world.specs.Laws.{SeenWorld, next_world, opened}
+use Rattle.rb_history.specs.Configurations.{config_on}
+use Rattle.rb_history.specs.OnLines.{command_on}
 use Rattle.rb_lines.specs.Answers.{IsSilent}
 use Rattle.rb_lines.specs.Buffers.{Sends}
-use Rattle.rb_lines.specs.Lines.{lines_of}
+use Rattle.rb_lines.specs.Lines.{is_blank, is_long, lines_of}
 use Rattle.rb_lines.specs.Writes.{AppendsFront}
 use Rattle.rb_lines.specs.declared.fault.ScriptFault.{ScriptFault}
 use Rattle.rb_lines.specs.declared.fault.ScriptFault.TheVariants.{NoConfig, BadConfig, BadLine, LongLine, Read, Write, OutOfMemory, Gather}
+use Rattle.rb_runs.specs.declared.lines.Lines.{Lines}
 use Rattle.rb_runs.specs.declared.recorded.recorder.Recorder.{Recorder}
 use Rattle.rb_runs.specs.declared.recorded.unwritten.Unwritten.{Unwritten}
-use Rattle.rb_runs.specs.Recording.{BeginsHistories, HistoriesEndAs, recording_in, recording_of}
-use Rattle.rb_runs.specs.RecordingSession.{first_recorder, recorder_rest, recorder_rest_from, recorder_state}
-use Rattle.rb_runs.specs.Silent.{EndsSilently, StopsUnwritten}
+use Rattle.rb_runs.specs.Inputs.{Input}
+use Rattle.rb_runs.specs.Recording.{BeginsHistories, HistoriesEndAs, recording_by, recording_from, recording_in, recording_of}
+use Rattle.rb_runs.specs.RecordingSession.{recorder_rest}
+use Rattle.rb_runs.specs.Script.{commands_from}
+use Rattle.rb_runs.specs.ScriptSession.{TakesCommand}
+use Rattle.rb_runs.specs.Silent.{EndsSilently, StopsUnwritten, unanswered}
+use Rattle.rb_runs.specs.TakesLines.{first_lines, lines_state}
 use Rattle.rb_runs.specs.Texts.{text_of}
 use Rattle.rb_runs.specs.Writing.{Writes}
 use Rattle.rb_runs.proofs.Unanswered.{no_text, stops}
 
+-- ---- a line
+
+opens_world : (s : Settings) (n : ℕ) (l : List ℕ) (ls : List (List ℕ)) → is_long l ≡ false → is_blank l ≡ false → config_on l ≡ Some s
+    → recording_from n (l ∷ ls) ≡ recording_by (opened s) (commands_from (opened s).settings (n + 1) ls)
+opens_world s n l ls short some is = rw (short, some, is) refl
+
+-- the configuration's line opens its world
+pub recorder_opens : (w : SeenWorld) (s : Settings) (l : List ℕ) → is_long l ≡ false → is_blank l ≡ false → config_on l ≡ Some s
+    → w ≡ opened s → (n : ℕ) (ls : List (List ℕ)) → recording_from n (l ∷ ls) ≡ recording_by w (commands_from w.settings (n + 1) ls)
+recorder_opens w s l short some is world n ls =
+    opens_world s n l ls short some is ∙ ap (λ v. recording_by v (commands_from v.settings (n + 1) ls)) (sym world)
+
+takes_command : (w : SeenWorld) (e : WorldEvent) (n : ℕ) (l : List ℕ) (ls : List (List ℕ)) → is_long l ≡ false → is_blank l ≡ false
+    → command_on w.settings l ≡ Some e → recording_by w (commands_from w.settings n (l ∷ ls))
+    ≡ recording_by (next_world w e) (commands_from (next_world w e).settings (n + 1) ls)
+takes_command w e n l ls short some is = rw (short, some, is) refl
+
+-- a command's line takes its world on
+pub recorder_takes : (w v : SeenWorld) (reply : Reply) (l : List ℕ) → is_long l ≡ false → is_blank l ≡ false
+    → TakesCommand (command_on w.settings l) w v reply → (n : ℕ) (ls : List (List ℕ))
+    → recording_by w (commands_from w.settings n (l ∷ ls)) ≡ recording_by v (commands_from v.settings (n + 1) ls)
+recorder_takes w v reply l short some took n ls =
+    takes_command w took.command n l ls short some took.is_command
+    ∙ ap (λ x. recording_by x (commands_from x.settings (n + 1) ls)) (sym took.world)
+
 -- ---- the whole script
 
+-- what the lines to come make
+abbrev made_by : Lines Recorder → List (List ℕ) → Result Input ScriptFault
+made_by r ls = recorder_rest r.opened r.number ls
+
 -- no line is answered
-pub silent : (r : Recorder) → IsSilent (recorder_state r)
-silent r = λ ls. no_text (recorder_rest r ls)
+pub silent : (r : Lines Recorder) → IsSilent (lines_state (unanswered recorder_rest) r)
+silent r = λ ls. no_text (recorder_rest r.opened r.number ls)
 
 -- a script that stopped before anything was written
 stopped : (f : ScriptFault) (input : List ℕ) (left : Option (List ℕ)) → f ≢ Write → StopsUnwritten recording_of f input left []
@@ -45,33 +83,33 @@ stopped OutOfMemory input left not h = inl refl
 stopped Gather input left not h = h
 
 -- the run ended with a fault
-pub ended : (a b : Option (List ℕ)) (r : Recorder) (f : ScriptFault) → r ≡ first_recorder → f ≢ Write
-    → IfSome a (λ input. EndsSilently (recorder_state r).rest (Err f) input b) → IfSome a (λ input. HistoriesEndAs (Err f) input b [])
+pub ended : (a b : Option (List ℕ)) (r : Lines Recorder) (f : ScriptFault) → r ≡ first_lines → f ≢ Write
+    → IfSome a (λ input. EndsSilently (lines_state (unanswered recorder_rest) r).rest (Err f) input b) → IfSome a (λ input. HistoriesEndAs (Err f) input b [])
 ended None b r f first not h = tt
 ended (Some input) b r f first not h =
     stopped f input b not
-    (stops recording_of (recorder_rest r) (λ ls. ap (λ (q : Recorder). recorder_rest q ls) (sym first)) f input b h.0 not h.1)
+    (stops recording_of (recorder_rest r.opened r.number) (λ ls. ap (λ q. made_by q ls) (sym first)) f input b h.0 not h.1)
 
 -- the sites recorded this by the end of the input
 abbrev pub HasRecorded : SeenWorld → List ℕ → Option (List ℕ) → Type 0
 HasRecorded w input left = (recording_of (lines_of input) ≡ Ok (recording_in w)) × (left ≡ Some [])
 
 -- the run took all lines
-pub recorded : (a b : Option (List ℕ)) (r new : Recorder) (w : SeenWorld) (u : Unit {0}) → r ≡ first_recorder → new.world ≡ Some w
-    → IfSome a (λ input. EndsSilently (recorder_state r).rest (Ok u) input b)
-    → IfSome a (λ input. recorder_rest r (lines_of input) ≡ recorder_rest new []) → IfSome a (λ input. HasRecorded w input b)
-recorded None b r new w u first there h made = tt
-recorded (Some input) b r new w u first there h made =
-    (ap (λ (q : Recorder). recorder_rest q (lines_of input)) (sym first) ∙ made ∙ ap (λ o. recorder_rest_from o new.number []) there, h.1)
+pub recorded : (a b : Option (List ℕ)) (r new : Lines Recorder) (x : Recorder) (u : Unit {0}) → r ≡ first_lines → new.opened ≡ Some x
+    → IfSome a (λ input. EndsSilently (lines_state (unanswered recorder_rest) r).rest (Ok u) input b)
+    → IfSome a (λ input. made_by r (lines_of input) ≡ made_by new []) → IfSome a (λ input. HasRecorded x.world input b)
+recorded None b r new x u first there h made = tt
+recorded (Some input) b r new x u first there h made =
+    (ap (λ q. made_by q (lines_of input)) (sym first) ∙ made ∙ ap (λ o. recorder_rest o new.number []) there, h.1)
 
 -- the run took all lines, and there was no configuration
-pub unopened : (a b : Option (List ℕ)) (r new : Recorder) (u : Unit {0}) → r ≡ first_recorder → new.world ≡ None
-    → IfSome a (λ input. EndsSilently (recorder_state r).rest (Ok u) input b)
-    → IfSome a (λ input. recorder_rest r (lines_of input) ≡ recorder_rest new [])
+pub unopened : (a b : Option (List ℕ)) (r new : Lines Recorder) (u : Unit {0}) → r ≡ first_lines → new.opened ≡ None
+    → IfSome a (λ input. EndsSilently (lines_state (unanswered recorder_rest) r).rest (Ok u) input b)
+    → IfSome a (λ input. made_by r (lines_of input) ≡ made_by new [])
     → IfSome a (λ input. HistoriesEndAs (Err NoConfig) input b [])
 unopened None b r new u first none h made = tt
 unopened (Some input) b r new u first none h made =
-    (ap (λ (q : Recorder). recorder_rest q (lines_of input)) (sym first) ∙ made ∙ ap (λ o. recorder_rest_from o new.number []) none, refl)
+    (ap (λ q. made_by q (lines_of input)) (sym first) ∙ made ∙ ap (λ o. recorder_rest o new.number []) none, refl)
 
 -- ---- what was written
 

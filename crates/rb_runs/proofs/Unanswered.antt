@@ -1,17 +1,32 @@
 -- How a run over lines that answers none of them stops.
-use Rattle.std.proofs.Common.{◌≡◌, ◌≢◌, ◌+◌, ◌-◌, ℕ, List, [], Option, Some, None, Result, Ok, Err, refl, sym, ap, ◌∙◌, arith}
+use Rattle.std.proofs.Common.{◌≡◌, ◌≢◌, ◌+◌, ℕ, List, [], ◌∷◌, ◌++◌, Option, Some, None, Result, Ok, Err, refl, sym, ap, ◌∙◌, arith}
+use Rattle.std.proofs.Common.{append-nil}
 use Rattle.std.specs.Prelude.{IfSome}
 use Rattle.rb_lines.specs.Answers.{IsFaulty, IsUnfinished, LinesOutcome, RunEndsAs, after_text}
 use Rattle.rb_lines.specs.Lines.{lines_of}
 use Rattle.rb_lines.specs.declared.fault.ScriptFault.{ScriptFault}
 use Rattle.rb_lines.specs.declared.fault.ScriptFault.TheVariants.{NoConfig, BadConfig, BadLine, LongLine, Read, Write, OutOfMemory, Gather}
 use Rattle.rb_runs.specs.Inputs.{Input}
-use Rattle.rb_runs.specs.Silent.{EndsSilently, IsFaultyInput, IsUnfinishedInput, StopsUnwritten, input_outcome}
+use Rattle.rb_runs.specs.Silent.{EndsSilently, IsFaultyInput, IsUnfinishedInput, StopsUnwritten, input_outcome, unanswered}
+use Rattle.rb_runs.specs.TakesLines.{TakesLine}
 
 -- no text comes before what is to come, and no line is counted
-pub no_answer : (o : LinesOutcome) → o ≡ after_text [] (0 - 0) o
-no_answer o = let none : (0 - 0) + o.count ≡ o.count = omega arith in
-    ap (λ n. record { text = o.text; count = n; fault = o.fault }) (sym none)
+pub nothing : (o : LinesOutcome) → after_text [] 0 o ≡ o
+nothing o = let none : 0 + o.count ≡ o.count = omega arith in ap (λ n. record { text = o.text; count = n; fault = o.fault }) none
+
+-- a line that makes what the lines after it make is taken, and isn't answered
+pub taken_unanswered : {S : Type 0} (made : Option S → ℕ → List (List ℕ) → Result Input ScriptFault) (old new : Option S) (l : List ℕ)
+    → ((n : ℕ) (ls : List (List ℕ)) → made old n (l ∷ ls) ≡ made new (n + 1) ls)
+    → (buffered : List ℕ) → (text : List ℕ) × (buffered ≡ buffered ++ text) × TakesLine (unanswered made) made old new l text 0
+taken_unanswered made old new l same buffered = (
+  [],
+  sym (append-nil buffered),
+  record {
+    follows = λ n ls. ap input_outcome (same n ls) ∙ sym (nothing (input_outcome (made new (n + 1) ls)));
+    makes = same;
+    one = omega arith;
+  },
+)
 
 -- no line is answered
 pub no_text : (r : Result Input ScriptFault) → (input_outcome r).text ≡ []

@@ -1,3 +1,4 @@
+pub mod TakesLines
 pub mod Script
 pub mod ScriptSession
 pub mod Inputs

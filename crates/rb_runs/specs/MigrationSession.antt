@@ -1,34 +1,32 @@
 -- The state of a migration between two lines.
-use Rattle.std.specs.Prelude.{ℕ, List, Option, Some, None, refl}
+use Rattle.std.specs.Prelude.{◌≡◌, ◌+◌, ℕ, List, ◌∷◌, Option, Some, None, true, false, refl}
 use Rattle.rb_lines.proofs.Public.Chosen.{first_chosen}
-use Rattle.rb_lines.specs.Lines.{is_long}
+use Rattle.rb_lines.specs.Answers.{LinesOutcome}
+use Rattle.rb_lines.specs.Lines.{is_blank, is_long}
+use Rattle.rb_lines.specs.declared.fault.ScriptFault.TheVariants.{LongLine}
 use Rattle.rb_money.specs.Settings.{Settings}
-use Rattle.rb_runs.specs.declared.migrate.session.Session.{Session}
-use Rattle.rb_lines.specs.Answers.{IsRunState, LinesOutcome, RunState}
 use Rattle.rb_runs.specs.Migration.{entries_from, migration_from}
-
--- the session before the first line
-abbrev pub first_migration : Session
-first_migration = record { versions = None; number = 1; count = 0 }
+use Rattle.rb_runs.specs.TakesLines.{StopsAt, TakesAll, makes_nothing}
 
 -- the outcome of the lines to come, the first of which is line n: before the configuration and after it
-abbrev pub migration_rest_from : Option Settings → ℕ → List (List ℕ) → LinesOutcome
-migration_rest_from None n ls = migration_from n ls
-migration_rest_from (Some s) n ls = entries_from s n ls
+abbrev pub migration_rest : Option Settings → ℕ → List (List ℕ) → LinesOutcome
+migration_rest None n ls = migration_from n ls
+migration_rest (Some s) n ls = entries_from s n ls
 
--- the outcome of the lines to come of a session
-abbrev pub migration_rest : Session → List (List ℕ) → LinesOutcome
-migration_rest s ls = migration_rest_from s.versions s.number ls
-
--- the state of a run with the session
-abbrev pub migration_state : Session → RunState
-migration_state s = record { rest = migration_rest s; number = s.number; count = s.count }
-
--- a line that is too long ends the migration, and no line is written as nothing
-pub migration_is_state : (s : Session) → IsRunState (migration_state s)
-migration_is_state s = of s.versions s.number s.count
+-- a line that is too long ends the migration, a blank one is skipped, and no line is written as nothing
+pub migration_takes : TakesAll migration_rest makes_nothing
+migration_takes = record {
+  long = long;
+  blank = blank;
+  unopened = λ n. refl;
+  ended = λ s n. refl;
+}
   where
-    of : (c : Option Settings) (n count : ℕ) →
-        IsRunState (record { rest = migration_rest_from c n; number = n; count = count })
-    of None n count = record { long = λ l ls long. first_chosen (is_long l) _ _ long; no_text = refl; unfinished = tt }
-    of (Some k) n count = record { long = λ l ls long. first_chosen (is_long l) _ _ long; no_text = refl; unfinished = tt }
+    long : (o : Option Settings) (l : List ℕ) → is_long l ≡ true → StopsAt (migration_rest o) l (λ n. LongLine n)
+    long None l is n ls = first_chosen (is_long l) _ _ is
+    long (Some s) l is n ls = first_chosen (is_long l) _ _ is
+
+    blank : (o : Option Settings) (n : ℕ) (l : List ℕ) (ls : List (List ℕ)) → is_long l ≡ false → is_blank l ≡ true
+        → (migration_rest o n (l ∷ ls) ≡ migration_rest o (n + 1) ls) × (◌≡◌ {A = Unit {0}} tt tt)
+    blank None n l ls short is = (rw (short, is) refl, refl)
+    blank (Some s) n l ls short is = (rw (short, is) refl, refl)

@@ -1,48 +1,36 @@
 -- The state of a script whose histories are asked for, between two lines.
-use Rattle.std.specs.Prelude.{ℕ, List, Option, Some, None, Result, refl}
+use Rattle.std.specs.Prelude.{◌≡◌, ◌+◌, ℕ, List, ◌∷◌, Option, Some, None, Result, Err, true, false, refl}
 use Rattle.std.proofs.Common.{ap}
 use Rattle.rb_lines.proofs.Public.Chosen.{first_chosen}
-use Rattle.rb_lines.specs.Answers.{IsRunState, RunState}
-use Rattle.rb_lines.specs.Lines.{is_long}
+use Rattle.rb_lines.specs.Lines.{is_blank, is_long}
 use Rattle.rb_lines.specs.declared.fault.ScriptFault.{ScriptFault}
-use Rattle.rb_money.specs.declared.refusal.Refusal.TheVariants.{NoSite}
-use Rattle.rb_site.specs.declared.reply.Reply.TheVariants.{Refused}
-use Rattle.rb_world.specs.Laws.{SeenWorld}
+use Rattle.rb_lines.specs.declared.fault.ScriptFault.TheVariants.{LongLine}
 use Rattle.rb_runs.specs.declared.recorded.recorder.Recorder.{Recorder}
 use Rattle.rb_runs.specs.Inputs.{Input}
-use Rattle.rb_runs.specs.Recording.{recording_by, recording_from}
+use Rattle.rb_runs.specs.Recording.{recording_by, recording_from, recording_in}
 use Rattle.rb_runs.specs.Script.{commands_from}
-use Rattle.rb_runs.specs.Silent.{input_outcome}
-
--- before the first line
-abbrev pub first_recorder : Recorder
-first_recorder = record { world = None; reply = Refused NoSite; number = 1 }
+use Rattle.rb_runs.specs.Silent.{MakesInput}
 
 -- the histories at the end of the lines to come, the first of which is line n: before the configuration and after it
-abbrev pub recorder_rest_from : Option SeenWorld → ℕ → List (List ℕ) → Result Input ScriptFault
-recorder_rest_from None n ls = recording_from n ls
-recorder_rest_from (Some w) n ls = recording_by w (commands_from w.settings n ls)
+abbrev pub recorder_rest : Option Recorder → ℕ → List (List ℕ) → Result Input ScriptFault
+recorder_rest None n ls = recording_from n ls
+recorder_rest (Some r) n ls = recording_by r.world (commands_from r.world.settings n ls)
 
-abbrev pub recorder_rest : Recorder → List (List ℕ) → Result Input ScriptFault
-recorder_rest r ls = recorder_rest_from r.world r.number ls
-
--- the state of a run with the recorder
-abbrev pub recorder_state : Recorder → RunState
-recorder_state r = record { rest = λ ls. input_outcome (recorder_rest r ls); number = r.number; count = 0 }
-
--- a line that is too long ends the script, and no line is no bad line
-pub recorder_is_state : (r : Recorder) → IsRunState (recorder_state r)
-recorder_is_state r = of r.world r.number
+-- a line that is too long ends the script, a blank one is skipped, and no line is no bad line
+pub recorder_makes : MakesInput recorder_rest
+recorder_makes = record {
+  long = long;
+  blank = blank;
+  unopened = λ n. refl;
+  ended = λ r n. (recording_in r.world, refl);
+}
   where
-    of : (w : Option SeenWorld) (n : ℕ) →
-        IsRunState (record { rest = λ ls. input_outcome (recorder_rest_from w n ls); number = n; count = 0 })
-    of None n = record {
-      long = λ l ls long. ap input_outcome (first_chosen (is_long l) _ _ long);
-      no_text = refl;
-      unfinished = tt;
-    }
-    of (Some w) n = record {
-      long = λ l ls long. ap (λ cs. input_outcome (recording_by w cs)) (first_chosen (is_long l) _ _ long);
-      no_text = refl;
-      unfinished = tt;
-    }
+    long : (o : Option Recorder) (n : ℕ) (l : List ℕ) (ls : List (List ℕ)) → is_long l ≡ true
+        → recorder_rest o n (l ∷ ls) ≡ Err (LongLine n)
+    long None n l ls is = first_chosen (is_long l) _ _ is
+    long (Some r) n l ls is = ap (recording_by r.world) (first_chosen (is_long l) _ _ is)
+
+    blank : (o : Option Recorder) (n : ℕ) (l : List ℕ) (ls : List (List ℕ)) → is_long l ≡ false → is_blank l ≡ true
+        → recorder_rest o n (l ∷ ls) ≡ recorder_rest o (n + 1) ls
+    blank None n l ls short is = rw (short, is) refl
+    blank (Some r) n l ls short is = rw (short, is) refl

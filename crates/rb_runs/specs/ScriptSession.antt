@@ -1,47 +1,40 @@
 -- The state of a script between two lines, and what one line does.
-use Rattle.std.specs.Prelude.{◌≡◌, ℕ, List, ◌++◌, Option, Some, None, refl}
+use Rattle.std.specs.Prelude.{◌≡◌, ◌+◌, ℕ, List, ◌∷◌, ◌++◌, Option, Some, None, true, false, refl}
 use Rattle.std.proofs.Common.{ap}
 use Rattle.rb_lines.proofs.Public.Chosen.{first_chosen}
-use Rattle.rb_lines.specs.Lines.{is_long}
-use Rattle.rb_money.specs.declared.refusal.Refusal.TheVariants.{NoSite}
+use Rattle.rb_lines.specs.Answers.{LinesOutcome}
+use Rattle.rb_lines.specs.Lines.{is_blank, is_long}
+use Rattle.rb_lines.specs.declared.fault.ScriptFault.TheVariants.{LongLine}
 use Rattle.rb_site.specs.declared.reply.Reply.{Reply}
-use Rattle.rb_site.specs.declared.reply.Reply.TheVariants.{Refused}
 use Rattle.rb_site.specs.declared.world_event.WorldEvent.{WorldEvent}
 use Rattle.rb_world.specs.Laws.{SeenWorld, next_reply, next_world}
 use Rattle.rb_history.specs.Replies.{line}
 use Rattle.rb_runs.specs.declared.script.session.Session.{Session}
-use Rattle.rb_lines.specs.Answers.{IsRunState, LinesOutcome, RunState}
 use Rattle.rb_runs.specs.Script.{commands_from, script_outcome, script_from}
-
--- the session before the first line
-abbrev pub first_session : Session
-first_session = record { world = None; reply = Refused NoSite; number = 1; count = 0 }
+use Rattle.rb_runs.specs.TakesLines.{StopsAt, TakesAll, makes_nothing}
 
 -- the outcome of the lines to come, the first of which is line n: before the configuration and after it
-abbrev pub session_rest_from : Option SeenWorld → ℕ → List (List ℕ) → LinesOutcome
-session_rest_from None n ls = script_from n ls
-session_rest_from (Some w) n ls = script_outcome w (commands_from w.settings n ls)
+abbrev pub session_rest : Option Session → ℕ → List (List ℕ) → LinesOutcome
+session_rest None n ls = script_from n ls
+session_rest (Some s) n ls = script_outcome s.world (commands_from s.world.settings n ls)
 
--- the outcome of the lines to come of a session
-abbrev pub session_rest : Session → List (List ℕ) → LinesOutcome
-session_rest s ls = session_rest_from s.world s.number ls
-
--- the state of a run with the session
-abbrev pub session_state : Session → RunState
-session_state s = record { rest = session_rest s; number = s.number; count = s.count }
-
--- a line that is too long ends the script, and no line asks for nothing
-pub session_is_state : (s : Session) → IsRunState (session_state s)
-session_is_state s = of s.world s.number s.count
+-- a line that is too long ends the script, a blank one is skipped, and no line asks for nothing
+pub session_takes : TakesAll session_rest makes_nothing
+session_takes = record {
+  long = long;
+  blank = blank;
+  unopened = λ n. refl;
+  ended = λ s n. refl;
+}
   where
-    of : (w : Option SeenWorld) (n count : ℕ) →
-        IsRunState (record { rest = session_rest_from w n; number = n; count = count })
-    of None n count = record { long = λ l ls long. first_chosen (is_long l) _ _ long; no_text = refl; unfinished = tt }
-    of (Some w) n count = record {
-      long = λ l ls long. ap (script_outcome w) (first_chosen (is_long l) _ _ long);
-      no_text = refl;
-      unfinished = tt;
-    }
+    long : (o : Option Session) (l : List ℕ) → is_long l ≡ true → StopsAt (session_rest o) l (λ n. LongLine n)
+    long None l is n ls = first_chosen (is_long l) _ _ is
+    long (Some s) l is n ls = ap (script_outcome s.world) (first_chosen (is_long l) _ _ is)
+
+    blank : (o : Option Session) (n : ℕ) (l : List ℕ) (ls : List (List ℕ)) → is_long l ≡ false → is_blank l ≡ true
+        → (session_rest o n (l ∷ ls) ≡ session_rest o (n + 1) ls) × (◌≡◌ {A = Unit {0}} tt tt)
+    blank None n l ls short is = (rw (short, is) refl, refl)
+    blank (Some s) n l ls short is = (rw (short, is) refl, refl)
 
 -- there is a command, and the world took it and replied this
 pub record TakesCommand (asked : Option WorldEvent) (old new : SeenWorld) (reply : Reply) : Type 0 where

@@ -1,15 +1,39 @@
 -- Runs that answer no line: how their lines end, and what is said of an input before anything is written.
-use Rattle.std.specs.Prelude.{◌≡◌, ℕ, List, [], ◌++◌, Option, Some, None, Result, Ok, Err}
+use Rattle.std.specs.Prelude.{◌≡◌, ◌+◌, ℕ, List, [], ◌∷◌, ◌++◌, Option, Some, None, Result, Ok, Err, true, false}
+use Rattle.std.proofs.Common.{ap}
 use Rattle.rb_lines.specs.Answers.{LinesOutcome, RunEndsAs, no_outcome}
-use Rattle.rb_lines.specs.Lines.{lines_of, whole_lines}
+use Rattle.rb_lines.specs.Lines.{is_blank, is_long, lines_of, whole_lines}
 use Rattle.rb_lines.specs.declared.fault.ScriptFault.{ScriptFault}
 use Rattle.rb_lines.specs.declared.fault.ScriptFault.TheVariants.{NoConfig, BadConfig, BadLine, LongLine, Read, Write, OutOfMemory, Gather}
 use Rattle.rb_runs.specs.Inputs.{Input}
+use Rattle.rb_runs.specs.TakesLines.{TakesAll}
 
 -- the lines of an input are answered by no text
 abbrev pub input_outcome : Result Input ScriptFault → LinesOutcome
 input_outcome (Ok x) = record { text = []; count = 0; fault = None }
 input_outcome (Err f) = no_outcome f
+
+-- lines come to no text, whatever input they make
+abbrev pub unanswered : {S : Type 0} → (Option S → ℕ → List (List ℕ) → Result Input ScriptFault) → Option S → ℕ → List (List ℕ) → LinesOutcome
+unanswered made o n ls = input_outcome (made o n ls)
+
+-- whatever makes an input of lines: one that is too long is bad, a blank one is skipped, and the end is no bad line
+pub record MakesInput {S : Type 0} (made : Option S → ℕ → List (List ℕ) → Result Input ScriptFault) : Type 0 where
+  pub long : (o : Option S) (n : ℕ) (l : List ℕ) (ls : List (List ℕ)) → is_long l ≡ true → made o n (l ∷ ls) ≡ Err (LongLine n)
+  pub blank : (o : Option S) (n : ℕ) (l : List ℕ) (ls : List (List ℕ)) → is_long l ≡ false → is_blank l ≡ true
+      → made o n (l ∷ ls) ≡ made o (n + 1) ls
+  pub unopened : (n : ℕ) → made None n [] ≡ Err NoConfig
+  pub ended : (s : S) (n : ℕ) → (x : Input) × (made (Some s) n [] ≡ Ok x)
+
+-- so it takes lines, and answers none
+pub takes_unanswered : {S : Type 0} (made : Option S → ℕ → List (List ℕ) → Result Input ScriptFault) → MakesInput made
+    → TakesAll (unanswered made) made
+takes_unanswered made laws = record {
+  long = λ o l is n ls. ap input_outcome (laws.long o n l ls is);
+  blank = λ o n l ls short is. (ap input_outcome (laws.blank o n l ls short is), laws.blank o n l ls short is);
+  unopened = λ n. ap input_outcome (laws.unopened n);
+  ended = λ s n. ap input_outcome (laws.ended s n).1;
+}
 
 -- how a run over lines ended that answers none of them
 abbrev pub EndsSilently : (List (List ℕ) → LinesOutcome) → Result Unit ScriptFault → List ℕ → Option (List ℕ) → Type 0

@@ -6,10 +6,12 @@ mod audit;
 mod books;
 mod entry;
 mod fault;
+mod lines;
 mod migrate;
 mod recorded;
 mod script;
 mod silent;
+mod takes_lines;
 
 pub use audit::laws::inputs_are_read_back;
 pub use audit::run::run_audit;

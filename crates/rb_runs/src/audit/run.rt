@@ -7,6 +7,7 @@ ghost use Rattle.rb_runs.specs.Audit.{AuditEndsAs};
 
 use crate::audit::collected::Collected;
 use crate::audit::verdict::answer;
+use crate::lines::Lines;
 use crate::silent::take_lines;
 use rb_lines::{ScriptFault, Sink, Source, write_all};
 use std::alloc::Global;
@@ -33,14 +34,15 @@ pub fn run_audit<S: Source, W: Sink>(
     // There are up to `MOST_READS` reads, whatever is answered.
     ensures calls { S.calls reader.new ≤ S.calls reader.old + MOST_READS }
 {
-    let mut collected = Collected::new();
-    if let Err(fault) = take_lines(alloc, reader, writer, &mut collected) {
-        collected.close();
+    let mut lines = Lines::<Collected>::new();
+    if let Err(fault) = take_lines(alloc, reader, writer, &mut lines) {
+        lines.close();
         return Err(fault);
     }
-    let Some(auditor) = collected.into_auditor() else {
+    let Some(collected) = lines.into_opened() else {
         return Err(ScriptFault::NoConfig);
     };
+    let Collected { auditor } = collected;
     let (found, line) = answer(alloc, auditor)?;
     write_all(writer, line.as_slice())?;
     Ok(found)

@@ -5,7 +5,8 @@ ghost use Rattle.rb_runs.specs.Migration.{MigrationEndsAs};
 ghost use Rattle.rb_lines.specs.declared.fault.ScriptFault.TheVariants.{Gather, Read, Write};
 ghost use Rattle.rb_lines.specs.declared.limits.TheConstants.{MOST_READS};
 
-use crate::migrate::session::Session;
+use crate::lines::Lines;
+use crate::migrate::versions::Versions;
 use rb_lines::{ScriptFault, Sink, Source, run_lines};
 use std::alloc::Global;
 
@@ -32,6 +33,8 @@ pub fn run_migrate<S: Source, W: Sink>(
     // There are up to `MOST_READS` reads, whatever is answered.
     ensures calls { S.calls reader.new ≤ S.calls reader.old + MOST_READS }
 {
-    let mut session = Session::new();
-    run_lines(alloc, reader, writer, &mut session)
+    let mut lines = Lines::<Versions>::new();
+    let answered = run_lines(alloc, reader, writer, &mut lines);
+    lines.close();
+    answered
 }

@@ -1,4 +1,4 @@
-//! The lines of a migration, one at a time.
+//! The lines of a migration, which its configuration takes in both versions.
 //!
 //! Each line is answered by itself, as a script's lines are, so no history is kept: the configuration and the entries
 //! before a bad line go out.
@@ -8,25 +8,15 @@ ghost use Rattle.rb_history.specs.Configurations.{config_on};
 ghost use Rattle.rb_history.specs.Entries.{asked_entry_on};
 ghost use Rattle.rb_history.specs.Ids.{AskedEntry};
 ghost use Rattle.rb_runs.specs.Migration.{migrated_config_line, migrated_entry_line};
-ghost use Rattle.rb_runs.specs.MigrationSession.{first_migration};
 
-use crate::fault::fault_at;
 use crate::migrate::versions::Versions;
+use crate::takes_lines::TakesLines;
 use rb_history::{LineFault, open_config};
-use rb_lines::{Responder, ScriptFault, is_blank, text_on};
+use rb_lines::text_on;
 use std::alloc::Global;
 
-/// The state of a migration: the configuration once there is one, the number of the next line, from 1, and the lines
-/// written so far.
-#[derive(Drop)]
-pub struct Session {
-    pub versions: Option<Versions>,
-    pub number: u64,
-    pub count: u64,
-}
-
 /// The configuration on a line, which is buffered in version 2. An `Err` buffers nothing.
-fn open(alloc: Global, line: &[u8], buffered: &mut Vec<u8>) -> Result<Versions, LineFault>
+fn answer_config(alloc: Global, line: &[u8], buffered: &mut Vec<u8>) -> Result<Versions, LineFault>
     ensures opened { MatchResult result
         (λ s. (config_on line.now ≡ Some s) × (buffered.new.items ≡ buffered.old.items ++ migrated_config_line s))
         (λ why. why ≡ Bad → config_on line.now ≡ None) }
@@ -62,62 +52,35 @@ fn answer_entry(
     versions.append_migrated_entry(alloc, text, buffered)
 }
 
-impl Session {
-    /// Before the first line.
-    pub fn new() -> Session
-        ensures { result ≡ first_migration }
-    {
-        Session {
-            versions: None,
-            number: 1,
-            count: 0,
-        }
-    }
-}
+impl TakesLines for Versions {
+    ghost use Rattle.rb_runs.specs.MigrationSession.{migration_rest, migration_takes};
+    ghost use Rattle.rb_runs.specs.TakesLines.{makes_nothing};
 
-impl Responder for Session {
-    ghost use Rattle.rb_runs.specs.MigrationSession.{migration_is_state, migration_state};
+    ghost rest = { migration_rest };
 
-    ghost state = { migration_state };
+    ghost made = { makes_nothing };
 
-    ghost made = { λ _ _. tt };
-
-    fn number(&self) -> u64 {
-        self.number
+    fn open(
+        alloc: Global,
+        line: &[u8],
+        buffered: &mut Vec<u8>,
+    ) -> Result<(Versions, u64), LineFault> {
+        let versions = answer_config(alloc, line, buffered)?;
+        Ok((versions, 1))
     }
 
-    fn answer_line(
+    #[inline(always)]
+    fn take(
         &mut self,
         alloc: Global,
         line: &[u8],
         buffered: &mut Vec<u8>,
-    ) -> Result<(), ScriptFault> {
-        let number = self.number;
-        self.number = number + 1;
-        if is_blank(line) {
-            return Ok(());
-        }
-        let Some(versions) = &self.versions else {
-            match open(alloc, line, buffered) {
-                Ok(versions) => self.versions = Some(versions),
-                Err(why) => return Err(fault_at(why, ScriptFault::BadConfig { line: number })),
-            }
-            self.count += 1;
-            return Ok(());
-        };
-        match answer_entry(alloc, versions, line, buffered) {
-            Ok(()) => self.count += 1,
-            Err(why) => return Err(fault_at(why, ScriptFault::BadLine { line: number })),
-        }
-        Ok(())
+    ) -> Result<u64, LineFault> {
+        answer_entry(alloc, self, line, buffered)?;
+        Ok(1)
     }
 
-    fn end(&self) -> Result<u64, ScriptFault> {
-        match self.versions {
-            Some(_) => Ok(self.count),
-            None => Err(ScriptFault::NoConfig),
-        }
-    }
+    fn close(self) {}
 
-    ghost is_run_state = { migration_is_state };
+    ghost takes = { migration_takes };
 }

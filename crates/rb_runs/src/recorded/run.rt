@@ -9,6 +9,7 @@ ghost use Rattle.rb_runs.specs.Texts.{text_of};
 ghost use Rattle.rb_runs.specs.Writing.{Writes};
 ghost use Rattle.rb_runs.specs.declared.recorded.unwritten.Unwritten.TheVariants.{Write as NotWritten};
 
+use crate::lines::Lines;
 use crate::recorded::recorder::{Recorder, RecordingWorld};
 use crate::recorded::text::write_text;
 use crate::recorded::unwritten::Unwritten;
@@ -57,14 +58,15 @@ pub fn run_histories<S: Source, W: Sink>(
     // There are up to `MOST_READS` reads, whatever is answered.
     ensures calls { S.calls reader.new ≤ S.calls reader.old + MOST_READS }
 {
-    let mut recorder = Recorder::new();
-    if let Err(fault) = take_lines(alloc, reader, writer, &mut recorder) {
-        recorder.close();
+    let mut lines = Lines::<Recorder>::new();
+    if let Err(fault) = take_lines(alloc, reader, writer, &mut lines) {
+        lines.close();
         return Err(fault);
     }
-    let Some(world) = recorder.into_world() else {
+    let Some(recorder) = lines.into_opened() else {
         return Err(ScriptFault::NoConfig);
     };
+    let Recorder { world, reply: _ } = recorder;
     match write_world(alloc, writer, world) {
         Ok(()) => Ok(()),
         Err(Unwritten::Write) => Err(ScriptFault::Write),

@@ -25,10 +25,3 @@ pub fn open_world<E: KeepsEntry>(
         Err(_) => Err(LineFault::OutOfMemory),
     }
 }
-
-/// Ends a world, if there is one. Nobody asks for its reports.
-pub fn end_world<E: KeepsEntry>(world: Option<World<E, ErasedEvent>>) {
-    if let Some(world) = world {
-        let _reports = world.close();
-    }
-}

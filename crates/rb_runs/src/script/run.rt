@@ -5,6 +5,7 @@ ghost use Rattle.rb_runs.specs.Script.{ScriptEndsAs};
 ghost use Rattle.rb_lines.specs.declared.fault.ScriptFault.TheVariants.{Gather, Read, Write};
 ghost use Rattle.rb_lines.specs.declared.limits.TheConstants.{MOST_READS};
 
+use crate::lines::Lines;
 use crate::script::session::Session;
 use rb_lines::{ScriptFault, Sink, Source, run_lines};
 use std::alloc::Global;
@@ -31,8 +32,8 @@ pub fn run_script<S: Source, W: Sink>(
     // There are up to `MOST_READS` reads, whatever is answered.
     ensures calls { S.calls reader.new ≤ S.calls reader.old + MOST_READS }
 {
-    let mut session = Session::new();
-    let answered = run_lines(alloc, reader, writer, &mut session);
-    session.close();
+    let mut lines = Lines::<Session>::new();
+    let answered = run_lines(alloc, reader, writer, &mut lines);
+    lines.close();
     answered
 }

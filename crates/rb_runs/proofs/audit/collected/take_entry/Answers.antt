@@ -5,7 +5,7 @@ use Rattle.rb_runs.proofs.audit.collected.take_entry.Goals as goal
 
 pub returns-in-Ok : goal.returns-in-Ok
 returns-in-Ok c = (
-  (c.in-Ok.site, c.entry_of.new.entry),
-  ap (λ s. entry_on s c.args.line.now) (sym c.config.ensures.same) ∙ c.in-Ok.ensures.0,
-  c.in_ok-take-in-Ok.ensures.ok,
+  (c.in_ok-site.site, c.entry_of.new.entry),
+  ap (λ s. entry_on s c.args.line.now) (sym c.config.ensures.same) ∙ c.in_ok-site.ensures.0,
+  c.in-Ok.ensures.ok,
 )

@@ -1,6 +1,6 @@
 use Rattle.std.proofs.Common.{rules, ◌≡◌, Err}
 use Rattle.std.proofs.lemmas.Bool.{false_from_ne_true}
-use Rattle.rb_runs.proofs.Lines.{history_goes_on, history_stops}
+use Rattle.rb_runs.proofs.HistoryLines.{history_goes_on, history_stops}
 use Rattle.rb_runs.proofs.recorded.text.write_history.Goals as goal
 
 pub returns-in_err-write_entry-clause-written : goal.returns-in_err-write_entry-clause-written

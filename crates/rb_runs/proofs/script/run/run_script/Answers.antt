@@ -3,11 +3,12 @@ use Rattle.std.proofs.Common.{List, ℕ, subst}
 use Rattle.std.specs.Prelude.{IfSome}
 use Rattle.std.specs.Io.KnownBytes.{Appends}
 use Rattle.rb_lines.specs.Answers.{RunEndsAs}
-use Rattle.rb_runs.specs.ScriptSession.{session_state}
+use Rattle.rb_runs.specs.ScriptSession.{session_rest}
+use Rattle.rb_runs.specs.TakesLines.{lines_state}
 use Rattle.rb_runs.proofs.script.run.run_script.Goals as goal
 
 pub returns-clause-written : goal.returns-clause-written
 returns-clause-written g c =
     subst (λ s. (text : List ℕ) × Appends (g.W.Sink.contents c.args.writer.now) (g.W.Sink.contents c.run_lines-answered.new.writer) text
-    × IfSome (g.S.Source.remaining c.args.reader.now) (λ input. RunEndsAs (session_state s).rest c.run_lines-answered.result input
-    (g.S.Source.remaining c.run_lines-answered.new.reader) text)) c.new-session.ensures c.run_lines-answered.ensures.written
+    × IfSome (g.S.Source.remaining c.args.reader.now) (λ input. RunEndsAs (lines_state session_rest s).rest c.run_lines-answered.result input
+    (g.S.Source.remaining c.run_lines-answered.new.reader) text)) c.new-lines.ensures c.run_lines-answered.ensures.written

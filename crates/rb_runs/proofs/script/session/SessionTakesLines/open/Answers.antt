@@ -1,0 +1,10 @@
+use Rattle.std.proofs.Common.{[], sym, append-nil}
+use Rattle.rb_money.specs.declared.refusal.Refusal.TheVariants.{NoSite}
+use Rattle.rb_site.specs.declared.reply.Reply.TheVariants.{Refused}
+use Rattle.rb_runs.proofs.Opens.{opens}
+use Rattle.rb_runs.proofs.script.session.SessionTakesLines.open.Goals as goal
+
+pub returns : goal.returns
+returns c =
+    let (settings, on, opened) = c.in_ok-world.ensures in
+    ([], sym (append-nil c.args._buffered.now.items), opens (record { world = c.in_ok-world.world; reply = Refused NoSite }) settings c.args.line.now c.requires.short c.requires.some on opened)
