@@ -383,8 +383,8 @@ class Pretended:
 
 
 def dropped_messages(asked, folder):
-    """Messages that don't fit are dropped, and nothing is asked while none is taken; once they are, all come again, some
-    in another turn, in order, to this site alone, and the replies are those of clients alone."""
+    """Messages that don't fit are dropped, and nothing is asked while none is taken; once they are, all come again,
+    some in another turn, in order, to this site alone, and the replies are those of clients alone."""
     site = Pretended(asked, folder)
     guard = threading.Timer(PATIENCE[0], site.run.kill)
     guard.start()
@@ -437,7 +437,7 @@ def options():
     reader.add_argument("--stop", metavar="SECONDS", type=float, default=2, help="how long a site is stopped, 2")
     reader.add_argument("--wire", metavar="PATH", default=WIRE, help="another wire.py")
     reader.add_argument("--alone", action="store_true", help="try wire.py alone, without sites")
-    reader.add_argument("--patience", metavar="SECONDS", type=float, default=PATIENCE[0], help="with what is frozen, 60")
+    reader.add_argument("--patience", metavar="SECONDS", type=float, default=60, help="with what is frozen, 60")
     reader.add_argument("--quiet", action="store_true", help="print only what failed")
     asked = reader.parse_args()
     if not os.access(asked.program, os.X_OK) or os.path.isdir(asked.program):
