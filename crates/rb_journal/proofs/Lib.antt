@@ -1,4 +1,5 @@
 pub mod Public
+mod OneTurn
 mod Batches
 mod Ends
 mod Crash

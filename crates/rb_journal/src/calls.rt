@@ -1,12 +1,16 @@
 //! Each call in a log, by its kind: what a host that keeps the log then says of its file and of its output.
-ghost use Rattle.std.specs.Prelude.{◌≡◌, ◌+◌, ◌<◌, ◌≤◌, ◌↔◌, ◌++◌, [], List, ℕ, length, take, IsTrue, IsOk, IsSome};
+ghost use Rattle.std.specs.Prelude.{◌≡◌, ◌+◌, ◌<◌, ◌≤◌, ◌↔◌, ◌++◌, [], ◌∷◌, List, ℕ, length, take, false};
+ghost use Rattle.std.specs.Prelude.{IsTrue, IsOk, IsSome};
 ghost use Rattle.std.specs.Prelude.{IfSome, OnOk, IfOk};
 ghost use Rattle.std.specs.Option.{ForSome};
 ghost use Rattle.rb_journal.specs.Host.{Only, StepsFrom, Torn, Cut, IsWritten, Silent, Outputs, AddsPrefix, Elapses};
 ghost use Rattle.rb_journal.specs.Host.{DiskCause, OutputCause};
 ghost use Rattle.rb_journal.specs.Calls.{content_of, output_of, kept_of, leaves, left_since, faults_of};
+ghost use Rattle.rb_journal.specs.Planned.{cut_event, found_event, kept_event, made_event, output_event};
+ghost use Rattle.rb_journal.specs.Planned.{sync_event, wrote_event};
 
 use crate::HostError;
+use crate::call::Call;
 use crate::call_log::CallLog;
 
 const FOUND: u64 = 0;
@@ -23,8 +27,22 @@ const OUTPUT_FAILED: u64 = 5;
 
 const KEPT: u64 = 6;
 
+/// A call that was made as it was asked for.
+pub(crate) fn made(log: &mut CallLog, call: &Call)
+    ensures { log.new.events ≡ made_event call.now ∷ log.old.events }
+{
+    match call {
+        Call::Write { at, bytes } => log.note(&[WROTE, *at as u64, 1], bytes),
+        Call::Cut { len } => log.note(&[CUT, *len as u64, 1], &[]),
+        Call::Sync => log.note(&[SYNCED, 0, 1], &[]),
+        Call::Keep { lines: _, bytes } => log.note(&[KEPT, 0, 1], bytes),
+        Call::PutOut { bytes } => log.note(&[PUT_OUT, bytes.len() as u64, 1], bytes),
+    }
+}
+
 /// A file was opened, and these were its bytes, all of them on the disk.
 pub(crate) fn found(bytes: &[u8]) -> CallLog
+    ensures noted { result.events ≡ found_event bytes.now ∷ [] }
     ensures content { content_of result.events ≡ bytes.now }
     ensures durable { Only bytes.now (leaves result.events) }
     ensures output { output_of result.events ≡ [] }
@@ -39,6 +57,7 @@ pub(crate) fn found(bytes: &[u8]) -> CallLog
 /// A write of these bytes at this place, and whether it succeeded.
 pub(crate) fn wrote(log: &mut CallLog, at: usize, bytes: &[u8], ok: bool) -> Result<(), HostError>
     requires { faults_of log.old.events ≡ 0 }
+    ensures noted { IsTrue ok → log.new.events ≡ wrote_event at bytes.now ∷ log.old.events }
     ensures ok { IsTrue ok ↔ IsOk result }
     ensures usable { OnOk result (faults_of log.new.events ≡ 0) }
     ensures written { IsWritten (content_of log.old.events) at bytes.now (content_of log.new.events) }
@@ -62,7 +81,9 @@ pub(crate) fn wrote(log: &mut CallLog, at: usize, bytes: &[u8], ok: bool) -> Res
 /// A cut to this length, and whether it succeeded.
 pub(crate) fn cut(log: &mut CallLog, len: usize, ok: bool) -> Result<(), HostError>
     requires { faults_of log.old.events ≡ 0 }
+    ensures noted { IsTrue ok → log.new.events ≡ cut_event len ∷ log.old.events }
     ensures ok { IsTrue ok ↔ IsOk result }
+    ensures counted { ok ≡ false → 0 < faults_of log.new.events }
     ensures usable { OnOk result (faults_of log.new.events ≡ 0) }
     ensures cut { content_of log.new.events ≡ take len (content_of log.old.events) }
     ensures crash { StepsFrom (Cut len) (leaves log.old.events) (leaves log.new.events) }
@@ -85,6 +106,7 @@ pub(crate) fn cut(log: &mut CallLog, len: usize, ok: bool) -> Result<(), HostErr
 /// A sync, and whether it succeeded.
 pub(crate) fn synced(log: &mut CallLog, ok: bool) -> Result<(), HostError>
     requires { faults_of log.old.events ≡ 0 }
+    ensures noted { IsTrue ok → log.new.events ≡ sync_event ∷ log.old.events }
     ensures ok { IsTrue ok ↔ IsOk result }
     ensures usable { OnOk result (faults_of log.new.events ≡ 0) }
     ensures durable { OnOk result (Only (content_of log.old.events) (leaves log.new.events)) }
@@ -109,6 +131,7 @@ pub(crate) fn synced(log: &mut CallLog, ok: bool) -> Result<(), HostError>
 /// These bytes were added to the file that keeps what is cut off, and whether all of it succeeded.
 pub(crate) fn kept(log: &mut CallLog, bytes: &[u8], ok: bool) -> Result<(), HostError>
     requires { faults_of log.old.events ≡ 0 }
+    ensures noted { IsTrue ok → log.new.events ≡ kept_event bytes.now ∷ log.old.events }
     ensures ok { IsTrue ok ↔ IsOk result }
     ensures usable { OnOk result (faults_of log.new.events ≡ 0) }
     ensures kept { OnOk result (kept_of log.new.events ≡ kept_of log.old.events ++ bytes.now) }
@@ -137,6 +160,7 @@ pub(crate) fn output(
 ) -> Result<usize, HostError>
     requires usable { faults_of log.old.events ≡ 0 }
     requires count { ForSome count (λ n. (0 < n) × (n ≤ length bytes.now)) }
+    ensures noted { IfSome count (λ n. log.new.events ≡ output_event n bytes.now ∷ log.old.events) }
     ensures ok { IsSome count ↔ IsOk result }
     ensures same { IfSome count (λ n. result ≡ Ok n) }
     ensures usable { OnOk result (faults_of log.new.events ≡ 0) }

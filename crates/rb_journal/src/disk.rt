@@ -154,6 +154,8 @@ impl<R: Files<File = fs::File> + Clock + Eprint + AllocGlobal, P: Print> Host fo
 
     ghost may_leave = { λ h. leaves h.log.events };
 
+    ghost reported = { λ _. [] };
+
     ghost moment = { λ h. length h.log.events };
 
     ghost left_since = { λ h. left_since h.log.events };

@@ -4,6 +4,7 @@ ghost use Rattle.rb_journal.specs.declared.host.HostError.TheVariants.{Memory};
 ghost use Rattle.rb_journal.specs.Host.{Only, StepsFrom, Torn, Cut, IsWritten, Silent, Outputs, AddsPrefix, Elapses};
 ghost use Rattle.rb_journal.specs.Host.{DiskCause, MayBeCut, OutputCause};
 ghost use Rattle.rb_journal.specs.Lines.{recovered};
+ghost use Rattle.rb_journal.specs.Calls.{NotedCall};
 
 use std::alloc::{AllocError, AllocFailed};
 
@@ -53,6 +54,9 @@ pub trait Host {
     /// The files that a crash at this moment may leave.
     ghost may_leave: { Self → List ℕ → Type 0 };
 
+    /// The calls that somebody else made and reported, of a host that makes none itself: no call of it changes them.
+    ghost reported: { Self → List NotedCall };
+
     /// The moment, as a number that doesn't fall.
     ghost moment: { Self → ℕ };
 
@@ -73,6 +77,7 @@ pub trait Host {
         ensures crash { StepsFrom (Torn at bytes.now) (may_leave self.old) (may_leave self.new) }
         ensures output { output self.new ≡ output self.old }
         ensures kept { kept self.new ≡ kept self.old }
+        ensures reported { reported self.new ≡ reported self.old }
         ensures time { Elapses (moment self.old) (moment self.new) (left_since self.old) (left_since self.new)
             (Silent (may_leave self.new) (output self.old)) }
         ensures cause { DiskCause (faults self.old) (faults self.new) result };
@@ -87,6 +92,7 @@ pub trait Host {
         ensures crash { StepsFrom (Cut len) (may_leave self.old) (may_leave self.new) }
         ensures output { output self.new ≡ output self.old }
         ensures kept { kept self.new ≡ kept self.old }
+        ensures reported { reported self.new ≡ reported self.old }
         ensures time { Elapses (moment self.old) (moment self.new) (left_since self.old) (left_since self.new)
             (Silent (may_leave self.new) (output self.old)) }
         ensures cause { DiskCause (faults self.old) (faults self.new) result };
@@ -98,6 +104,7 @@ pub trait Host {
         requires lines { lines ≡ length (recovered (content self.old)) }
         ensures usable { OnOk result (is_usable self.new) }
         ensures kept { OnOk result (kept self.new ≡ kept self.old ++ bytes.now) }
+        ensures reported { reported self.new ≡ reported self.old }
         ensures content { content self.new ≡ content self.old }
         ensures crash { (c : List ℕ) → may_leave self.new c → may_leave self.old c }
         ensures output { output self.new ≡ output self.old }
@@ -114,6 +121,7 @@ pub trait Host {
         ensures crash { (c : List ℕ) → may_leave self.new c → may_leave self.old c }
         ensures output { output self.new ≡ output self.old }
         ensures kept { kept self.new ≡ kept self.old }
+        ensures reported { reported self.new ≡ reported self.old }
         ensures time { Elapses (moment self.old) (moment self.new) (left_since self.old) (left_since self.new)
             (Silent (may_leave self.new) (output self.old)) }
         ensures cause { DiskCause (faults self.old) (faults self.new) result };
@@ -128,6 +136,7 @@ pub trait Host {
         ensures output { IfOk result (λ n. output self.new ≡ output self.old ++ take n bytes.now) }
         ensures output_some { AddsPrefix (output self.old) bytes.now (output self.new) }
         ensures kept { kept self.new ≡ kept self.old }
+        ensures reported { reported self.new ≡ reported self.old }
         ensures content { content self.new ≡ content self.old }
         ensures crash { (c : List ℕ) → may_leave self.new c → may_leave self.old c }
         ensures time { Elapses (moment self.old) (moment self.new) (left_since self.old) (left_since self.new)

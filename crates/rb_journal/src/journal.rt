@@ -39,6 +39,7 @@ impl<H: Host> Journal<H> {
         ensures lines { IfOk result (λ journal. recovered (H.content journal.host) ≡ recovered bytes.now) }
         ensures output { IfOk result (λ journal. H.output journal.host ≡ H.output host) }
         ensures output_err { IfErr result (λ e. H.output e.1 ≡ H.output host) }
+        ensures reported { IfOk result (λ journal. H.reported journal.host ≡ H.reported host) }
 
         // The bytes that are cut off are kept before, unless they are a bare gate.
         ensures kept { IfOk result (λ journal. H.kept journal.host ≡ H.kept host ++ what_is_cut bytes.now) }
@@ -77,6 +78,7 @@ impl<H: Host> Journal<H> {
         ensures lines { OnOk result (recovered (H.content self.new.host) ≡ recovered (H.content self.old.host)
             ++ recovered batch.now) }
         ensures output { H.output self.new.host ≡ H.output self.old.host }
+        ensures reported { H.reported self.new.host ≡ H.reported self.old.host }
 
         // A crash at any moment of the call leaves the lines from before it, with all of the batch or none of it.
         ensures any_moment { LeavesOnly H.moment H.left_since self.old.host self.new.host
@@ -150,6 +152,7 @@ fn stage<H: Host>(host: &mut H, end: usize, tail: &[u8]) -> Result<(), HostError
         ∷ (tail.now ++ 32 ∷ [])) }
     ensures durable { OnOk result (Only (H.content host.new) (H.may_leave host.new)) }
     ensures output { H.output host.new ≡ H.output host.old }
+    ensures reported { H.reported host.new ≡ H.reported host.old }
     ensures any_moment { LeavesOnly H.moment H.left_since host.old host.new
         (λ c d. HasClosedGate (recovered (H.content host.old)) (length tail.now + 1) c × (d ≡ H.output host.old)) }
     ensures later { H.faults host.old ≤ H.faults host.new }
@@ -206,6 +209,7 @@ fn keep_rest<H: Host>(host: &mut H, lines: u64, rest: &[u8]) -> Result<(), HostE
     ensures content { H.content host.new ≡ H.content host.old }
     ensures crash { (c : List ℕ) → H.may_leave host.new c → H.may_leave host.old c }
     ensures output { H.output host.new ≡ H.output host.old }
+    ensures reported { H.reported host.new ≡ H.reported host.old }
     ensures time { Elapses (H.moment host.old) (H.moment host.new) (H.left_since host.old) (H.left_since host.new)
         (Silent (H.may_leave host.new) (H.output host.old)) }
     ensures cause { DiskCause (H.faults host.old) (H.faults host.new) result }
@@ -230,6 +234,7 @@ pub fn recover<H: Host>(host: &mut H, bytes: &[u8]) -> Result<usize, HostError>
     ensures same { OnOk result (recovered (H.content host.new) ≡ recovered bytes.now) }
     ensures durable { OnOk result (Only (H.content host.new) (H.may_leave host.new)) }
     ensures output { H.output host.new ≡ H.output host.old }
+    ensures reported { H.reported host.new ≡ H.reported host.old }
     ensures kept { OnOk result (H.kept host.new ≡ H.kept host.old ++ what_is_cut bytes.now) }
 
     // A crash at any moment leaves the same lines.

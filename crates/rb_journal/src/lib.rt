@@ -12,7 +12,9 @@
 //! Tests: rb_tests, journal.rt, journal_seal.rt; tests/sites.py, tests/crash.py.
 #![tactic(auto)]
 
+mod alone;
 mod batch;
+mod call;
 mod call_log;
 mod calls;
 mod disk;
@@ -25,6 +27,7 @@ mod long;
 mod memory;
 mod named_file;
 mod open_error;
+mod planned;
 mod read_on;
 mod responder;
 mod run;
@@ -33,7 +36,9 @@ mod spare;
 mod waiting;
 mod work;
 
+pub use alone::answer_alone;
 pub use batch::{LineBatch, is_line};
+pub use call::Call;
 pub use disk::{Disk, open_disk};
 pub use fault::ServeFault;
 pub use host::{Host, HostError};
@@ -41,6 +46,7 @@ pub use input::Input;
 pub use journal::{Journal, damaged_line, end_of_lines, recover};
 pub use memory::Memory;
 pub use open_error::OpenError;
+pub use planned::Planned;
 pub use responder::JournaledResponder;
 pub use run::serve;
 pub use seal::is_sealed;

@@ -1,6 +1,6 @@
 //! A file in memory, and an output into memory. A write makes the bytes of the file anew, at the cost of a copy: if
 //! there is no memory for it, they stay those that the log of calls states.
-ghost use Rattle.std.specs.Prelude.{◌≡◌, ◌≤◌, length, IfOk};
+ghost use Rattle.std.specs.Prelude.{◌≡◌, ◌≤◌, [], length, IfOk};
 ghost use Rattle.rb_journal.specs.Host.{IsWritten};
 ghost use Rattle.rb_journal.specs.Calls.{content_of, output_of, kept_of, leaves, left_since, faults_of};
 ghost use Rattle.rb_journal.specs.CallLaws.{now_counts, now_alone};
@@ -23,7 +23,6 @@ pub struct Memory {
 }
 
 impl Memory {
-    ghost use Rattle.std.specs.Prelude.{[]};
     ghost use Rattle.rb_journal.specs.Host.{Only};
     ghost use Rattle.rb_journal.specs.Memory.{memory_log};
 
@@ -90,6 +89,8 @@ impl Host for Memory {
     ghost kept = { λ h. kept_of h.log.events };
 
     ghost may_leave = { λ h. leaves h.log.events };
+
+    ghost reported = { λ _. [] };
 
     ghost moment = { λ h. length h.log.events };
 

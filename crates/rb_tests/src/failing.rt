@@ -41,6 +41,8 @@ impl<H: Host> Host for Failing<H> {
 
     ghost may_leave = { λ h. H.may_leave h.host };
 
+    ghost reported = { λ h. H.reported h.host };
+
     ghost moment = { λ h. H.moment h.host };
 
     ghost left_since = { λ h. H.left_since h.host };
