@@ -8,7 +8,7 @@ mod Ids
 mod NewFiles
 mod Sealing
 mod Stopped
-mod Opened
+mod OpenedFiles
 mod Buffered
 mod Prefixes
 mod Replayed

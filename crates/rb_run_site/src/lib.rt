@@ -4,6 +4,7 @@
 #![tactic(auto)]
 
 mod bad_line;
+mod begin;
 mod entries;
 mod fault;
 mod first_line;
@@ -18,7 +19,9 @@ ghost use Rattle.rb_run_site.specs.Asking.{AskedOnce, AskingIsServing, SameAnswe
 ghost use Rattle.rb_run_site.specs.OtherBanks.{OtherBanksChangeNothing};
 ghost use Rattle.rb_run_site.specs.Restarts.{NewJournalsAreTaken, RestartedRunsAreOne, RestartsAreTaken, RestartsGoOn};
 
+pub use begin::open_on_line;
 pub use fault::{SiteFault, site_message, site_status};
+pub use opening::Opened;
 pub use records::{AllEvents, Changes, Records};
 pub use responder::SiteResponder;
 pub use run::{Ran, run_site};

@@ -49,7 +49,7 @@ impl<M: Records> Opened<M> {
 }
 
 /// The site of the configuration on a line, before any event.
-fn open_node(
+pub fn open_node(
     alloc: Global,
     line: &[u8],
     number: u64,
@@ -69,7 +69,7 @@ fn open_node(
 }
 
 /// Replays the file's entries at a site before any event.
-fn replay_file(
+pub fn replay_file(
     alloc: Global,
     node: &mut Node,
     bytes: &[u8],

@@ -8,7 +8,7 @@ use Rattle.rb_run_site.specs.Journals.{journal_head}
 use Rattle.rb_run_site.specs.Openings.{OpensFile}
 use Rattle.rb_run_site.specs.Replays.{ReplaysLines}
 use Rattle.rb_run_site.proofs.EntryLines.{config_is_line}
-use Rattle.rb_run_site.proofs.Opened.{replayed_file}
+use Rattle.rb_run_site.proofs.OpenedFiles.{replayed_file}
 use Rattle.rb_run_site.proofs.opening.replay_file.Goals as goal
 
 pub entries_in-requires : goal.entries_in-requires

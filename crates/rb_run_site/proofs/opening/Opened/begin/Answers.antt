@@ -1,0 +1,66 @@
+-- A site's file is repaired, and its journal begins.
+use Rattle.std.proofs.Common.{◌≡◌, ◌∙◌, ◌++◌, ⊎_elim, inl, inr, sym, ap, subst, List, ℕ}
+use Rattle.rb_money.specs.Settings.{IsConfigured}
+use Rattle.rb_journal.specs.Alone.{AreEither}
+use Rattle.rb_journal.specs.Host.{LeavesOnly}
+use Rattle.rb_journal.specs.Journal.{IsBeforeOrAfter, IsLeftAs}
+use Rattle.rb_journal.specs.Lines.{recovered}
+use Rattle.rb_journal.proofs.Public.Moments.{runs_on, weaker}
+use Rattle.rb_run_site.specs.Journals.{journal_of}
+use Rattle.rb_run_site.specs.Openings.{IsToBegin}
+use Rattle.rb_run_site.proofs.Going.{Begins, begins}
+use Rattle.rb_run_site.proofs.opening.Opened.begin.Given.{Over}
+use Rattle.rb_run_site.proofs.opening.Opened.begin.Goals.{After-append}
+use Rattle.rb_run_site.proofs.opening.Opened.begin.Goals as goal
+
+pub append-requires-clause-lines : goal.append-requires-clause-lines
+append-requires-clause-lines g c =
+    let x = c.args.self.now.responder.node.site in
+    let lines = recovered c.args.bytes.now in
+    let is = begins c.lines_are_single.ensures.configs lines x c.deref.result.now
+    (subst IsConfigured c.config.ensures c.sites-sites.ensures.configured)
+    c.requires.journal (subst (λ f. IsToBegin lines x f) (sym c.deref.ensures.value) c.requires.begins) in
+    is.batch
+
+-- what is added makes the file's lines those of the site's journal
+whole : (g : Over) (c : After-append g) → recovered (g.H.Host.content c.in-Ok.journal.host) ++ recovered c.deref.result.now
+    ≡ journal_of c.args.self.now.responder.node.site
+whole g c =
+    let x = c.args.self.now.responder.node.site in
+    let lines = recovered c.args.bytes.now in
+    let is = begins c.lines_are_single.ensures.configs lines x c.deref.result.now
+    (subst IsConfigured c.config.ensures c.sites-sites.ensures.configured)
+    c.requires.journal (subst (λ f. IsToBegin lines x f) (sym c.deref.ensures.value) c.requires.begins) in
+    ap (λ ls. ls ++ recovered c.deref.result.now) c.in-Ok.ensures.lines ∙ is.whole
+
+-- a crash leaves the lines from before, or the journal's
+moments : (g : Over) (c : After-append g) → LeavesOnly g.H.Host.moment g.H.Host.left_since c.args.host c.append.new.self.host
+    (λ f d. AreEither (recovered c.args.bytes.now) (journal_of c.args.self.now.responder.node.site) (recovered f)
+    × (d ≡ g.H.Host.output c.args.host))
+moments g c =
+    let host = g.H.Host in
+    let x = c.args.self.now.responder.node.site in
+    let mid = c.in-Ok.journal.host in
+    let lines = recovered c.args.bytes.now in
+    let first = c.deref.result.now in
+    runs_on host.moment host.left_since c.args.host mid c.append.new.self.host _
+    (IsBeforeOrAfter (recovered (host.content mid)) (recovered first) (host.output mid))
+    (weaker host.moment host.left_since c.args.host mid (IsLeftAs lines (host.output c.args.host)) _ c.in-Ok.ensures.any_moment
+    (λ f d at. (inl at.0, at.1)))
+    c.append.ensures.any_moment
+    (λ f d at. (
+      ⊎_elim (λ (was : recovered f ≡ recovered (host.content mid)). inl (was ∙ c.in-Ok.ensures.lines))
+          (λ (now : recovered f ≡ recovered (host.content mid) ++ recovered first). inr (now ∙ whole g c)) at.0,
+      at.1 ∙ c.in-Ok.ensures.output,
+    ))
+
+pub returns-in-Ok-append-clause-lines : goal.returns-in-Ok-append-clause-lines
+returns-in-Ok-append-clause-lines g c =
+    c.in-Ok-append.ensures.lines ∙ whole g (goal.at.returns-in-Ok-append-clause-lines g c).After-append
+
+pub returns-in-Ok-append-clause-any_moment : goal.returns-in-Ok-append-clause-any_moment
+returns-in-Ok-append-clause-any_moment g c = moments g (goal.at.returns-in-Ok-append-clause-any_moment g c).After-append
+
+pub returns-in-Err-append-clause-any_moment_err : goal.returns-in-Err-append-clause-any_moment_err
+returns-in-Err-append-clause-any_moment_err g c =
+    moments g (goal.at.returns-in-Err-append-clause-any_moment_err g c).After-append

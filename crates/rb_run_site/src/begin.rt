@@ -1,0 +1,97 @@
+//! A site that is opened over a file, and its journal, for a caller that has a loop of its own.
+ghost use Rattle.std.specs.Prelude.{◌≡◌, IfErr, IfOk, MatchResult};
+ghost use Rattle.rb_journal.specs.Alone.{AreEither};
+ghost use Rattle.rb_journal.specs.Host.{LeavesOnly, Only};
+ghost use Rattle.rb_journal.specs.Journal.{IsSettled};
+ghost use Rattle.rb_journal.specs.Lines.{recovered};
+ghost use Rattle.rb_run_site.specs.Journals.{journal_of};
+ghost use Rattle.rb_run_site.specs.Openings.{EndsOnLine, IsToBegin, OpensSite};
+ghost use Rattle.rb_run_site.specs.Starts.{IsJournalOf};
+
+use crate::fault::SiteFault;
+use crate::opening::{Opened, open_node, replay_file};
+use crate::records::Records;
+use crate::responder::SiteResponder;
+use rb_history::{BankName, lines_are_single};
+use rb_journal::{Host, HostError, Journal, is_sealed};
+use std::alloc::Global;
+
+/// Opens site `me` (0 to 15) of the configuration on a line, of the bank of the name, with the history in the file of
+/// these bytes, of which nothing is changed yet. `sends` is then what the last `resend` entries sent.
+///
+/// Errors: as those of `run_site` before it changes anything; the configuration's line is line 1.
+pub fn open_on_line<M: Records>(
+    alloc: Global,
+    config: &[u8],
+    bytes: &[u8],
+    me: u8,
+    bank: BankName,
+    resend: usize,
+) -> Result<Opened<M>, SiteFault>
+    ensures { MatchResult result
+        (λ opened. OpensSite config.now me bank resend bytes.now opened.responder.node.site opened.first.items
+        opened.sends.items)
+        (EndsOnLine me bank bytes.now config.now) }
+{
+    if is_sealed(bytes) {
+        return Err(SiteFault::Sealed);
+    }
+    let mut node = open_node(alloc, config, 1, me, bank)?;
+    let mut sends = Vec::new(alloc);
+    match replay_file(alloc, &mut node, bytes, resend, &mut sends) {
+        Ok(first) => {
+            let responder = SiteResponder::new(alloc, node);
+            Ok(Opened {
+                responder,
+                first,
+                sends,
+            })
+        }
+        Err(fault) => {
+            node.close();
+            Err(fault)
+        }
+    }
+}
+
+impl<M: Records> Opened<M> {
+    /// Repairs the end of the site's file, whose bytes these are, and adds the configuration's line if the journal
+    /// doesn't have it yet. At `Ok` the file's lines are those of the site's journal, all of them on the disk. At
+    /// `Err`, open the file again.
+    pub fn begin<H: Host>(&self, host: H, bytes: &[u8]) -> Result<Journal<H>, (HostError, H)>
+        requires usable { H.is_usable host }
+        requires bytes { bytes.now ≡ H.content host }
+        requires durable { Only (H.content host) (H.may_leave host) }
+        requires begins { IsToBegin (recovered bytes.now) self.now.responder.node.site self.now.first.items }
+        requires journal { IsJournalOf (recovered bytes.now) self.now.responder.node.site }
+        ensures settled { IfOk result (λ journal. IsSettled H.is_usable H.content H.may_leave journal) }
+        ensures lines { IfOk result (λ journal. recovered (H.content journal.host)
+            ≡ journal_of self.now.responder.node.site) }
+        ensures output { IfOk result (λ journal. H.output journal.host ≡ H.output host) }
+        ensures reported { IfOk result (λ journal. H.reported journal.host ≡ H.reported host) }
+
+        // A crash at any moment leaves the lines from before, or those of the site's journal.
+        ensures any_moment { IfOk result (λ journal. LeavesOnly H.moment H.left_since host journal.host
+            (λ c d. AreEither (recovered bytes.now) (journal_of self.now.responder.node.site) (recovered c)
+            × (d ≡ H.output host))) }
+        ensures any_moment_err { IfErr result (λ e. LeavesOnly H.moment H.left_since host e.1
+            (λ c d. AreEither (recovered bytes.now) (journal_of self.now.responder.node.site) (recovered c)
+            × (d ≡ H.output host))) }
+        ensures no_output_fault { IfErr result (λ e. e.0 ≡ HostError.OutputFailed → ⊥) }
+    {
+        // For a fact alone: the line of a configuration is a line.
+        lines_are_single();
+        // For a fact alone: the settings are those of a configuration.
+        let _sites = self.responder.node.config().sites();
+        match Journal::open(host, bytes) {
+            Ok(mut journal) => match journal.append(&self.first) {
+                Ok(()) => Ok(journal),
+                Err(error) => {
+                    let Journal { host, end: _ } = journal;
+                    Err((error, host))
+                }
+            },
+            Err(stopped) => Err(stopped),
+        }
+    }
+}
