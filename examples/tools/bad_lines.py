@@ -11,6 +11,7 @@ from json_at import Fault, parse
 BYTE, WORD, LONG = 0xFF, 0xFFFF_FFFF, 0xFFFF_FFFF_FFFF_FFFF
 MOST_CENTS = 100_000_000_000
 LINE_LIMIT = 1_048_576
+ALIKE = 0.65  # how much a known word has to have of another one to be meant: "call" and "once" aren't "cancel"
 SITES_OF_VERSION = {1: 8, 2: 16}
 LIMITS = {"blue": 1_000_000, "red": 1_000_000, "inbox": 4_096, "history": 100_000_000, "epoch": 4_000_000_000}
 KINDS = ("deposit", "withdraw", "declined", "interest", "cancel", "transfer")
@@ -26,7 +27,7 @@ def is_a(node, kind, what):
 
 def near(word, known):
     """A known word that may have been meant, else all of them."""
-    found = difflib.get_close_matches(word.lower(), known, 1)
+    found = difflib.get_close_matches(word.lower(), known, 1, ALIKE)
     return f'did you mean "{found[0]}"?' if found else f"there are: {', '.join(known)}"
 
 
