@@ -76,6 +76,8 @@ class Reader:
         if first in "]}":
             what = "a comma is left over" if self.text[:at].rstrip().endswith(",") else "a value is missing"
             raise Fault(at, f"{what} before {first}")
+        if word in ("NaN", "Infinity"):
+            raise Fault(at, f"{word} is no number: one is written with digits")
         raise Fault(at, f'{word or first} is no value: a text is between " and "')
 
     def number(self, at):

@@ -1,0 +1,14 @@
+-- A run over the lines of a migration is a run from its first line.
+use Rattle.std.proofs.Common.{List, ℕ, subst}
+use Rattle.std.specs.Prelude.{IfSome}
+use Rattle.std.specs.Io.KnownBytes.{Appends}
+use Rattle.rb_lines.specs.Answers.{RunEndsAs}
+use Rattle.rb_runs.specs.MigrationSession.{migration_rest}
+use Rattle.rb_runs.specs.TakesLines.{lines_state}
+use Rattle.rb_runs.proofs.migrate.run.run_migrate.Goals as goal
+
+pub returns-clause-written : goal.returns-clause-written
+returns-clause-written g c =
+    subst (λ s. (text : List ℕ) × Appends (g.W.Sink.contents c.args.writer.now) (g.W.Sink.contents c.run_lines-answered.new.writer) text
+    × IfSome (g.S.Source.remaining c.args.reader.now) (λ input. RunEndsAs (lines_state migration_rest s).rest c.run_lines-answered.result input
+    (g.S.Source.remaining c.run_lines-answered.new.reader) text)) c.new-lines.ensures c.run_lines-answered.ensures.written
