@@ -5,8 +5,9 @@
 //! `read` the JSON value of any line. In `lines` a line is given to the first, and then to the second. Words, ids,
 //! accounts and refusals are said once for both. The rest of the grammar is said in each: a reader of one text looks
 //! for the member that comes next, and one of a value for a member by its key, in any order. When the readers of
-//! commands and of histories became one, an application and a statement took 40 % more instructions (bench/README.md),
-//! so that no more is shared than these words. Tests: rb_tests_runs, commands.rt, replies.rt, entries.rt.
+//! commands and of histories became one, an application and a statement took 40 % more instructions (bench/README.md).
+//! Refusals that were read once, over a trait of two sources, took as many as before, but 400 lines more, most of them
+//! of proofs. So no more is shared than these words. Tests: rb_tests_runs, commands.rt, replies.rt, entries.rt.
 #![tactic(auto)]
 
 mod accounts;
