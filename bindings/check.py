@@ -60,8 +60,8 @@ def compiled(name, *flags):
     out = os.path.join(build.OUT, name + ("-asan" if flags else ""))
     strict = ["-std=c11", "-D_DEFAULT_SOURCE", "-Wall", "-Wextra", "-Wpedantic", "-Werror", "-O1", "-g", "-pthread"]
     wanted = f'-DRBBANK_WANTED_VERSION="{build.version()}"'
-    source = os.path.join(HERE, "c", name + ".c")
-    _, errors, status = run([build.c_compiler(), *strict, wanted, *flags, "-o", out, source, build.STATIC])
+    sources = [os.path.join(HERE, "c", one + ".c") for one in ([name, "rbbank_file"] if name == "journal" else [name])]
+    _, errors, status = run([build.c_compiler(), *strict, wanted, *flags, "-o", out, *sources, build.STATIC])
     if status != 0:
         print(errors.decode(), file=sys.stderr)
         return None
@@ -76,6 +76,7 @@ def of_c():
     yield "C, each allocation refused, under AddressSanitizer", passes([refused])
     yield "C, example.c", example()
     yield "C, restart.c", restart()
+    yield "C, journal.c", goes_on([compiled("journal")])
     if shutil.which("pkg-config"):
         yield "C, installed, with pkg-config", installed()
 
@@ -125,6 +126,28 @@ def restart():
             and another == (b"", b"restart: the journal has a line that isn't the site's next entry\n", 1))
 
 
+def goes_on(words):
+    """Whether a site that is killed behind each answer goes on from its journal's file, and leaves it as the program
+    would."""
+    if words[0] is None:
+        return False
+    answers = []
+    with tempfile.TemporaryDirectory() as folder:
+        journal = os.path.join(folder, "journal")
+        for _ in range(3):
+            with subprocess.Popen([*words, "0", journal], stdin=subprocess.PIPE, stdout=subprocess.PIPE) as site:
+                site.stdin.write(b'{"deposit":["ann",500]}\n')
+                site.stdin.flush()
+                answers.append(site.stdout.readline())
+                site.kill()
+        found, errors, status = run([*words, "0", journal], b'{"balance":"ann"}\n\n{}')
+        kept = stored(journal)
+    names = [re.match(rb'\{"reply":\{"kind":"deposit","name":"B0\.(\d)"\},', line)[1] for line in answers]
+    answer = b'{"reply":{"balance":1500},"sends":[],"then":[]}\n{"bad":"line","line":4}\n'
+    whole = kept.endswith(b'"site":0}\n ')
+    return whole and names == [b"1", b"2", b"3"] and (found, errors, status) == (answer, b"", 0)
+
+
 def installed():
     """Whether a program is built by what `make install-libs` copied and pkg-config says, with either library."""
     with tempfile.TemporaryDirectory() as folder:
@@ -148,6 +171,7 @@ def installed():
 def of_rust():
     crate = os.path.join(HERE, "rust")
     yield "Rust, tests and documentation", passes(["cargo", "test", "--offline", "--quiet"], crate)
+    yield "Rust, journal.rs", goes_on(example_of_rust("journal"))
     yield "Rust, no warning", passes(["cargo", "build", "--offline", "--quiet", "--all-targets"], crate, quiet=True)
     pages = ["cargo", "doc", "--offline", "--quiet", "--no-deps"]
     yield "Rust, no warning of its pages", passes(pages, crate, quiet=True)
@@ -159,6 +183,7 @@ def of_rust():
 def of_python():
     folder = os.path.join(HERE, "python")
     yield "Python, tests and documentation", passes([sys.executable, "test_rbbank.py"], folder)
+    yield "Python, journal.py", goes_on([sys.executable, os.path.join(folder, "journal.py")])
     if shutil.which("mypy"):
         yield "Python, types", passes(["mypy", "--cache-dir", os.devnull, "rbbank"], folder)
     yield "Python, a wheel without a network", wheel(folder)
@@ -191,10 +216,15 @@ def passes(words, folder=None, quiet=False):
     return fine
 
 
-def rows_of_rust():
-    words = ["cargo", "build", "--offline", "--quiet", "--release", "--example", "rows"]
+def example_of_rust(name):
+    """The words that run an example of the crate."""
+    words = ["cargo", "build", "--offline", "--quiet", "--release", "--example", name]
     fine = passes(words, os.path.join(HERE, "rust"))
-    return [os.path.join(build.OUT, "cargo", "release", "examples", "rows")] if fine else [None]
+    return [os.path.join(build.OUT, "cargo", "release", "examples", name)] if fine else [None]
+
+
+def rows_of_rust():
+    return example_of_rust("rows")
 
 
 # Each language: what has to be there, its tests, and the words that run its rows.

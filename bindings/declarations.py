@@ -76,12 +76,12 @@ def exports():
 
 
 def of_c():
-    """Each call of the header. A bank's and a site's handle are each of its own type there."""
+    """Each call of the header. The handles of a bank, a site and a journal are each of its own type there."""
     text = re.sub(r"/\*.*?\*/", " ", read(HERE, "c", "rbbank.h"), flags=re.S)
     found = {}
     for result, name, takes in re.findall(r"(?m)^(int32_t|size_t|void) +(\w+)\(([^)]*)\);", text):
-        handle = "struct rbbank_site *" if name.startswith("rbbank_site_") else "struct rbbank *"
-        kinds = OF_C | {handle: "handle"}
+        kind = re.match("rbbank(_site|_journal)?(?=_)", name)[0]
+        kinds = OF_C | {f"struct {kind} *": "handle"}
         found[name] = [kinds[kind] for kind in [result, *(re.sub(r"\w+$", "", one).strip() for one in parts(takes))]]
     return found
 

@@ -44,8 +44,10 @@ enum {
     RBBANK_OK = 0,
     RBBANK_NONE = 1,     /* the handle is zeroed or closed, by its caller or by a status below: nothing happened */
     RBBANK_BAD_LINE = 2, /* no command, no event, no entry of this site: nothing changed; no configuration: closed */
-    RBBANK_REFUSED = 3,  /* rbbank_site_open: no such site; rbbank_site_replay: the site gives another reply than the
-                            entry has, or its history is full: closed; rbbank_site_send: no such message */
+    RBBANK_REFUSED = 3,  /* rbbank_site_open and rbbank_journal_open: no such site; rbbank_site_replay: the site gives
+                            another reply than the entry has, or its history is full: closed; rbbank_site_send and
+                            rbbank_journal_send: no such message; rbbank_journal_answer: calls on the file are left, and
+                            rbbank_journal_done: none is left: nothing has changed */
     RBBANK_NO_MEMORY = 4 /* memory ran out: the handle is closed, and the last answer is lost; rbbank_site_send:
                             nothing has changed */
 };
@@ -122,6 +124,67 @@ int32_t rbbank_site_replay(struct rbbank_site *site, const char *line, size_t le
 
 /* Ends the site, and gives its memory back. The handle is zeroed, and may be opened again. */
 void rbbank_site_close(struct rbbank_site *site);
+
+/* ---- One site with its journal in a file, as `rbbank site` has it, in a program with a loop of its own
+ *
+ * No call here opens a file. After an open and after each answer rbbank_journal_call says which call on the file is to
+ * be made next; the caller makes it, says by rbbank_journal_done how it ended, and asks again, until none is left. Only
+ * then is there a reply: so nothing is seen that a crash takes back. rbbank_file.h and rbbank_file.c do all of this on
+ * a Unix system. */
+
+struct rbbank_journal {
+    void *at;
+};
+
+/* What rbbank_journal_open returns, beside 0, RBBANK_BAD_LINE, RBBANK_REFUSED and RBBANK_NO_MEMORY. The handle is
+ * closed, and the file is to stay as it is. */
+enum {
+    RBBANK_ANOTHER_JOURNAL = 5, /* the file is another bank's journal, or none */
+    RBBANK_BAD_ENTRY = 6,       /* the line is no entry of this site */
+    RBBANK_WRONG_REPLY = 7,     /* the site gives another reply than the line has, or its history is full */
+    RBBANK_DAMAGED = 8,         /* a byte that no crash leaves is where the line, or the gate before it, should begin */
+    RBBANK_SEALED = 9           /* the journal is sealed */
+};
+
+/* Opens site `me` (0 to 15) of the bank of a configuration's line over its journal, of whose file these are all bytes:
+ * none if it is new. They are all on the disk, and nobody else writes the file until the handle is closed. Calls are
+ * left then, and behind them the reply is what the last `resend` entries sent, a line for each that sent any.
+ * 0, 2, 3 (no such site), 4 or one of those above. With 6, 7 and 8 `*number` is the line's number in the file, from 1;
+ * else 0. */
+int32_t rbbank_journal_open(struct rbbank_journal *journal, uint8_t me, size_t resend, const char *config,
+                            size_t length, const char *file, size_t file_length, uint64_t *number);
+
+/* Answers a line as `rbbank site` does: an event, a question, or by {"bad":"line","line":..} with its `number`; a blank
+ * line has no answer. Calls are left then if anything was recorded. 0; 1; 3: calls of the answer before are left, and
+ * nothing has changed; 4: the site is ended. */
+int32_t rbbank_journal_answer(struct rbbank_journal *journal, size_t number, const char *line, size_t length);
+
+/* What rbbank_journal_call returns, beside 0. */
+enum {
+    RBBANK_CALL_WRITE = 1, /* write the bytes at `*at`, over what is there, and past the end */
+    RBBANK_CALL_CUT = 2,   /* cut the file to `*at` bytes, and wait until that is on the disk */
+    RBBANK_CALL_SYNC = 3,  /* wait until all that was written is on the disk */
+    RBBANK_CALL_KEEP = 6   /* add the bytes, which are about to be cut off, to a file beside it that keeps them, and
+                              wait until they are on the disk */
+};
+
+/* The call that is to be made next: copies its bytes, of which there are `*length`, as rbbank_reply does. It is the
+ * same until rbbank_journal_done. 0 if none is left, or there is no site. */
+int32_t rbbank_journal_call(struct rbbank_journal *journal, char *out, size_t capacity, size_t *length, uint64_t *at);
+
+/* Says that the next call was made, and succeeded (`made` is 1), or failed (0), which ends the site: open the file
+ * again. 0; 1: there is no site, or none any more; 3: no call is left, and nothing has changed. */
+int32_t rbbank_journal_done(struct rbbank_journal *journal, uint8_t made);
+
+/* Copies the kept answer, as rbbank_site_reply does; none as long as calls are left. */
+size_t rbbank_journal_reply(struct rbbank_journal *journal, char *out, size_t capacity);
+
+/* Copies a message of the kept answer, as rbbank_site_send does; there is none as long as calls are left. */
+int32_t rbbank_journal_send(struct rbbank_journal *journal, size_t index, char *out, size_t capacity, size_t *length,
+                            uint8_t *to);
+
+/* Ends the site, and gives its memory back. The file may be left as it is: a start repairs it. */
+void rbbank_journal_close(struct rbbank_journal *journal);
 
 /* ---- Whole runs, from all lines of an input to all lines of the output
  *

@@ -114,6 +114,23 @@ static int a_site(void) {
     return fine;
 }
 
+static int a_journal(void) {
+    struct rbbank_journal journal = {0};
+    size_t length;
+    uint64_t number, at;
+    int32_t status = rbbank_journal_open(&journal, 0, 0, TEXT(CONFIG), NULL, 0, &number);
+    int fine = fits(status, journal.at, 1);
+    EACH(EVENTS, i) {
+        while (rbbank_journal_call(&journal, NULL, 0, &length, &at) != 0)
+            fine = rbbank_journal_done(&journal, 1) == RBBANK_OK && fine;
+        int was_open = journal.at != NULL;
+        status = rbbank_journal_answer(&journal, i + 2, TEXT(EVENTS[i]));
+        fine = fits(status, journal.at, was_open) && rbbank_journal_reply(&journal, NULL, 0) == 0 && fine;
+    }
+    rbbank_journal_close(&journal);
+    return fine;
+}
+
 static int whole_runs(void) {
     char lines[1000];
     char out[4000];
@@ -165,6 +182,7 @@ static int each_refused(const char *name, int (*uses)(void)) {
 int main(void) {
     int fine = each_refused("a bank", a_bank);
     fine = each_refused("a site", a_site) && fine;
+    fine = each_refused("a journal", a_journal) && fine;
     fine = each_refused("whole runs", whole_runs) && fine;
     fine = each_refused("closed books", closed_books) && fine;
     return !fine;

@@ -34,6 +34,10 @@ static size_t site_entries(void *site, char *out, size_t capacity) {
     return rbbank_site_entries(site, out, capacity);
 }
 
+static size_t journal_reply(void *journal, char *out, size_t capacity) {
+    return rbbank_journal_reply(journal, out, capacity);
+}
+
 /* Whether what is kept is this text, by buffers of each size up to its length and one more: each gets as much as fits,
  * and no byte behind that changes. */
 static int keeps(copying *call, void *handle, const char *text) {
@@ -54,9 +58,18 @@ static int keeps(copying *call, void *handle, const char *text) {
 static void of_nothing(void) {
     struct rbbank bank = {0};
     struct rbbank_site site = {0};
+    struct rbbank_journal journal = {0};
     char out[4] = "abc";
     size_t length = 9;
+    uint64_t at = 9;
     uint8_t to = 9;
+    WANTED(rbbank_journal_answer(&journal, 2, TEXT(EVENT)) == RBBANK_NONE);
+    WANTED(rbbank_journal_reply(&journal, out, sizeof out) == 0);
+    WANTED(rbbank_journal_call(&journal, out, sizeof out, &length, &at) == 0 && length == 0 && at == 0);
+    WANTED(rbbank_journal_done(&journal, 1) == RBBANK_NONE && rbbank_journal_done(&journal, 0) == RBBANK_NONE);
+    WANTED(rbbank_journal_send(&journal, 0, out, sizeof out, &length, &to) == RBBANK_NONE && length == 0);
+    rbbank_journal_close(&journal);
+    length = 9;
     WANTED(rbbank_answer(&bank, TEXT(DEPOSIT)) == RBBANK_NONE);
     WANTED(rbbank_reply(&bank, out, sizeof out) == 0);
     WANTED(rbbank_site_answer(&site, TEXT(EVENT)) == RBBANK_NONE);
@@ -67,7 +80,7 @@ static void of_nothing(void) {
     WANTED(memcmp(out, "abc", 4) == 0);
     rbbank_close(&bank);
     rbbank_site_close(&site);
-    WANTED(bank.at == NULL && site.at == NULL);
+    WANTED(bank.at == NULL && site.at == NULL && journal.at == NULL);
 }
 
 static void a_bank(void) {
@@ -119,6 +132,131 @@ static void a_site(void) {
     rbbank_site_close(&site);
     rbbank_site_close(&site);
     WANTED(site.at == NULL);
+}
+
+/* A file in memory, and what is kept of what is cut off it. */
+struct memory_file {
+    char bytes[4000], kept[1000];
+    size_t length, kept_length, writes, syncs;
+};
+
+/* Makes a call on the file. Whether it is one that is asked for. */
+static int make(struct memory_file *file, int32_t kind, uint64_t at, const char *bytes, size_t length) {
+    if (kind == RBBANK_CALL_WRITE) {
+        memcpy(file->bytes + at, bytes, length);
+        file->length = at + length > file->length ? at + length : file->length;
+        file->writes++;
+    } else if (kind == RBBANK_CALL_CUT) {
+        file->length = at;
+    } else if (kind == RBBANK_CALL_KEEP) {
+        memcpy(file->kept + file->kept_length, bytes, length);
+        file->kept_length += length;
+    } else if (kind == RBBANK_CALL_SYNC) {
+        file->syncs++;
+    } else {
+        return 0;
+    }
+    return 1;
+}
+
+/* Whether nothing is answered before the call that is left, and it stays the same. */
+static int waits(struct rbbank_journal *journal, int32_t kind, size_t length) {
+    size_t again;
+    uint64_t at;
+    return rbbank_journal_reply(journal, NULL, 0) == 0 &&
+           rbbank_journal_answer(journal, 9, TEXT(EVENT)) == RBBANK_REFUSED &&
+           rbbank_journal_call(journal, NULL, 0, &again, &at) == kind && again == length;
+}
+
+/* Makes the calls that are left, up to one that fails: which that is, or none if it is below 0. Whether each went as it
+ * has to. */
+static int make_calls(struct rbbank_journal *journal, struct memory_file *file, int fails) {
+    static char bytes[4000];
+    size_t length;
+    uint64_t at;
+    int32_t kind;
+    while ((kind = rbbank_journal_call(journal, bytes, sizeof bytes, &length, &at)) != 0) {
+        if (!waits(journal, kind, length))
+            return 0;
+        if (fails-- == 0)
+            return rbbank_journal_done(journal, 0) == RBBANK_NONE && journal->at == NULL;
+        if (!make(file, kind, at, bytes, length) || rbbank_journal_done(journal, 1) != RBBANK_OK)
+            return 0;
+    }
+    return rbbank_journal_done(journal, 1) == RBBANK_REFUSED;
+}
+
+static int is_file(struct memory_file *file, const char *text) {
+    return file->length == strlen(text) && memcmp(file->bytes, text, file->length) == 0;
+}
+
+/* How a site's journal is opened over a file of this text. */
+static int32_t opens(struct rbbank_journal *journal, const char *text, size_t resend, uint64_t *number) {
+    return rbbank_journal_open(journal, 0, resend, TEXT(CONFIG), TEXT(text), number);
+}
+
+static void a_journal(void) {
+    struct rbbank_journal journal = {0};
+    struct memory_file file = {.length = 0};
+    uint64_t number = 9;
+    char answer[600];
+    static const char reply[] = "{\"kind\":\"deposit\",\"name\":\"B0.1\"}";
+    snprintf(answer, sizeof answer, "{\"reply\":%s,%s,\"then\":[]}\n", reply, SENT);
+    WANTED(rbbank_journal_open(&journal, 0, 0, TEXT("{}"), NULL, 0, &number) == RBBANK_BAD_LINE && number == 0);
+    WANTED(rbbank_journal_open(&journal, 2, 0, TEXT(CONFIG), NULL, 0, &number) == RBBANK_REFUSED);
+    WANTED(opens(&journal, "", 0, &number) == RBBANK_OK && number == 0 && make_calls(&journal, &file, -1));
+    WANTED(is_file(&file, HEAD " ") && keeps(journal_reply, &journal, ""));
+    file.writes = file.syncs = 0;
+    WANTED(rbbank_journal_answer(&journal, 2, TEXT(EVENT)) == RBBANK_OK && make_calls(&journal, &file, -1));
+    WANTED(is_file(&file, HEAD ENTRY "\n ") && file.writes == 3 && file.syncs == 2);
+    WANTED(keeps(journal_reply, &journal, answer));
+    size_t length;
+    uint8_t to;
+    WANTED(rbbank_journal_send(&journal, 0, NULL, 0, &length, &to) == RBBANK_OK && length == strlen(SHADOW));
+    WANTED(to == RBBANK_EACH_OTHER_SITE);
+    WANTED(rbbank_journal_send(&journal, 1, NULL, 0, &length, &to) == RBBANK_REFUSED);
+    WANTED(rbbank_journal_answer(&journal, 3, TEXT(" ")) == RBBANK_OK && keeps(journal_reply, &journal, ""));
+    WANTED(rbbank_journal_answer(&journal, 4, TEXT("{}")) == RBBANK_OK);
+    WANTED(keeps(journal_reply, &journal, "{\"bad\":\"line\",\"line\":4}\n"));
+    WANTED(is_file(&file, HEAD ENTRY "\n ") && file.kept_length == 0);
+    rbbank_journal_close(&journal);
+    WANTED(journal.at == NULL);
+    /* It goes on, and what a crash left of a line is cut off and kept. */
+    WANTED(opens(&journal, HEAD ENTRY "\n{\"event\":", 1, &number) == RBBANK_OK && make_calls(&journal, &file, -1));
+    WANTED(is_file(&file, HEAD ENTRY "\n ") && memcmp(file.kept, "{\"event\":", file.kept_length) == 0);
+    WANTED(keeps(journal_reply, &journal, "{" SENT "}\n") && file.kept_length == 9);
+    WANTED(rbbank_journal_answer(&journal, 2, TEXT("{\"balance\":\"ann\"}")) == RBBANK_OK);
+    WANTED(make_calls(&journal, &file, -1));
+    WANTED(keeps(journal_reply, &journal, "{\"reply\":{\"balance\":500},\"sends\":[],\"then\":[]}\n"));
+    rbbank_journal_close(&journal);
+}
+
+/* Each call fails in turn: no answer is given, and a start over what is there goes on with all of the entry or none. */
+static void calls_that_fail(void) {
+    for (int nth = 0; nth < 5; nth++) {
+        struct rbbank_journal journal = {0};
+        struct memory_file file = {.length = 0};
+        uint64_t number;
+        WANTED(opens(&journal, "", 0, &number) == RBBANK_OK && make_calls(&journal, &file, -1));
+        WANTED(rbbank_journal_answer(&journal, 2, TEXT(EVENT)) == RBBANK_OK && make_calls(&journal, &file, nth));
+        WANTED(rbbank_journal_reply(&journal, NULL, 0) == 0);
+        file.bytes[file.length] = '\0';
+        WANTED(opens(&journal, file.bytes, 0, &number) == RBBANK_OK && make_calls(&journal, &file, -1));
+        WANTED(rbbank_journal_answer(&journal, 2, TEXT("{\"about\":\"site\"}")) == RBBANK_OK);
+        WANTED(is_file(&file, nth < 4 ? HEAD " " : HEAD ENTRY "\n "));
+        rbbank_journal_close(&journal);
+    }
+}
+
+static void journals_not_opened(void) {
+    struct rbbank_journal journal = {0};
+    uint64_t number;
+    WANTED(opens(&journal, "{}\n", 0, &number) == RBBANK_ANOTHER_JOURNAL && number == 0 && journal.at == NULL);
+    WANTED(opens(&journal, "abc", 0, &number) == RBBANK_ANOTHER_JOURNAL);
+    WANTED(opens(&journal, HEAD "{}\n ", 0, &number) == RBBANK_BAD_ENTRY && number == 2);
+    WANTED(opens(&journal, HEAD ENTRY "\n" ENTRY "\n ", 0, &number) == RBBANK_WRONG_REPLY && number == 3);
+    WANTED(opens(&journal, HEAD ENTRY "\nx", 0, &number) == RBBANK_DAMAGED && number == 3);
+    WANTED(opens(&journal, HEAD ENTRY "\n\t", 0, &number) == RBBANK_SEALED && number == 0);
 }
 
 /* Whether a site's message of this index is this text for this site, by buffers of each size. */
@@ -398,6 +536,9 @@ int main(void) {
     of_nothing();
     a_bank();
     a_site();
+    a_journal();
+    calls_that_fail();
+    journals_not_opened();
     messages();
     errors();
     another_thread();

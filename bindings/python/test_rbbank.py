@@ -5,6 +5,7 @@ import json
 import os
 import subprocess
 import sys
+import tempfile
 import threading
 import unittest
 
@@ -189,6 +190,70 @@ def journals(received):
             other.answer(json.dumps(message, separators=(",", ":")))
             second += other.entries()
         return [first + b"\t", second + b"\t"]
+
+
+class Journals(unittest.TestCase):
+
+    def setUp(self):
+        folder = tempfile.TemporaryDirectory()
+        self.addCleanup(folder.cleanup)
+        self.path = os.path.join(folder.name, "journal")
+
+    def stored(self, name="journal"):
+        with open(os.path.join(os.path.dirname(self.path), name), "rb") as file:
+            return file.read()
+
+    def store(self, data):
+        with open(self.path, "wb") as file:
+            file.write(data)
+
+    def test_goes_on(self):
+        with rbbank.Journal(self.path, 0, CONFIG) as site:
+            self.assertEqual(site.reply(), "")
+            self.assertTrue(site.answer(EVENT).startswith('{"reply":{"kind":"deposit","name":"B0.1"},'))
+            self.assertEqual(len(site.sends()), 1)
+            self.assertEqual(site.answer(" "), "")
+            self.assertEqual(site.answer("{}"), '{"bad":"line","line":4}')
+            self.assertRaises(BlockingIOError, rbbank.Journal, self.path, 0, CONFIG)
+        self.assertRaises(rbbank.Closed, site.answer, EVENT)
+        before = self.stored()
+        self.store(before[:-1] + b'{"event":')
+        with rbbank.Journal(self.path, 0, CONFIG, resend=1) as site:
+            self.assertEqual((self.stored(), self.stored("journal.cut")), (before, b'{"event":'))
+            self.assertTrue(site.reply().startswith('{"sends":[{"shadow":'))
+            self.assertEqual(site.answer('{"balance":"ann"}'), '{"reply":{"balance":500},"sends":[],"then":[]}')
+
+    def test_a_process_that_is_killed(self):
+        code = "import rbbank, os, sys; site = rbbank.Journal(sys.argv[1], 0, sys.argv[2]); " \
+               "site.answer(sys.argv[3]); os.kill(os.getpid(), 9)"
+        for _ in range(3):
+            subprocess.run([sys.executable, "-c", code, self.path, CONFIG, EVENT], check=False)
+        with rbbank.Journal(self.path, 0, CONFIG) as site:
+            self.assertEqual(site.answer('{"balance":"ann"}'), '{"reply":{"balance":1500},"sends":[],"then":[]}')
+
+    def test_not_opened(self):
+        with rbbank.Site(0, CONFIG) as site:
+            head = site.entries()
+            site.answer(EVENT)
+            entry = site.entries()
+        for data, reason, line in [(b"{}\n ", "another bank's journal", None), (head + b"{}\n ", "bad line", 2),
+                                   (head + entry + entry + b" ", "wrong reply", 3), (head + entry + b"x", "damaged", 3),
+                                   (head + entry + b"\t", "sealed", None)]:
+            self.store(data)
+            with self.assertRaises(rbbank.JournalFault) as fault:
+                rbbank.Journal(self.path, 0, CONFIG)
+            self.assertEqual((fault.exception.reason, fault.exception.line), (reason, line))
+            self.assertEqual(self.stored(), data)
+        self.assertRaises(rbbank.BadLine, rbbank.Journal, self.path, 0, "{}")
+        self.assertRaises(rbbank.NoSuchSite, rbbank.Journal, self.path, 2, CONFIG)
+        self.assertRaises(rbbank.NoSuchSite, rbbank.Journal, self.path, 256, CONFIG)
+
+    def test_a_name_that_is_gone(self):
+        with rbbank.Journal(self.path, 0, CONFIG) as site:
+            os.remove(self.path)
+            self.assertRaises(OSError, site.answer, EVENT)
+            self.assertRaises(rbbank.Closed, site.answer, EVENT)
+            self.assertEqual(site.reply(), "")
 
 
 class Closings(unittest.TestCase):

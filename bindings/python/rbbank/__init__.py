@@ -16,6 +16,8 @@ A site is one of them, whose messages and journal are the caller's to carry and 
 '{"reply":{"balance":0},"sends":[],"then":[]}'
 b'{"event":{"balance":"ann"},"reply":{"balance":0},"site":1}\\n'
 
+A `Journal` is a site that keeps its own journal, in a file.
+
 `script`, `audit`, `migrate` and `close` are whole runs. Lines, limits and refusals are those of docs/FORMAT.md; a
 refusal is a reply, and no exception.
 
@@ -33,8 +35,8 @@ import threading
 import typing
 import weakref
 
-__all__ = ["Audit", "BadLine", "Bank", "Books", "CloseFault", "Closed", "LineFault", "Message", "NoSuchSite", "Site",
-           "WrongReply", "audit", "close", "migrate", "script", "version"]
+__all__ = ["Audit", "BadLine", "Bank", "Books", "CloseFault", "Closed", "Journal", "JournalFault", "LineFault",
+           "Message", "NoSuchSite", "Site", "WrongReply", "audit", "close", "migrate", "script", "version"]
 
 Line = typing.Union[str, bytes]
 _Self = typing.TypeVar("_Self", bound="_Handle")
@@ -68,6 +70,18 @@ class WrongReply(ValueError):
 
     def __init__(self, why: str = "another reply than the entry has, or a full history") -> None:
         super().__init__(why)
+
+
+class JournalFault(ValueError):
+    """The file is no journal that this site goes on from. It is left as it was.
+
+    `reason` is "another bank's journal", "bad line", "wrong reply", "damaged" or "sealed"; with the middle three `line`
+    is the number of the line in the file, from 1, else None.
+    """
+
+    def __init__(self, reason: str, line: int | None = None) -> None:
+        super().__init__(f"journal line {line}: {reason}" if line else reason)
+        self.reason, self.line = reason, line
 
 
 class LineFault(BadLine):
@@ -141,6 +155,13 @@ CALLS: dict[str, tuple[typing.Any, list[typing.Any]]] = {
     "rbbank_site_send": (ctypes.c_int32, [_HANDLE, ctypes.c_size_t, *_TEXT, _SIZES, _BYTES]),
     "rbbank_site_replay": (ctypes.c_int32, _TAKES),
     "rbbank_site_close": (None, [_HANDLE]),
+    "rbbank_journal_open": (ctypes.c_int32, [_HANDLE, ctypes.c_uint8, ctypes.c_size_t, *_TEXT, *_TEXT, _NUMBERS]),
+    "rbbank_journal_answer": (ctypes.c_int32, [_HANDLE, ctypes.c_size_t, *_TEXT]),
+    "rbbank_journal_call": (ctypes.c_int32, [*_TAKES, _SIZES, _NUMBERS]),
+    "rbbank_journal_done": (ctypes.c_int32, [_HANDLE, ctypes.c_uint8]),
+    "rbbank_journal_reply": (ctypes.c_size_t, _TAKES),
+    "rbbank_journal_send": (ctypes.c_int32, [_HANDLE, ctypes.c_size_t, *_TEXT, _SIZES, _BYTES]),
+    "rbbank_journal_close": (None, [_HANDLE]),
     "rbbank_script": (ctypes.c_int32, _RUNS),
     "rbbank_audit": (ctypes.c_int32, _RUNS),
     "rbbank_migrate": (ctypes.c_int32, _RUNS),
@@ -286,7 +307,36 @@ class Bank(_Handle):
             self._raise(status, data)
 
 
-class Site(_Handle):
+class _Sending(_Handle):
+    """A site, whose answers have messages."""
+
+    def sends(self) -> list[Message]:
+        """The messages of the last answer or replay, on all its lines. Raises Closed; MemoryError, after which the site
+        is as it was."""
+        messages: list[Message] = []
+        with self._lock:
+            while (message := self._message(len(messages))) is not None:
+                messages.append(message)
+        return messages
+
+    def _message(self, index: int) -> Message | None:
+        """The message of an index, if there is one."""
+        length, to = ctypes.c_size_t(), ctypes.c_uint8()
+        send = _call(self._prefix + "send")
+
+        def given(out: typing.Any, size: int) -> int:
+            status = send(self._ref, index, out, size, ctypes.byref(length), ctypes.byref(to))
+            if status == _NONE:
+                raise Closed("it is closed")
+            if status == _NO_MEMORY:
+                raise MemoryError
+            return length.value
+
+        line = _copied(given).decode()
+        return Message(line, None if to.value == _EACH_OTHER_SITE else to.value) if line else None
+
+
+class Site(_Sending):
     """Site `me`, 0 to 15, of a configuration, before any event.
 
     Its journal is the caller's: the entries after the opening, and then those after each answer, which are written
@@ -320,30 +370,6 @@ class Site(_Handle):
         with self._lock:
             return self._kept(_call("rbbank_site_entries"))
 
-    def sends(self) -> list[Message]:
-        """The messages of the last answer or replay, on all its lines. Raises Closed; MemoryError, after which the site
-        is as it was."""
-        messages: list[Message] = []
-        with self._lock:
-            while (message := self._message(len(messages))) is not None:
-                messages.append(message)
-        return messages
-
-    def _message(self, index: int) -> Message | None:
-        """The message of an index, if there is one."""
-        length, to = ctypes.c_size_t(), ctypes.c_uint8()
-
-        def given(out: typing.Any, size: int) -> int:
-            status = _call("rbbank_site_send")(self._ref, index, out, size, ctypes.byref(length), ctypes.byref(to))
-            if status == _NONE:
-                raise Closed("it is closed")
-            if status == _NO_MEMORY:
-                raise MemoryError
-            return length.value
-
-        line = _copied(given).decode()
-        return Message(line, None if to.value == _EACH_OTHER_SITE else to.value) if line else None
-
     def replay(self, entry: Line) -> str:
         """Gives it the next line of its journal, in any spelling, and returns the line `{"sends":[..]}` of what the
         entry sent, or nothing if it sent nothing.
@@ -357,6 +383,169 @@ class Site(_Handle):
             if status != _OK:
                 self._raise(status, data, WrongReply)
             return self._kept(self._reply)[:-1].decode()
+
+
+# ---- a site with its journal in a file
+
+_WRITE, _CUT, _SYNC, _KEEP = 1, 2, 3, 6
+
+
+def _write_all(descriptor: int, data: bytes, at: int) -> None:
+    """Writes all bytes at a place."""
+    while data:
+        written = os.pwrite(descriptor, data, at)
+        data, at = data[written:], at + written
+
+
+def _sync_folder(path: str) -> None:
+    """Waits until the names in a file's folder are on the disk."""
+    descriptor = os.open(os.path.dirname(path), os.O_RDONLY | os.O_CLOEXEC)
+    try:
+        os.fsync(descriptor)
+    finally:
+        os.close(descriptor)
+
+
+class _File:
+    """A journal's file, locked against other processes."""
+
+    def __init__(self, path: str) -> None:
+        import fcntl
+        self.descriptor = os.open(path, os.O_RDWR | os.O_CREAT | os.O_CLOEXEC, 0o666)
+        try:
+            fcntl.flock(self.descriptor, fcntl.LOCK_EX | fcntl.LOCK_NB)
+            self.path = os.path.realpath(path)
+        except BaseException:
+            self.close()
+            raise
+
+    def read_whole(self) -> bytes:
+        """All bytes, written again: after a wait for the disk that failed, the system may have what an earlier process
+        wrote in its memory alone."""
+        os.fsync(self.descriptor)
+        with open(self.descriptor, "rb", closefd=False) as file:
+            data = file.read()
+        _write_all(self.descriptor, data, 0)
+        os.fsync(self.descriptor)
+        _sync_folder(self.path)
+        return data
+
+    def make(self, kind: int, at: int, data: bytes) -> None:
+        """Makes a call that the library asks for. Raises OSError."""
+        if kind == _WRITE:
+            # The byte that makes a batch count is written alone; a start has to open the file that it is in.
+            if len(data) == 1 and not os.path.samestat(os.stat(self.path), os.fstat(self.descriptor)):
+                raise OSError(f"{self.path}: the name leads to another file")
+            _write_all(self.descriptor, data, at)
+        elif kind == _CUT:
+            os.ftruncate(self.descriptor, at)
+            os.fsync(self.descriptor)
+        elif kind == _SYNC:
+            os.fsync(self.descriptor)
+        elif kind == _KEEP:
+            self._keep(data)
+        else:
+            raise OSError(f"{self.path}: no call {kind} is known")
+
+    def _keep(self, data: bytes) -> None:
+        """Adds what is about to be cut off to the end of the file of the same name and `.cut`."""
+        beside = self.path + ".cut"
+        mode = os.fstat(self.descriptor).st_mode & 0o777
+        descriptor = os.open(beside, os.O_RDWR | os.O_CREAT | os.O_CLOEXEC, mode)
+        try:
+            _write_all(descriptor, data, os.fstat(descriptor).st_size)
+            os.fsync(descriptor)
+        finally:
+            os.close(descriptor)
+        _sync_folder(beside)
+
+    def close(self) -> None:
+        """Closes it, and gives the lock back. A second time does nothing."""
+        if self.descriptor >= 0:
+            os.close(self.descriptor)
+            self.descriptor = -1
+
+
+class Journal(_Sending):
+    """Site `me`, 0 to 15, of a configuration, whose journal is in a file: what was answered is on the disk before its
+    reply can be seen. The file is the one that `rbbank site` has, and either goes on from it. It is for a Unix system.
+
+    A line is answered as `rbbank site` does: an event, a question, or, if it is neither, by `{"bad":..}` with its
+    number, where the configuration's line is the first. A blank line is answered by nothing.
+    """
+
+    _prefix = "rbbank_journal_"
+    _faults = {5: "another bank's journal", 6: "bad line", 7: "wrong reply", 8: "damaged", 9: "sealed"}
+
+    def __init__(self, path: str | os.PathLike[str], me: int, configuration: Line, resend: int = 0) -> None:
+        """Opens the journal at this path, or begins a new one there. The reply is then what the last `resend` entries
+        sent, a line for each that sent any.
+
+        Raises BadLine if the configuration's line is none; NoSuchSite; JournalFault; BlockingIOError if another process
+        has the journal, or this one; OSError if the file fails; MemoryError.
+        """
+        if not 0 <= me <= 255:
+            raise NoSuchSite
+        super().__init__()
+        self._number = 1
+        self._file = _File(os.fspath(path))
+        try:
+            self._open(me, _bytes(configuration), resend)
+        except BaseException:
+            self.close()
+            raise
+
+    def _open(self, me: int, data: bytes, resend: int) -> None:
+        """Opens the site over the file, and repairs its end."""
+        before, line = self._file.read_whole(), ctypes.c_uint64()
+        status = _call("rbbank_journal_open")(self._ref, me, resend, data, len(data), before, len(before),
+                                              ctypes.byref(line))
+        if status in self._faults:
+            raise JournalFault(self._faults[status], line.value or None)
+        if status != _OK:
+            self._raise(status, data, NoSuchSite)
+        self._make_calls()
+
+    def _make_calls(self) -> None:
+        """Makes the calls that are left, one after another, and none behind one that failed."""
+        length, at, kind = ctypes.c_size_t(), ctypes.c_uint64(), 0
+        call, done = _call("rbbank_journal_call"), _call("rbbank_journal_done")
+
+        def given(out: typing.Any, size: int) -> int:
+            nonlocal kind
+            kind = call(self._ref, out, size, ctypes.byref(length), ctypes.byref(at))
+            return length.value
+
+        data = _copied(given)
+        while kind != 0:
+            try:
+                self._file.make(kind, at.value, data)
+            except OSError:
+                done(self._ref, 0)
+                self._file.close()
+                raise
+            done(self._ref, 1)
+            data = _copied(given)
+
+    def answer(self, line: Line) -> str:
+        """Gives it a line, and returns the lines that it answers, without the last line feed; all that was recorded is
+        on the disk then.
+
+        Raises Closed; OSError if the file fails, and MemoryError, after each of which it is closed.
+        """
+        data = _bytes(line)
+        with self._lock:
+            self._number += 1
+            status = self._answer(self._ref, self._number, data, len(data))
+            if status != _OK:
+                self._raise(_NONE if status == _NONE else _NO_MEMORY, data)
+            self._make_calls()
+            return self._kept(self._reply)[:-1].decode()
+
+    def close(self) -> None:
+        """Ends it, and gives the file back. A second time does nothing."""
+        super().close()
+        self._file.close()
 
 
 # ---- whole runs

@@ -10,6 +10,12 @@ pub struct Handle {
 /// In place of a site's number: each other site.
 pub const EACH_OTHER_SITE: u8 = 255;
 
+/// What a call on a journal's file is: write the bytes at a place, cut the file, wait for the disk, or keep the bytes.
+pub const CALL_WRITE: i32 = 1;
+pub const CALL_CUT: i32 = 2;
+pub const CALL_SYNC: i32 = 3;
+pub const CALL_KEEP: i32 = 6;
+
 impl Handle {
     /// A handle of nothing.
     pub const NONE: Handle = Handle {
@@ -44,6 +50,40 @@ extern "C" {
     ) -> i32;
     pub fn rbbank_site_replay(site: *mut Handle, line: *const u8, length: usize) -> i32;
     pub fn rbbank_site_close(site: *mut Handle);
+    pub fn rbbank_journal_open(
+        journal: *mut Handle,
+        me: u8,
+        resend: usize,
+        config: *const u8,
+        length: usize,
+        file: *const u8,
+        file_length: usize,
+        number: *mut u64,
+    ) -> i32;
+    pub fn rbbank_journal_answer(
+        journal: *mut Handle,
+        number: usize,
+        line: *const u8,
+        length: usize,
+    ) -> i32;
+    pub fn rbbank_journal_call(
+        journal: *mut Handle,
+        out: *mut u8,
+        capacity: usize,
+        length: *mut usize,
+        at: *mut u64,
+    ) -> i32;
+    pub fn rbbank_journal_done(journal: *mut Handle, made: u8) -> i32;
+    pub fn rbbank_journal_reply(journal: *mut Handle, out: *mut u8, capacity: usize) -> usize;
+    pub fn rbbank_journal_send(
+        journal: *mut Handle,
+        index: usize,
+        out: *mut u8,
+        capacity: usize,
+        length: *mut usize,
+        to: &mut u8,
+    ) -> i32;
+    pub fn rbbank_journal_close(journal: *mut Handle);
     pub fn rbbank_script(
         input: *const u8,
         length: usize,

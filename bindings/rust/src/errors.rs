@@ -1,6 +1,8 @@
 //! Why a call gave nothing.
 use std::error::Error;
 use std::fmt;
+#[cfg(unix)]
+use std::io;
 
 /// Why a bank or a site wasn't opened.
 #[derive(Clone, Copy, Debug, PartialEq, Eq)]
@@ -35,6 +37,107 @@ pub enum ReplayError {
     OutOfMemory,
     /// It ended before, for want of memory or with a wrong reply.
     Ended,
+}
+
+/// Why a site with its journal in a file wasn't opened, or didn't answer a line. Lines of the journal are counted from 1.
+#[cfg(unix)]
+#[derive(Debug)]
+pub enum JournalError {
+    /// The line is no configuration.
+    BadConfiguration,
+    /// The configuration has no site of the number.
+    NoSuchSite,
+    /// The file is another bank's journal, or none.
+    AnotherJournal,
+    /// A line is no entry of this site.
+    BadEntry {
+        /// Its number.
+        line: u64,
+    },
+    /// The site gives another reply than a line has, or its history is full.
+    WrongReply {
+        /// Its number.
+        line: u64,
+    },
+    /// A byte that no crash leaves is where a line, or the gate before it, should begin.
+    Damaged {
+        /// Its number.
+        line: u64,
+    },
+    /// The journal is sealed.
+    Sealed,
+    /// Another process has the journal, or this one has it open already.
+    InUse,
+    /// A call on the file failed. An open site has ended: it is opened again.
+    File(io::Error),
+    /// There was no memory. An open site has ended.
+    OutOfMemory,
+    /// The site ended before.
+    Ended,
+}
+
+#[cfg(unix)]
+impl JournalError {
+    /// The error of an opening's status with its number, if it is one.
+    pub(crate) fn of_open(status: i32, line: u64) -> Result<(), JournalError> {
+        Err(match status {
+            0 => return Ok(()),
+            2 => JournalError::BadConfiguration,
+            3 => JournalError::NoSuchSite,
+            5 => JournalError::AnotherJournal,
+            6 => JournalError::BadEntry { line },
+            7 => JournalError::WrongReply { line },
+            8 => JournalError::Damaged { line },
+            9 => JournalError::Sealed,
+            _ => JournalError::OutOfMemory,
+        })
+    }
+}
+
+#[cfg(unix)]
+impl From<io::Error> for JournalError {
+    fn from(error: io::Error) -> JournalError {
+        JournalError::File(error)
+    }
+}
+
+#[cfg(unix)]
+impl From<AnswerError> for JournalError {
+    fn from(error: AnswerError) -> JournalError {
+        match error {
+            AnswerError::OutOfMemory => JournalError::OutOfMemory,
+            _ => JournalError::Ended,
+        }
+    }
+}
+
+#[cfg(unix)]
+impl fmt::Display for JournalError {
+    fn fmt(&self, f: &mut fmt::Formatter<'_>) -> fmt::Result {
+        match self {
+            JournalError::BadConfiguration => f.write_str("bad configuration"),
+            JournalError::NoSuchSite => f.write_str("no such site"),
+            JournalError::AnotherJournal => f.write_str("another bank's journal"),
+            JournalError::BadEntry { line } => write!(f, "journal line {line}: bad line"),
+            JournalError::WrongReply { line } => write!(f, "journal line {line}: wrong reply"),
+            JournalError::Damaged { line } => write!(f, "journal line {line}: damaged"),
+            JournalError::Sealed => f.write_str("journal is sealed"),
+            JournalError::InUse => f.write_str("journal is in use"),
+            JournalError::File(why) => write!(f, "journal failed: {why}"),
+            JournalError::OutOfMemory => f.write_str("out of memory"),
+            JournalError::Ended => f.write_str("ended before"),
+        }
+    }
+}
+
+#[cfg(unix)]
+impl Error for JournalError {
+    fn source(&self) -> Option<&(dyn Error + 'static)> {
+        match self {
+            JournalError::File(why) => Some(why),
+            _ => None,
+        }
+    }
 }
 
 /// Why a whole run ended before the end of its input.

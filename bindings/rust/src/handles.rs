@@ -7,7 +7,7 @@ use std::fmt;
 type Copying = unsafe extern "C" fn(*mut Handle, *mut u8, usize) -> usize;
 
 /// All that a copying call has, in `text`, which only grows.
-fn copy<'a>(handle: &mut Handle, call: Copying, text: &'a mut Vec<u8>) -> &'a str {
+pub(crate) fn copy<'a>(handle: &mut Handle, call: Copying, text: &'a mut Vec<u8>) -> &'a str {
     loop {
         // SAFETY: the handle is a zeroed or an opened one, as only calls of the library write it; `text` is that long.
         let length = unsafe { call(handle, text.as_mut_ptr(), text.len()) };
@@ -18,7 +18,45 @@ fn copy<'a>(handle: &mut Handle, call: Copying, text: &'a mut Vec<u8>) -> &'a st
     }
 }
 
-fn without_line_feed(line: &str) -> &str {
+/// A call that copies a message of the last answer, and gives its length and the site that it is for.
+type Sending = unsafe extern "C" fn(*mut Handle, usize, *mut u8, usize, *mut usize, &mut u8) -> i32;
+
+/// The message of an index, if there is one. `text` only grows.
+pub(crate) fn message(
+    handle: &mut Handle,
+    call: Sending,
+    index: usize,
+    text: &mut Vec<u8>,
+) -> Result<Option<Message>, AnswerError> {
+    let (mut length, mut to) = (0, 0);
+    loop {
+        // SAFETY: the handle was opened, and the text is that long.
+        let status = unsafe {
+            call(
+                handle,
+                index,
+                text.as_mut_ptr(),
+                text.len(),
+                &mut length,
+                &mut to,
+            )
+        };
+        match status {
+            0 if length <= text.len() => break,
+            0 => text.resize(length.next_power_of_two(), 0),
+            1 => return Err(AnswerError::Ended),
+            3 => return Ok(None),
+            _ => return Err(AnswerError::OutOfMemory),
+        }
+    }
+    let line = std::str::from_utf8(&text[..length]).expect("the library writes ASCII");
+    Ok(Some(Message {
+        line: line.to_owned(),
+        to: (to != c::EACH_OTHER_SITE).then_some(to),
+    }))
+}
+
+pub(crate) fn without_line_feed(line: &str) -> &str {
     line.strip_suffix('\n').unwrap_or(line)
 }
 
@@ -259,40 +297,15 @@ impl Site {
     /// `OutOfMemory`, after which the site is as it was; `Ended`.
     pub fn sends(&mut self) -> Result<Vec<Message>, AnswerError> {
         let mut messages = Vec::new();
-        while let Some(message) = self.message(messages.len())? {
-            messages.push(message);
+        while let Some(one) = message(
+            &mut self.handle,
+            c::rbbank_site_send,
+            messages.len(),
+            &mut self.text,
+        )? {
+            messages.push(one);
         }
         Ok(messages)
-    }
-
-    /// The message of an index, if there is one.
-    fn message(&mut self, index: usize) -> Result<Option<Message>, AnswerError> {
-        let (mut length, mut to) = (0, 0);
-        loop {
-            // SAFETY: the handle was opened, and the text is that long.
-            let status = unsafe {
-                c::rbbank_site_send(
-                    &mut self.handle,
-                    index,
-                    self.text.as_mut_ptr(),
-                    self.text.len(),
-                    &mut length,
-                    &mut to,
-                )
-            };
-            match status {
-                0 if length <= self.text.len() => break,
-                0 => self.text.resize(length.next_power_of_two(), 0),
-                1 => return Err(AnswerError::Ended),
-                3 => return Ok(None),
-                _ => return Err(AnswerError::OutOfMemory),
-            }
-        }
-        let line = std::str::from_utf8(&self.text[..length]).expect("the library writes ASCII");
-        Ok(Some(Message {
-            line: line.to_owned(),
-            to: (to != c::EACH_OTHER_SITE).then_some(to),
-        }))
     }
 
     /// The lines that the last answer adds to the journal, each with its line feed, none if it recorded nothing;

@@ -11,8 +11,8 @@
 //! # Ok::<(), Box<dyn std::error::Error>>(())
 //! ```
 //!
-//! A [`Site`] is one of them, whose messages and journal are the caller's to carry and to keep. [`script`], [`audit`],
-//! [`migrate`] and [`close`] are whole runs. Lines, limits and refusals are those of docs/FORMAT.md; a refusal is a
+//! A [`Site`] is one of them, whose messages and journal are the caller's to carry and to keep. A [`Journal`] is one
+//! that keeps its own journal in a file. [`script`], [`audit`], [`migrate`] and [`close`] are whole runs. Lines, limits and refusals are those of docs/FORMAT.md; a refusal is a
 //! reply, and no error.
 //!
 //! Either may go to another thread, and is used by one at a time: they are `Send`, and not `Sync`. They are ended when
@@ -22,10 +22,16 @@
 mod c;
 mod errors;
 mod handles;
+#[cfg(unix)]
+mod journal;
 mod runs;
 mod texts;
 
+#[cfg(unix)]
+pub use errors::JournalError;
 pub use errors::{AnswerError, CloseError, OpenError, ReplayError, RunError};
 pub use handles::{Bank, Message, Site};
+#[cfg(unix)]
+pub use journal::Journal;
 pub use runs::{audit, close, migrate, script, Audit, Books};
 pub use texts::{fault_of, version, LineFault};

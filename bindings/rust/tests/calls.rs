@@ -1,8 +1,10 @@
 //! Each call once, and each error that a caller can bring about.
 use rbbank::{
-    audit, close, fault_of, migrate, script, AnswerError, Audit, Bank, Books, CloseError, Message,
-    OpenError, ReplayError, RunError, Site,
+    audit, close, fault_of, migrate, script, AnswerError, Audit, Bank, Books, CloseError, Journal,
+    JournalError, Message, OpenError, ReplayError, RunError, Site,
 };
+use std::fs;
+use std::path::PathBuf;
 
 const CONFIG: &str = r#"{"accounts":[["ann",0]],"sites":2,"version":1}"#;
 const DEPOSIT: &str = r#"{"deposit":["ann",500],"site":0}"#;
@@ -338,4 +340,94 @@ fn next_banks_that_can_not_be() {
     for sites in [0, 1, 17, 255] {
         assert_eq!(fault(Some(sites), &[]), CloseError::NumberOfSites);
     }
+}
+
+/// A path in a new folder of this process.
+fn new_path(name: &str) -> PathBuf {
+    let folder = std::env::temp_dir().join(format!("rbbank-{}-{name}", std::process::id()));
+    fs::create_dir_all(&folder).unwrap();
+    folder.join("journal")
+}
+
+#[test]
+fn a_journal_goes_on() {
+    let path = new_path("goes-on");
+    let mut site = Journal::open(&path, 0, CONFIG, 0).unwrap();
+    assert_eq!(site.reply(), "");
+    assert!(site
+        .answer(r#"{"deposit":["ann",500]}"#)
+        .unwrap()
+        .starts_with(r#"{"reply":{"kind":"deposit","name":"B0.1"},"#));
+    assert_eq!(site.sends().unwrap().len(), 1);
+    assert_eq!(site.answer(" ").unwrap(), "");
+    assert_eq!(site.answer("{}").unwrap(), r#"{"bad":"line","line":4}"#);
+    assert!(matches!(
+        Journal::open(&path, 0, CONFIG, 0),
+        Err(JournalError::InUse)
+    ));
+    drop(site);
+    // What a crash left of a line is cut off and kept.
+    let before = fs::read(&path).unwrap();
+    fs::write(
+        &path,
+        [&before[..before.len() - 1], b"{\"event\":"].concat(),
+    )
+    .unwrap();
+    let mut site = Journal::open(&path, 0, CONFIG, 1).unwrap();
+    assert_eq!(fs::read(&path).unwrap(), before);
+    assert_eq!(
+        fs::read(path.with_extension("cut")).unwrap(),
+        b"{\"event\":"
+    );
+    assert!(site.reply().starts_with(r#"{"sends":[{"shadow":"#));
+    assert_eq!(
+        site.answer(r#"{"balance":"ann"}"#).unwrap(),
+        r#"{"reply":{"balance":500},"sends":[],"then":[]}"#
+    );
+    fs::remove_dir_all(path.parent().unwrap()).unwrap();
+}
+
+#[test]
+fn journals_that_are_not_opened() {
+    let path = new_path("not-opened");
+    let fault = |bytes: &[u8], me: u8, config: &str| {
+        fs::write(&path, bytes).unwrap();
+        let fault = Journal::open(&path, me, config, 0).unwrap_err();
+        assert_eq!(fs::read(&path).unwrap(), bytes);
+        fault.to_string()
+    };
+    let mut site = Site::open(0, CONFIG).unwrap();
+    let head = site.entries().to_owned();
+    site.answer(r#"{"deposit":["ann",500]}"#).unwrap();
+    let entry = site.entries().to_owned();
+    assert_eq!(fault(b"", 0, "{}"), "bad configuration");
+    assert_eq!(fault(b"", 2, CONFIG), "no such site");
+    assert_eq!(fault(b"{}\n ", 0, CONFIG), "another bank's journal");
+    let bad = format!("{head}{{}}\n ");
+    assert_eq!(fault(bad.as_bytes(), 0, CONFIG), "journal line 2: bad line");
+    let twice = format!("{head}{entry}{entry} ");
+    assert_eq!(
+        fault(twice.as_bytes(), 0, CONFIG),
+        "journal line 3: wrong reply"
+    );
+    let damaged = format!("{head}{entry}x");
+    assert_eq!(
+        fault(damaged.as_bytes(), 0, CONFIG),
+        "journal line 3: damaged"
+    );
+    let sealed = format!("{head}{entry}\t");
+    assert_eq!(fault(sealed.as_bytes(), 0, CONFIG), "journal is sealed");
+    fs::remove_dir_all(path.parent().unwrap()).unwrap();
+}
+
+#[test]
+fn a_journal_whose_name_is_gone_ends() {
+    let path = new_path("gone");
+    let mut site = Journal::open(&path, 0, CONFIG, 0).unwrap();
+    fs::remove_file(&path).unwrap();
+    let event = r#"{"deposit":["ann",500]}"#;
+    assert!(matches!(site.answer(event), Err(JournalError::File(_))));
+    assert!(matches!(site.answer(event), Err(JournalError::Ended)));
+    assert_eq!(site.reply(), "");
+    fs::remove_dir_all(path.parent().unwrap()).unwrap();
 }

@@ -3,6 +3,7 @@ pub mod Banks
 pub mod Close
 pub mod Copies
 pub mod Endings
+pub mod JournalSites
 pub mod Migrate
 pub mod Script
 pub mod Sends

@@ -64,8 +64,8 @@ pub fn answer_alone<R: JournaledResponder, H: Host>(
 
     // A crash at any moment of the call leaves the lines from before it, with all that the answer adds or none of it.
     ensures any_moment { OnOk result (LeavesOnly H.moment H.left_since journal.old.host journal.new.host
-        (λ c d. AreEither (recovered (H.content journal.old.host)) (recovered (H.content journal.new.host)) (recovered c)
-        × (d ≡ H.output journal.old.host))) }
+        (λ c d. AreEither (recovered (H.content journal.old.host)) (recovered (H.content journal.new.host))
+        (recovered c) × (d ≡ H.output journal.old.host))) }
     ensures intact { LeavesOnly H.moment H.left_since journal.old.host journal.new.host (λ c _. IsIntact c) }
 
     ensures not_read { result ≡ Err Read → ⊥ }

@@ -27,6 +27,7 @@ impl Planned {
     ghost use Rattle.std.specs.Prelude.{[], ◌∷◌, List, MatchOption};
     ghost use Rattle.rb_journal.specs.Calls.{NotedCall};
     ghost use Rattle.rb_journal.specs.Host.{Only};
+    ghost use Rattle.rb_journal.specs.Planned.{found_event};
     ghost use Rattle.rb_journal.specs.PlannedFiles.{log_left, log_made, log_planned};
 
     /// A file that was opened and read, with these bytes, all of them on the disk. No call is to be made.
@@ -37,7 +38,7 @@ impl Planned {
         ensures output { output_of (log_planned result) ≡ [] }
         ensures kept { kept_of (log_planned result) ≡ [] }
         ensures none { log_left result ≡ [] }
-        ensures made { log_made result ≡ log_planned result }
+        ensures made { log_made result ≡ found_event bytes.now ∷ [] }
     {
         Planned {
             alloc,
@@ -57,7 +58,7 @@ impl Planned {
 
     /// Notes that the next call was made, and succeeded: says which it was.
     pub fn made(&mut self) -> Option<Call>
-        ensures call { MatchOption result (log_left self.old ≡ []) (λ call.
+        ensures call { MatchOption result ((log_left self.old ≡ []) × (log_left self.new ≡ [])) (λ call.
             log_left self.old ≡ log_left self.new ++ made_event call ∷ []) }
         ensures made { MatchOption result (log_made self.new ≡ log_made self.old) (λ call.
             log_made self.new ≡ made_event call ∷ log_made self.old) }

@@ -1,0 +1,47 @@
+/* A site whose journal is in a file, for C and a Unix system: rbbank_file.c makes the calls on the file that
+ * rbbank_journal_call asks for, in its order, and says how each ended. What was answered is on the disk before its
+ * reply can be read. The file is the one that `rbbank site` has, and either goes on from it.
+ *
+ * A file that is zeroed (`struct rbbank_file file = {0};`) isn't open. It is used by one thread at a time.
+ */
+#ifndef RBBANK_FILE_H
+#define RBBANK_FILE_H
+
+#include "rbbank.h"
+
+#ifdef __cplusplus
+extern "C" {
+#endif
+
+struct rbbank_file {
+    struct rbbank_journal journal; /* rbbank_journal_reply reads the answer from it */
+    int descriptor;
+    char *path;
+    char *bytes;
+    size_t capacity;
+};
+
+/* What rbbank_file_open and rbbank_file_answer return, beside the statuses of rbbank_journal_open and _answer. */
+enum {
+    RBBANK_FILE_FAILED = 10, /* a call on the file failed, and `errno` says why: open the file again */
+    RBBANK_FILE_IN_USE = 11  /* another process has the journal, or this one has it open already */
+};
+
+/* Opens site `me` of the configuration's line over the journal at `path`, or begins a new one there, and locks it
+ * against other processes. The reply is then what the last `resend` entries sent, a line for each that sent any.
+ * `*number` is as rbbank_journal_open has it. After another status than 0 nothing is open. */
+int32_t rbbank_file_open(struct rbbank_file *file, const char *path, uint8_t me, size_t resend, const char *config,
+                         size_t length, uint64_t *number);
+
+/* Answers a line, as rbbank_journal_answer does, and makes the calls on the file: 0, and the reply may be seen; 1, 4 or
+ * RBBANK_FILE_FAILED, after which the file is closed. */
+int32_t rbbank_file_answer(struct rbbank_file *file, size_t number, const char *line, size_t length);
+
+/* Closes the file and ends the site. A second time does nothing. */
+void rbbank_file_close(struct rbbank_file *file);
+
+#ifdef __cplusplus
+}
+#endif
+
+#endif

@@ -1,0 +1,264 @@
+//! A site whose journal is in a file, on a Unix system: the calls on the file that the library asks for.
+use crate::c::{self, Handle};
+use crate::handles::{copy, message, without_line_feed};
+use crate::{JournalError, Message};
+use std::ffi::OsString;
+use std::fmt;
+use std::fs::{self, File, OpenOptions};
+use std::io::{self, Read, Write};
+use std::os::fd::AsRawFd;
+use std::os::unix::fs::{FileExt, MetadataExt, OpenOptionsExt};
+use std::path::{Path, PathBuf};
+
+/// Of `flock`: alone, and without waiting.
+const LOCK_EX_NB: i32 = 2 | 4;
+
+extern "C" {
+    fn flock(descriptor: i32, how: i32) -> i32;
+}
+
+/// One site of a configuration, whose journal is in a file: what was answered is on the disk before its reply can be
+/// seen. The file is the one that `rbbank site` has, and either goes on from it. Dropping it ends it.
+///
+/// ```
+/// use rbbank::Journal;
+///
+/// let path = std::env::temp_dir().join(format!("rbbank-doc-{}", std::process::id()));
+/// let configuration = r#"{"accounts":[["ann",0]],"sites":2,"version":1}"#;
+/// let mut site = Journal::open(&path, 0, configuration, 0)?;
+/// assert!(site.answer(r#"{"deposit":["ann",500]}"#)?.starts_with(r#"{"reply":{"kind":"deposit","name":"B0.1"}"#));
+/// drop(site); // or a crash
+/// let mut site = Journal::open(&path, 0, configuration, 0)?;
+/// assert_eq!(site.answer(r#"{"balance":"ann"}"#)?, r#"{"reply":{"balance":500},"sends":[],"then":[]}"#);
+/// # std::fs::remove_file(path)?;
+/// # Ok::<(), Box<dyn std::error::Error>>(())
+/// ```
+pub struct Journal {
+    handle: Handle,
+    file: File,
+    path: PathBuf,
+    text: Vec<u8>,
+    bytes: Vec<u8>,
+    number: usize,
+}
+
+// SAFETY: as for a bank.
+unsafe impl Send for Journal {}
+
+impl fmt::Debug for Journal {
+    fn fmt(&self, f: &mut fmt::Formatter<'_>) -> fmt::Result {
+        f.debug_struct("Journal")
+            .field("path", &self.path)
+            .finish_non_exhaustive()
+    }
+}
+
+/// A file that is opened, or made, and locked against other processes.
+fn open_locked(path: &Path) -> Result<File, JournalError> {
+    let file = OpenOptions::new()
+        .read(true)
+        .write(true)
+        .create(true)
+        .truncate(false)
+        .open(path)?;
+    // SAFETY: the descriptor is open for the time of the call.
+    if unsafe { flock(file.as_raw_fd(), LOCK_EX_NB) } == 0 {
+        return Ok(file);
+    }
+    match io::Error::last_os_error() {
+        why if why.kind() == io::ErrorKind::WouldBlock => Err(JournalError::InUse),
+        why => Err(JournalError::File(why)),
+    }
+}
+
+/// Waits until the names in a file's folder are on the disk.
+fn sync_folder(path: &Path) -> io::Result<()> {
+    let folder = path.parent().unwrap_or_else(|| Path::new("/"));
+    File::open(folder)?.sync_all()
+}
+
+/// All bytes of the file, written again: after a wait for the disk that failed, the system may have what an earlier
+/// process wrote in its memory alone.
+fn read_whole(file: &mut File, path: &Path) -> io::Result<Vec<u8>> {
+    let mut bytes = Vec::new();
+    file.sync_all()?;
+    file.read_to_end(&mut bytes)?;
+    file.write_all_at(&bytes, 0)?;
+    file.sync_all()?;
+    sync_folder(path)?;
+    Ok(bytes)
+}
+
+impl Journal {
+    /// Site `me`, 0 to 15, of a configuration's line, over the journal at this path, or a new one there. The reply is
+    /// then what the last `resend` entries sent, a line for each that sent any.
+    ///
+    /// # Errors
+    ///
+    /// Each of `JournalError` but `Ended`. The file is as it was then, unless it failed.
+    pub fn open(
+        path: impl AsRef<Path>,
+        me: u8,
+        configuration: &str,
+        resend: usize,
+    ) -> Result<Journal, JournalError> {
+        let mut file = open_locked(path.as_ref())?;
+        let path = fs::canonicalize(path)?;
+        let read = read_whole(&mut file, &path)?;
+        let mut journal = Journal {
+            handle: Handle::NONE,
+            file,
+            path,
+            text: Vec::new(),
+            bytes: Vec::new(),
+            number: 1,
+        };
+        let mut number = 0;
+        // SAFETY: the handle is zeroed, and the texts are that long.
+        let status = unsafe {
+            c::rbbank_journal_open(
+                &mut journal.handle,
+                me,
+                resend,
+                configuration.as_ptr(),
+                configuration.len(),
+                read.as_ptr(),
+                read.len(),
+                &mut number,
+            )
+        };
+        JournalError::of_open(status, number)?;
+        journal.make_calls()?;
+        Ok(journal)
+    }
+
+    /// Answers a line as `rbbank site` does: an event, a question, or, if it is neither, by `{"bad":..}` with its
+    /// number, where the configuration's line is the first. A blank line is answered by nothing. At `Ok` all that was
+    /// recorded is on the disk.
+    ///
+    /// # Errors
+    ///
+    /// `File` and `OutOfMemory`, each of which ends the site; `Ended`.
+    pub fn answer(&mut self, line: &str) -> Result<&str, JournalError> {
+        self.number += 1;
+        // SAFETY: the handle was opened, and the line is that long.
+        let status = unsafe {
+            c::rbbank_journal_answer(&mut self.handle, self.number, line.as_ptr(), line.len())
+        };
+        match status {
+            0 => self.make_calls()?,
+            1 => return Err(JournalError::Ended),
+            _ => return Err(JournalError::OutOfMemory),
+        }
+        Ok(self.reply())
+    }
+
+    /// The last answer once more; empty if there was none, or the site ended.
+    pub fn reply(&mut self) -> &str {
+        without_line_feed(copy(
+            &mut self.handle,
+            c::rbbank_journal_reply,
+            &mut self.text,
+        ))
+    }
+
+    /// The messages of the last answer, on all its lines.
+    ///
+    /// # Errors
+    ///
+    /// `OutOfMemory`, after which the site is as it was; `Ended`.
+    pub fn sends(&mut self) -> Result<Vec<Message>, JournalError> {
+        let mut messages = Vec::new();
+        while let Some(one) = message(
+            &mut self.handle,
+            c::rbbank_journal_send,
+            messages.len(),
+            &mut self.text,
+        )? {
+            messages.push(one);
+        }
+        Ok(messages)
+    }
+
+    /// Makes the calls that are left, one after another, and none behind one that failed.
+    fn make_calls(&mut self) -> Result<(), JournalError> {
+        loop {
+            let (mut length, mut at) = (0, 0);
+            // SAFETY: the handle was opened, and the bytes are that long.
+            let kind = unsafe {
+                c::rbbank_journal_call(
+                    &mut self.handle,
+                    self.bytes.as_mut_ptr(),
+                    self.bytes.len(),
+                    &mut length,
+                    &mut at,
+                )
+            };
+            if kind == 0 {
+                return Ok(());
+            }
+            if length > self.bytes.len() {
+                self.bytes.resize(length, 0);
+                continue;
+            }
+            let made = self.make(kind, at, length);
+            // SAFETY: the handle was opened.
+            unsafe { c::rbbank_journal_done(&mut self.handle, u8::from(made.is_ok())) };
+            made?;
+        }
+    }
+
+    /// Makes a call that was asked for.
+    fn make(&self, kind: i32, at: u64, length: usize) -> io::Result<()> {
+        let bytes = &self.bytes[..length];
+        match kind {
+            c::CALL_WRITE => {
+                // The byte that makes a batch count is written alone.
+                if length == 1 {
+                    self.is_at_its_name()?;
+                }
+                self.file.write_all_at(bytes, at)
+            }
+            c::CALL_CUT => {
+                self.file.set_len(at)?;
+                self.file.sync_all()
+            }
+            c::CALL_SYNC => self.file.sync_data(),
+            c::CALL_KEEP => self.keep(bytes),
+            _ => Err(io::Error::from(io::ErrorKind::Unsupported)),
+        }
+    }
+
+    /// An error if the name no longer leads to the open file: a start would open another one.
+    fn is_at_its_name(&self) -> io::Result<()> {
+        let (named, open) = (fs::metadata(&self.path)?, self.file.metadata()?);
+        if named.dev() == open.dev() && named.ino() == open.ino() {
+            return Ok(());
+        }
+        Err(io::Error::new(
+            io::ErrorKind::Other,
+            "the journal's name leads to another file",
+        ))
+    }
+
+    /// Adds what is about to be cut off to the end of the file of the same name and `.cut`.
+    fn keep(&self, bytes: &[u8]) -> io::Result<()> {
+        let mut beside = OsString::from(&self.path);
+        beside.push(".cut");
+        let mut kept = OpenOptions::new()
+            .append(true)
+            .create(true)
+            .mode(self.file.metadata()?.mode() & 0o777)
+            .open(&beside)?;
+        kept.write_all(bytes)?;
+        kept.sync_all()?;
+        sync_folder(Path::new(&beside))
+    }
+}
+
+impl Drop for Journal {
+    fn drop(&mut self) {
+        // SAFETY: the handle was opened or is zeroed, and is used no more.
+        unsafe { c::rbbank_journal_close(&mut self.handle) }
+    }
+}
