@@ -1,5 +1,6 @@
 mod ClosedInMemory
 mod CutBytes
+mod JournalCalls
 mod Messages
 mod RawBoxValues
 mod SlotValues

@@ -55,6 +55,13 @@ pub record HasMade (old new : SeenJournal) : Type 0 where
   pub site : new.site ≡ old.site
   pub answer : new.answer ≡ old.answer
 
+-- nothing has changed
+pub record IsAsBefore (old new : SeenJournal) : Type 0 where
+  pub site : new.site ≡ old.site
+  pub answer : new.answer ≡ old.answer
+  pub made : new.made ≡ old.made
+  pub left : new.left ≡ old.left
+
 -- the text that may be seen: the last answer, once no call is left; and none if there is no site
 abbrev pub answer_behind : List NotedCall → List ℕ → List ℕ
 answer_behind [] answer = answer

@@ -1,14 +1,15 @@
 //! One site with its journal in a file. An export makes no call on a file: it says which is to be made next, and the
 //! caller makes it and says how it ended. So a program has its own loop, and a reply can be seen only once all that it
 //! rests on is on the disk.
-ghost use Rattle.std.specs.Prelude.{◌≡◌, ◌≢◌, ◌<◌, ◌⊎◌, [], ◌∷◌, ◌++◌, List, ℕ, None, Some, true, pos};
+ghost use Rattle.std.specs.Prelude.{◌≡◌, ◌≢◌, ◌<◌, ◌⊎◌, [], ◌∷◌, ◌++◌, List, ℕ, None, Some, true, IfSome};
+ghost use Rattle.std.specs.Prelude.{MatchResult, pos};
 ghost use Rattle.rb_journal.specs.Calls.{NotedCall};
 ghost use Rattle.rb_journal.specs.Planned.{made_event};
 ghost use Rattle.rb_run_site.specs.Openings.{EndsOnLine};
 ghost use Rattle.rb_run_site.specs.declared.fault.SiteFault.{SiteFault as SeenFault};
 ghost use Rattle.rb_capi.specs.Copies.{Copies};
-ghost use Rattle.rb_capi.specs.JournalSites.{AnswersJournalLine, HandsCall, HasMade, OpensJournal, SeenJournal};
-ghost use Rattle.rb_capi.specs.JournalSites.{calls_left, open_number, open_status, shown_text};
+ghost use Rattle.rb_capi.specs.JournalSites.{AnswersJournalLine, HandsCall, HasMade, IsAsBefore, OpensJournal};
+ghost use Rattle.rb_capi.specs.JournalSites.{SeenJournal, calls_left, open_number, open_status, shown_text};
 
 use crate::copy::copy_text;
 use crate::journal_handle::JournalHandle;
@@ -78,6 +79,43 @@ fn hand_call(kept: &KeptJournal, out: &mut [u8], length: &mut usize, at: &mut u6
     }
 }
 
+/// A site that is opened, in a box that C may keep.
+fn open_boxed(
+    alloc: Global,
+    me: u8,
+    resend: usize,
+    config: &[u8],
+    file: &[u8],
+) -> Result<Box<KeptJournal>, SiteFault>
+    ensures { MatchResult result (λ opened. OpensJournal config.now me resend file.now opened.value)
+        (EndsOnLine me [] file.now config.now) }
+{
+    let opened = KeptJournal::open(alloc, me, resend, config, file)?;
+    match Box::new(alloc, opened) {
+        Ok(opened) => Ok(opened),
+        Err(_) => Err(SiteFault::OutOfMemory),
+    }
+}
+
+/// The site after the answer to a line; `None` if it has ended.
+fn answer_boxed(
+    alloc: Global,
+    kept: Box<KeptJournal>,
+    number: usize,
+    line: &[u8],
+) -> Option<Box<KeptJournal>>
+    requires { kept.value.left ≡ [] }
+    ensures { IfSome result (λ answered. AnswersJournalLine kept.value answered.value number line.now) }
+{
+    let Ok(answered) = Box::into_inner(kept).answer_line(alloc, number, line) else {
+        return None;
+    };
+    match Box::new(alloc, answered) {
+        Ok(answered) => Some(answered),
+        Err(_) => None,
+    }
+}
+
 /// Opens the site `me` (0 to 15) of the configuration on a line, with the history in its journal's file, whose bytes
 /// these are: all that were read, all of them on the disk. A file that isn't there yet has none. A site that was kept
 /// there before is ended. Calls on the file are left then, which repair its end; the reply behind them is what the last
@@ -104,20 +142,16 @@ pub extern "C" fn rbbank_journal_open(
         × (result ≡ pos (open_status fault)) × (number.new ≡ open_number fault) }
 {
     journal.clear(alloc);
-    *number = 0;
-    let opened = match KeptJournal::open(alloc, me, resend, config, file) {
-        Ok(opened) => opened,
-        Err(fault) => {
-            *number = open_number(fault);
-            return open_status(fault);
-        }
-    };
-    match Box::new(alloc, opened) {
+    match open_boxed(alloc, me, resend, config, file) {
         Ok(opened) => {
             journal.put(opened);
+            *number = 0;
             0
         }
-        Err(_) => 4,
+        Err(fault) => {
+            *number = open_number(fault);
+            open_status(fault)
+        }
     }
 }
 
@@ -150,15 +184,12 @@ pub extern "C" fn rbbank_journal_answer(
         journal.put(kept);
         return 3;
     }
-    let Ok(answered) = Box::into_inner(kept).answer_line(alloc, number, line) else {
-        return 4;
-    };
-    match Box::new(alloc, answered) {
-        Ok(answered) => {
+    match answer_boxed(alloc, kept, number, line) {
+        Some(answered) => {
             journal.put(answered);
             0
         }
-        Err(_) => 4,
+        None => 4,
     }
 }
 
@@ -200,8 +231,8 @@ pub extern "C" fn rbbank_journal_done(alloc: Global, journal: &mut JournalHandle
         × (journal.new.value ≡ Some new) × HasMade old new }
     ensures none { result ≡ pos 1 → (journal.new.value ≡ None) × ((made ≡ 0) ⊎ (journal.old.value ≡ None)) }
     ensures failed { made ≡ 0 → result ≡ pos 1 }
-    ensures nothing { result ≡ pos 3 → (old : SeenJournal) × (journal.old.value ≡ Some old) × (old.left ≡ [])
-        × (journal.new.value ≡ journal.old.value) }
+    ensures nothing { result ≡ pos 3 → (old : SeenJournal) × (new : SeenJournal) × (journal.old.value ≡ Some old)
+        × (journal.new.value ≡ Some new) × (old.left ≡ []) × IsAsBefore old new }
     ensures statuses { (result ≡ pos 0) ⊎ ((result ≡ pos 1) ⊎ (result ≡ pos 3)) }
 {
     let Some(mut kept) = journal.take(alloc) else {

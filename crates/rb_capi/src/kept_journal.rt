@@ -3,7 +3,7 @@ ghost use Rattle.std.specs.Prelude.{◌≡◌, [], IfOk, IsTrue, IsFalse, MatchO
 ghost use Rattle.rb_journal.specs.Calls.{NotedCall};
 ghost use Rattle.rb_journal.specs.Planned.{made_event};
 ghost use Rattle.rb_run_site.specs.Openings.{EndsOnLine};
-ghost use Rattle.rb_capi.specs.JournalSites.{answer_behind, AnswersJournalLine, HasMade, OpensJournal};
+ghost use Rattle.rb_capi.specs.JournalSites.{answer_behind, AnswersJournalLine, HasMade, IsAsBefore, OpensJournal};
 
 use rb_history::BankName;
 use rb_journal::{Call, Journal, Planned, ServeFault, answer_alone};
@@ -136,7 +136,7 @@ impl KeptJournal {
     /// Notes that the next call was made, and succeeded; `false` if there is none, and nothing has changed.
     pub fn made(&mut self) -> bool
         ensures made { IsTrue result → HasMade self.old self.new }
-        ensures none { IsFalse result → (self.old.left ≡ []) × (self.new ≡ self.old) }
+        ensures none { IsFalse result → (self.old.left ≡ []) × IsAsBefore self.old self.new }
     {
         self.journal.host.made().is_some()
     }
