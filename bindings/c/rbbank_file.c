@@ -177,8 +177,12 @@ int32_t rbbank_file_open(struct rbbank_file *file, const char *path, uint8_t me,
         status = RBBANK_FILE_FAILED;
     if (status == RBBANK_OK)
         status = rbbank_journal_open(&file->journal, me, resend, config, length, file->bytes, read, number);
-    if (status == RBBANK_OK)
+    if (status == RBBANK_OK) {
+        free(file->bytes);
+        file->bytes = NULL;
+        file->capacity = 0;
         return make_all(file);
+    }
     int why = errno;
     rbbank_file_close(file);
     errno = why;
