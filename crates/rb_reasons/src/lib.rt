@@ -1,0 +1,101 @@
+//! Why a line was refused.
+#![tactic(auto)]
+
+ghost use Rattle.std.specs.Prelude.{◌≤◌, length, string_bytes, IfSome};
+ghost use Rattle.rb_reasons.specs.Reasons.{IsReason};
+ghost use Rattle.rb_reasons.specs.declared.text.TheConstants.{MOST_REASON};
+
+mod find;
+mod good;
+mod keys;
+mod members;
+mod place;
+mod reader;
+mod rule;
+mod scan;
+mod syntax;
+mod text;
+mod value;
+mod words;
+
+use crate::find::first_refused;
+use crate::reader::Reader;
+use crate::scan::Scan;
+use crate::syntax::wrong_syntax;
+use crate::text::write_reason;
+use crate::value::wrong_value;
+use crate::words::{Fault, Words};
+use rb_lines::{LINE_LIMIT, text_on};
+use rb_money::Config;
+pub use reader::Expected;
+use serde_json::Value;
+use std::alloc::Global;
+pub use text::MOST_REASON;
+
+/// The reason why the reader refused the line.
+pub fn reason_of(
+    alloc: Global,
+    expected: Expected,
+    config: Option<&Config>,
+    line: &[u8],
+) -> Option<String>
+    ensures reason { IfSome result (λ s. IsReason (length line.now) (string_bytes s)) }
+    ensures most { IfSome result (λ s. length (string_bytes s) ≤ MOST_REASON) }
+{
+    let fault = fault_of(alloc, Reader { expected, config }, line)?;
+    write_reason(alloc, line, fault.at, &fault.why)
+}
+
+/// What is wrong with the line.
+fn fault_of(alloc: Global, reader: Reader<'_>, line: &[u8]) -> Option<Fault> {
+    if line.len() > LINE_LIMIT {
+        let words = Words::new(alloc)
+            .text("the line has ")?
+            .number(line.len() as u64)?;
+        let words = words
+            .text(" bytes, and the limit is ")?
+            .number(LINE_LIMIT as u64)?;
+        return words.at(LINE_LIMIT);
+    }
+    if let Some(mark) = mark(line) {
+        let words = Words::new(alloc).text("the line begins with ")?.text(mark)?;
+        return words
+            .text(": the program reads UTF-8 with no such mark")?
+            .at(0);
+    }
+    let Some(text) = text_on(line) else {
+        return not_text(alloc, line);
+    };
+    match Value::from_str(alloc, text) {
+        Ok(_) => wrong_json(alloc, reader, line),
+        Err(error) if error.is_memory() => None,
+        Err(error) => wrong_syntax(alloc, line, &error),
+    }
+}
+
+/// What is wrong with a line that is JSON.
+fn wrong_json(alloc: Global, reader: Reader<'_>, line: &[u8]) -> Option<Fault> {
+    let nodes = Scan::of(alloc, line, reader.root(), reader.version())?.values();
+    let first = first_refused(alloc, reader, line, &nodes)?;
+    wrong_value(alloc, reader, line, nodes.get(first..).unwrap_or(&[]))
+}
+
+/// Where a line isn't UTF-8.
+fn not_text(alloc: Global, line: &[u8]) -> Option<Fault> {
+    let at = match std::str::from_utf8(line) {
+        Ok(_) => 0,
+        Err(error) => error.valid_up_to(),
+    };
+    let byte = line.get(at).copied().unwrap_or(0);
+    let why = format!(in alloc; "the byte 0x{byte:02x} isn't UTF-8").ok()?;
+    Words::new(alloc).text(&why)?.at(at)
+}
+
+/// The mark of an encoding that a line begins with.
+fn mark(line: &[u8]) -> Option<&'static str> {
+    match line {
+        [0xef, 0xbb, 0xbf, ..] => Some("a byte-order mark"),
+        [0xff, 0xfe, ..] | [0xfe, 0xff, ..] => Some("a mark of UTF-16"),
+        _ => None,
+    }
+}
