@@ -2,8 +2,8 @@
 
 use crate::place::Place;
 use crate::scan::Node;
+use rb_history::spell;
 use rb_money::MOST_SITES;
-use rb_shadow::Label;
 use std::alloc::{AllocError, Global};
 
 /// How many values after a pair of a clock may be those of the pairs after it.
@@ -55,13 +55,12 @@ fn is_longer(text: &[u8]) -> bool {
 
 /// Whether the text is the word of a kind, in quotes.
 fn is_label(text: &[u8]) -> bool {
-    let Some(word) = text.get(1..text.len().saturating_sub(1)) else {
-        return false;
-    };
-    match std::str::from_utf8(word) {
-        Ok(word) => Label::from_word(word).is_some(),
-        Err(_) => false,
-    }
+    text == spell!(deposit).as_bytes()
+        || text == spell!(withdraw).as_bytes()
+        || text == spell!(declined).as_bytes()
+        || text == spell!(interest).as_bytes()
+        || text == spell!(cancel).as_bytes()
+        || text == spell!(transfer).as_bytes()
 }
 
 fn plain(place: Place, version: u8) -> &'static str {
