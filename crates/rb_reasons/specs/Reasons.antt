@@ -1,5 +1,5 @@
 -- The shape of a reason's text.
-use Rattle.std.specs.Prelude.{◌≡◌, ◌≤◌, ◌<◌, ◌+◌, ◌++◌, ℕ, List, All, codes, decimal, length}
+use Rattle.std.specs.Prelude.{◌≡◌, ◌≤◌, ◌<◌, ◌+◌, ◌++◌, ℕ, List, All, codes, decimal}
 
 -- bytes from the space to ~: no line feed is among them
 abbrev pub IsPlain : List ℕ → Type 0

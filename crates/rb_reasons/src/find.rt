@@ -1,11 +1,12 @@
-//! Which value of a line the reader refuses first.
+//! Which value of a line the reader refuses first. No rule of the readers is written again here: the reader itself is
+//! asked, of the line with good values from some value on, and the value is found by halves.
 
 use crate::good::append_good;
 use crate::reader::Reader;
 use crate::scan::Node;
 use std::alloc::{AllocError, Global};
 
-/// The line in which each value after the one at `last` is a good one, up to the ends of those that it stands in.
+/// The line in which each value after the one at `last` is a good one, up to the ends of those that hold it.
 fn completed(
     alloc: Global,
     line: &[u8],

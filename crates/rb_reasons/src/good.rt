@@ -1,4 +1,5 @@
-//! A good value for each place: what the reader takes there, whatever stands before.
+//! A good value for each place, which the reader takes there whatever is before it. So a line that is refused with good
+//! values from some value on has its fault before them.
 
 use crate::place::Place;
 use crate::scan::Node;
@@ -9,7 +10,7 @@ use std::alloc::{AllocError, Global};
 /// How many values after a pair of a clock may be those of the pairs after it.
 const MOST_AFTER: usize = 3 * MOST_SITES;
 
-/// Adds a good value for the place of the value at the head of a line's values. `text` is what stands there.
+/// Adds a good value for the place of the value at the head of a line's values. `text` is there now.
 pub fn append_good(
     alloc: Global,
     out: &mut Vec<u8>,
@@ -34,7 +35,7 @@ pub fn append_good(
     out.extend_from_slice(good.as_bytes())
 }
 
-/// A site that leaves room for those of the pairs behind the first value.
+/// A site with enough sites above it for the pairs behind the first value.
 fn site_before(nodes: &[Node]) -> usize {
     let pairs = nodes
         .iter()
@@ -63,6 +64,7 @@ fn is_label(text: &[u8]) -> bool {
         || text == spell!(transfer).as_bytes()
 }
 
+/// A good value for a place where each line may have the same.
 fn plain(place: Place, version: u8) -> &'static str {
     match place {
         Place::Config => r#"{"accounts":[["a",0]],"sites":2,"version":1}"#,

@@ -1,4 +1,5 @@
-//! The keys of objects, with the places of their values.
+//! The keys of objects, with the places of their values. They are one table, by which the keys of a line get their
+//! places, and from which the words on missing and unknown keys are taken.
 
 use crate::place::Place;
 use rb_money::{MOST_BLUE, MOST_EPOCH, MOST_HISTORY, MOST_INBOX, MOST_RED};
@@ -33,7 +34,7 @@ pub enum Group {
     Why,
 }
 
-/// What a key is to an object.
+/// The part of a key in an object.
 #[derive(Clone, Copy, Debug, PartialEq, Eq)]
 pub enum Role {
     /// The object hasn't it.
@@ -52,7 +53,7 @@ pub enum Role {
 pub type Key = (Group, &'static str, Place);
 
 /// The keys of all objects, in the order in which they are said.
-pub const KEYS: [Key; 54] = [
+static KEYS: [Key; 54] = [
     (Group::Requests, key!(deposit), Place::Deposit),
     (Group::Requests, key!(withdraw), Place::Withdraw),
     (Group::Requests, key!(interest), Place::Interest),
@@ -129,7 +130,12 @@ pub const KEYS: [Key; 54] = [
     (Group::Why, key!(why), Place::Why),
 ];
 
-/// What the keys of a group are to the object at a place.
+/// The keys of all objects. A loop over them is proved for any slice, and the table isn't looked at.
+pub fn keys() -> &'static [Key] {
+    &KEYS
+}
+
+/// The part of a group's keys in the object at a place.
 pub fn role_of(object: Place, group: Group) -> Role {
     match (object, group) {
         (Place::Config, Group::Config) => Role::Needed,
@@ -157,7 +163,7 @@ pub fn role_of(object: Place, group: Group) -> Role {
     }
 }
 
-/// What the keys of a group are to a reply of one key.
+/// The part of a group's keys in a reply of one key.
 fn role_in_reply(group: Group) -> Role {
     match group {
         Group::Made | Group::Statement | Group::Refused | Group::Cancelled => Role::Elsewhere,
@@ -168,7 +174,7 @@ fn role_in_reply(group: Group) -> Role {
 
 /// The place of the value behind a key of the object at a place.
 pub fn member(object: Place, word: &[u8]) -> Place {
-    for (group, key, place) in &KEYS {
+    for (group, key, place) in keys() {
         if key.as_bytes() == word && role_of(object, *group) != Role::None {
             return match (object, *place) {
                 (Place::Entry, Place::Site) => Place::EntrySite,

@@ -1,4 +1,5 @@
-//! Why a line was refused.
+//! Why a line was refused. The readers only say that they refuse a line, which keeps them and their contracts small;
+//! the reason is looked for here, once a line was refused.
 #![tactic(auto)]
 
 ghost use Rattle.std.specs.Prelude.{◌≤◌, length, string_bytes, IfSome};
@@ -46,7 +47,7 @@ pub fn reason_of(
     write_reason(alloc, line, fault.at, &fault.why)
 }
 
-/// What is wrong with the line.
+/// The fault of the line.
 fn fault_of(alloc: Global, reader: Reader<'_>, line: &[u8]) -> Option<Fault> {
     if line.len() > LINE_LIMIT {
         let words = Words::new(alloc)
@@ -73,14 +74,14 @@ fn fault_of(alloc: Global, reader: Reader<'_>, line: &[u8]) -> Option<Fault> {
     }
 }
 
-/// What is wrong with a line that is JSON.
+/// The fault of a line that is JSON.
 fn wrong_json(alloc: Global, reader: Reader<'_>, line: &[u8]) -> Option<Fault> {
     let nodes = Scan::of(alloc, line, reader.root(), reader.version())?.values();
     let first = first_refused(alloc, reader, line, &nodes)?;
     wrong_value(alloc, reader, line, nodes.get(first..).unwrap_or(&[]))
 }
 
-/// Where a line isn't UTF-8.
+/// The fault of a line that isn't UTF-8.
 fn not_text(alloc: Global, line: &[u8]) -> Option<Fault> {
     let at = match std::str::from_utf8(line) {
         Ok(_) => 0,

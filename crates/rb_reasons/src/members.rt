@@ -1,6 +1,7 @@
-//! Why the reader refuses an object of which it could take each value: by its keys.
+//! Why the reader refuses an object of which it could take each value: by its keys. The place of such an object depends
+//! on its keys, so that they are looked at once all of them are known.
 
-use crate::keys::{Group, KEYS, Role, key, role_of};
+use crate::keys::{Group, Role, key, keys, role_of};
 use crate::place::Place;
 use crate::rule::object;
 use crate::scan::Node;
@@ -32,7 +33,7 @@ struct Object<'a> {
     line: &'a [u8],
     form: Place,
     start: usize,
-    /// Where its closing bracket is.
+    /// The bytes before its closing bracket.
     last: usize,
     values: Vec<Node>,
 }
@@ -79,7 +80,7 @@ impl<'a> Object<'a> {
 
     /// Whether it has a key of the group.
     fn has(&self, group: Group) -> bool {
-        for (of, word, _) in &KEYS {
+        for (of, word, _) in keys() {
             if *of == group && self.find(word).is_some() {
                 return true;
             }
@@ -87,7 +88,7 @@ impl<'a> Object<'a> {
         false
     }
 
-    /// A line, or a part of it, that belongs elsewhere: where that shows, and where it belongs.
+    /// A part that belongs to another kind of line: how many bytes are before it, and words on it.
     fn elsewhere(&self) -> Option<(usize, &'static str)> {
         let is_command = self.has(Group::Requests)
             || self.has(Group::Asked)
@@ -104,7 +105,7 @@ impl<'a> Object<'a> {
         }
     }
 
-    /// What was received, in a command.
+    /// A receipt, which a command hasn't.
     fn receipt(&self) -> Option<(usize, &'static str)> {
         if let Some(shadow) = self.find(key!(shadow)) {
             return Some((shadow.key_start, A_SHADOW));
@@ -156,7 +157,7 @@ impl<'a> Object<'a> {
 
     /// Whether the object has or may have the key.
     fn knows(&self, word: &[u8]) -> bool {
-        for (group, key, _) in &KEYS {
+        for (group, key, _) in keys() {
             if key.as_bytes() == word && is_there(role_of(self.form, *group)) {
                 return true;
             }
@@ -175,7 +176,7 @@ impl<'a> Object<'a> {
     fn wrong_keys(&self, alloc: Global) -> Option<Fault> {
         let mut found: Option<&'static str> = None;
         let mut may_be = false;
-        for (group, key, _) in &KEYS {
+        for (group, key, _) in keys() {
             if role_of(self.form, *group) == Role::One {
                 may_be = true;
                 if let Some(value) = self.find(key) {
@@ -203,7 +204,7 @@ impl<'a> Object<'a> {
 
     /// A key that the object needs.
     fn missing_key(&self, alloc: Global) -> Option<Fault> {
-        for (group, key, _) in &KEYS {
+        for (group, key, _) in keys() {
             if role_of(self.form, *group) == Role::Needed && self.find(key).is_none() {
                 let words = Words::new(alloc)
                     .text("the key \"")?
@@ -224,7 +225,7 @@ impl<'a> Object<'a> {
     fn listed(&self, words: Words, ones: bool) -> Option<Words> {
         let mut words = words;
         let mut comma = "";
-        for (group, key, _) in &KEYS {
+        for (group, key, _) in keys() {
             let role = role_of(self.form, *group);
             if role == Role::One || !ones && is_there(role) {
                 words = words.text(comma)?.text(key)?;
@@ -234,7 +235,7 @@ impl<'a> Object<'a> {
         Some(words)
     }
 
-    /// What the object is.
+    /// The object's name more, after the words.
     fn what(&self, words: Words) -> Option<Words> {
         let words = words.text(object(self.form))?;
         match self.form {
@@ -249,23 +250,31 @@ fn is_there(role: Role) -> bool {
     role != Role::None && role != Role::Elsewhere
 }
 
+/// Of a first line that isn't the configuration.
 const NO_CONFIG: &str =
     "the first line is the configuration, as {\"accounts\":[[\"ann\",0]],\"sites\":2,\"version\":1}";
 
+/// Of a history's entry in a script.
 const AN_ENTRY: &str =
     "this is an entry of a history, and a script has commands; `rbbank audit` takes entries";
 
+/// Of a configuration further below.
 const A_CONFIG: &str = "a configuration is the first line alone";
 
+/// Of a script's command in a history.
 const A_COMMAND: &str =
     "this is a command, and a history has entries; `rbbank script` takes commands";
 
+/// Of a delivery by its number in a history.
 const A_DELIVERY: &str = "a history has what was delivered: \"shadow\" or \"token\"";
 
+/// Of a received operation in a script.
 const A_SHADOW: &str =
     "\"shadow\" is in histories alone; in a script \"deliver\" brings a message, by its number";
 
+/// Of a received token in a script.
 const A_TOKEN: &str =
     "\"token\" is in histories alone; in a script \"deliver\" brings a message, by its number";
 
+/// Of an id that goes with no such entry.
 const AN_ID: &str = "an entry with an id is of a request that wasn't refused";

@@ -1,4 +1,5 @@
-//! Where a value stands in a line.
+//! The place of a value in a line. It is all that the good value there, the rule there and its words depend on, so that
+//! each of these is one table.
 
 /// The place of a value in a line.
 #[derive(Clone, Copy, Debug, PartialEq, Eq)]

@@ -1,4 +1,4 @@
-//! What a line is read for, and by: the readers that decide.
+//! The readers that decide whether a line is taken, as one type, so that the rest needn't know which of them it asks.
 
 use crate::place::Place;
 use rb_history::{LineFault, open_command, open_config, read_line};

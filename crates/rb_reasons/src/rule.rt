@@ -1,10 +1,11 @@
-//! What is expected at a place, in words.
+//! The rule of each place, in words. A rule only chooses what is said: whether a value is taken is decided by the
+//! reader.
 
 use crate::place::Place;
 use crate::reader::Reader;
 use rb_money::{MOST_CENTS, MOST_SITES, MOST_SITES_OF_VERSION_1, Refusal};
 
-/// What a value has to be.
+/// The rule that a value has to keep.
 #[derive(Clone, Copy, Debug, PartialEq, Eq)]
 pub enum Rule {
     /// A whole number of this range.
@@ -24,23 +25,23 @@ pub enum Rule {
     Any,
 }
 
+/// The most that a number of 8 bits may be.
 const BYTE: u64 = u8::MAX as u64;
 
+/// The most that a number of 32 bits may be.
 const WORD: u64 = u32::MAX as u64;
 
+/// A number from 0.
 fn number(what: &'static str, most: u64) -> Rule {
-    Rule::Number {
-        what,
-        least: 0,
-        most,
-    }
+    above(what, 0, most)
 }
 
+/// A number from `least` on.
 fn above(what: &'static str, least: i64, most: u64) -> Rule {
     Rule::Number { what, least, most }
 }
 
-/// What is expected at a place.
+/// The rule at a place.
 pub fn rule_at(place: Place, reader: Reader<'_>) -> Rule {
     match place {
         Place::Sites => above("the number of sites", 2, MOST_SITES as u64),
@@ -72,6 +73,7 @@ pub fn rule_at(place: Place, reader: Reader<'_>) -> Rule {
     }
 }
 
+/// The rule at a place that has a text, a list or an object.
 fn rule_of_text(place: Place, reader: Reader<'_>) -> Rule {
     match place {
         Place::NewName => Rule::Text("an account's name"),
@@ -85,6 +87,7 @@ fn rule_of_text(place: Place, reader: Reader<'_>) -> Rule {
     }
 }
 
+/// The rule at a place that has a list or an object.
 fn rule_of_list(place: Place, reader: Reader<'_>) -> Rule {
     match place {
         Place::Accounts => Rule::Every("the value of accounts"),

@@ -1,4 +1,5 @@
-//! The values of a line's JSON in the order of the text: where each begins and ends, its key and its place.
+//! The values of a line's JSON in the order of the text: where each begins and ends, its key and its place. The JSON
+//! reader gives values without their places in the text, so that the bytes are gone over once more.
 
 use crate::keys::member;
 use crate::place::Place;
@@ -15,7 +16,7 @@ pub struct Node {
     pub key_end: usize,
 }
 
-/// What the next byte belongs to.
+/// The part of JSON that the next byte belongs to.
 #[derive(Clone, Copy, Debug, PartialEq, Eq)]
 enum State {
     Between,
@@ -24,7 +25,7 @@ enum State {
     Word,
 }
 
-/// What may come next in a line.
+/// The parts of JSON that may come next in a line.
 #[derive(Clone, Copy, Debug, PartialEq, Eq)]
 pub enum Next {
     /// More of a text.
@@ -96,7 +97,7 @@ impl<'a> Scan<'a> {
         self.nodes
     }
 
-    /// What may come next.
+    /// The part that may come next.
     pub fn next(&self) -> Next {
         let last = self.line.iter().rev().find(|byte| !is_space(**byte));
         match (self.state, last) {
@@ -119,7 +120,7 @@ impl<'a> Scan<'a> {
         key.unwrap_or(b"")
     }
 
-    /// Where the last key or value begins.
+    /// How many bytes are before the last key or value.
     pub fn begin(&self) -> usize {
         match self.nodes.last() {
             Some(node) if !self.is_key => node.start,
@@ -127,7 +128,7 @@ impl<'a> Scan<'a> {
         }
     }
 
-    /// Where the innermost object or list begins that hasn't ended, and whether it is an object.
+    /// How many bytes are before the innermost object or list that hasn't ended, and whether it is an object.
     pub fn holder(&self) -> Option<(usize, bool)> {
         let open = self.open.last()?;
         Some((self.nodes.get(open.node)?.start, open.is_object))
@@ -149,6 +150,7 @@ impl<'a> Scan<'a> {
         Some(())
     }
 
+    /// A byte more of a text.
     fn step_in_text(&mut self, at: usize, byte: u8) {
         if byte == b'\\' {
             self.state = State::Escape;
@@ -160,6 +162,7 @@ impl<'a> Scan<'a> {
         }
     }
 
+    /// A byte that isn't within a text or a word.
     fn step_between(&mut self, at: usize, byte: u8) -> Option<()> {
         match byte {
             b' ' | b'\t' | b'\r' | b':' => (),
@@ -198,6 +201,7 @@ impl<'a> Scan<'a> {
         Some(())
     }
 
+    /// An item of the innermost object or list ends, and another comes.
     fn next_item(&mut self) {
         if let Some(open) = self.open.last_mut() {
             open.items = open.items.saturating_add(1);
@@ -250,12 +254,6 @@ impl<'a> Scan<'a> {
         if !open.is_object {
             return holder.place.item(open.items, self.version);
         }
-        match self
-            .line
-            .get(self.key_start.saturating_add(1)..self.key_end)
-        {
-            Some(word) => member(holder.place, word),
-            None => Place::Unknown,
-        }
+        member(holder.place, self.key())
     }
 }

@@ -1,4 +1,5 @@
-//! Why a line is no JSON: where its reader finds that no text that begins so is JSON, and what may stand there.
+//! Why a line is no JSON: after how many bytes no text that begins so is JSON, and the parts of JSON that may be there.
+//! The JSON reader is asked of the line's beginnings, since where it stops reading isn't always where the fault is.
 
 use crate::place::Place;
 use crate::scan::{Next, Scan};
@@ -75,6 +76,7 @@ pub fn wrong_syntax(alloc: Global, line: &[u8], error: &Error) -> Option<Fault> 
     }
 }
 
+/// A byte that can't be in a text, or a text without an end.
 fn wrong_text(words: Words, scan: &Scan<'_>, rest: &[u8], at: usize) -> Option<Fault> {
     match rest.first() {
         None => words.text("this text has no closing \"")?.at(scan.begin()),
@@ -103,7 +105,7 @@ fn wrong_word(words: Words, scan: &Scan<'_>, line: &[u8], at: usize) -> Option<F
     }
 }
 
-/// What isn't a value, or not a whole one.
+/// Something that isn't a value, or not a whole one.
 fn wrong_value(words: Words, rest: &[u8], front: &[u8], at: usize) -> Option<Fault> {
     match rest.first() {
         None => words
@@ -142,7 +144,7 @@ fn no_value(words: Words, rest: &[u8], at: usize) -> Option<Fault> {
         .at(at)
 }
 
-/// What comes behind a value.
+/// Something that can't come behind a value.
 fn wrong_end(words: Words, scan: &Scan<'_>, rest: &[u8], at: usize) -> Option<Fault> {
     let Some((begin, is_object)) = scan.holder() else {
         return words

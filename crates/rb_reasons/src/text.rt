@@ -1,5 +1,6 @@
-//! The text of a reason: the column, what is wrong there, and the line round it with a caret.
-ghost use Rattle.std.specs.Prelude.{◌≡◌, ◌≤◌, ◌<◌, length, string_bytes, IfSome};
+//! The text of a reason: the column, what is wrong there, and the line round it with a caret. All contracts on what is
+//! printed are kept here, for any words and any line, so that no other file needs a proof of its words.
+ghost use Rattle.std.specs.Prelude.{◌≤◌, ◌<◌, length, string_bytes, IfSome};
 ghost use Rattle.rb_reasons.specs.Reasons.{IsPlain, IsReason};
 ghost use Rattle.rb_reasons.specs.declared.text.TheConstants.{MOST_REASON};
 
@@ -25,7 +26,7 @@ fn is_within(byte: u8) -> bool {
     0x80 <= byte && byte < 0xc0
 }
 
-/// The plain character that stands for a byte.
+/// The plain character that is shown for a byte.
 fn shown(byte: u8) -> char
     ensures { (32 ≤ result) × (result < 127) }
 {
@@ -36,7 +37,7 @@ fn shown(byte: u8) -> char
     }
 }
 
-/// At most so many characters, each as a plain one, or as a space. `None` if memory ran out.
+/// At most `most` characters, each as a plain one, or as a space. `None` if memory ran out.
 fn plain(alloc: Global, bytes: &[u8], most: usize, is_blank: bool) -> Option<String>
     ensures plain { IfSome result (λ s. IsPlain (string_bytes s)) }
     ensures most { IfSome result (λ s. length (string_bytes s) ≤ most) }

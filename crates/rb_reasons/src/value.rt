@@ -1,4 +1,5 @@
-//! Why the reader refuses a value.
+//! Why the reader refuses a value: by its kind, then by the rule of its place. If the value keeps that rule, the reason
+//! is a rule between values, of which only the common ones have words.
 
 use crate::members::{children, wrong_object};
 use crate::place::Place;
@@ -10,7 +11,7 @@ use rb_history::MOST_ID_BYTES;
 use rb_money::{LONGEST_NAME, MOST_ACCOUNTS, MOST_SITES, MOST_SITES_OF_VERSION_1};
 use std::alloc::Global;
 
-/// What a value is, by its first byte.
+/// The kind of a value, by its first byte.
 #[derive(Clone, Copy, Debug, PartialEq, Eq)]
 enum Kind {
     Object,
@@ -21,6 +22,7 @@ enum Kind {
 }
 
 impl Kind {
+    /// The kind of the value with this text.
     fn of(text: &[u8]) -> Kind {
         match text.first() {
             Some(b'{') => Kind::Object,
@@ -31,6 +33,7 @@ impl Kind {
         }
     }
 
+    /// Its name, with an article.
     fn name(self) -> &'static str {
         match self {
             Kind::Object => "an object",
@@ -73,14 +76,14 @@ pub fn wrong_value(
     }
 }
 
-/// What isn't taken for a reason that no rule here says.
+/// A value that isn't taken for a reason that no rule here says.
 pub fn unknown(alloc: Global, at: usize) -> Option<Fault> {
     Words::new(alloc)
         .text("this isn't taken here (docs/FORMAT.md has the rules)")?
         .at(at)
 }
 
-/// What a rule is about, and what it has to be.
+/// The name of what a rule is about, and the kind that it has to be of.
 fn wanted(rule: Rule) -> Option<(&'static str, Kind)> {
     match rule {
         Rule::Number { what, .. } => Some((what, Kind::Number)),
@@ -91,6 +94,7 @@ fn wanted(rule: Rule) -> Option<(&'static str, Kind)> {
     }
 }
 
+/// A value of another kind than its place wants.
 fn other_kind(alloc: Global, at: usize, what: &str, wanted: Kind, kind: Kind) -> Option<Fault> {
     Words::new(alloc)
         .text(what)?
@@ -101,6 +105,7 @@ fn other_kind(alloc: Global, at: usize, what: &str, wanted: Kind, kind: Kind) ->
         .at(at)
 }
 
+/// A number that isn't a whole one of the range.
 fn wrong_number(
     alloc: Global,
     node: &Node,
@@ -167,6 +172,7 @@ fn wrong_in_range(alloc: Global, node: &Node) -> Option<Fault> {
     }
 }
 
+/// A text that its place doesn't take.
 fn wrong_text(alloc: Global, reader: Reader<'_>, node: &Node, text: &[u8]) -> Option<Fault> {
     let words = Words::new(alloc).quote(text)?;
     match node.place {
@@ -206,6 +212,7 @@ fn is_account(alloc: Global, reader: Reader<'_>, name: &[u8]) -> Option<bool> {
     reader.takes(alloc, &line.why)
 }
 
+/// A list with more or fewer items than `count`.
 fn wrong_count(alloc: Global, nodes: &[Node], what: &str, count: usize) -> Option<Fault> {
     let at = nodes.first()?.start;
     let items = children(alloc, nodes)?.len();
@@ -219,6 +226,7 @@ fn wrong_count(alloc: Global, nodes: &[Node], what: &str, count: usize) -> Optio
     words.text(", and this has ")?.number(items as u64)?.at(at)
 }
 
+/// A list that may have any number of items, up to a limit.
 fn wrong_list(alloc: Global, nodes: &[Node]) -> Option<Fault> {
     let node = nodes.first()?;
     if node.place != Place::Accounts {

@@ -1,11 +1,12 @@
-//! Words of a reason, one after another.
+//! Words of a reason, one after another. Each step takes the words and gives them back, so that a reason is one chain
+//! of calls that ends at the first want of memory.
 
 use std::alloc::Global;
 
 /// The most bytes of a line that are said again in words.
 const MOST_QUOTED: usize = 60;
 
-/// What is wrong with a line, and how many of its bytes are before that.
+/// A fault of a line: how many bytes are before it, and words on it.
 #[derive(Drop)]
 pub struct Fault {
     pub at: usize,
@@ -20,6 +21,7 @@ pub struct Words {
 }
 
 impl Words {
+    /// No words yet.
     pub fn new(alloc: Global) -> Words {
         Words {
             alloc,
@@ -81,7 +83,7 @@ impl Words {
         Some(self)
     }
 
-    /// What is wrong with a line, this far in it.
+    /// The fault of these words, which this many bytes are before.
     pub fn at(self, at: usize) -> Option<Fault> {
         Some(Fault {
             at,

@@ -1,5 +1,4 @@
-use Rattle.std.proofs.Common.{◌≤◌, ◌+◌, ℕ, length, ap, arith, string_bytes}
-use Rattle.rb_reasons.specs.Reasons.{IsReason}
+use Rattle.std.proofs.Common.{◌≤◌, ◌+◌, length, ap, arith, string_bytes}
 use Rattle.rb_reasons.proofs.Short.{short}
 use Rattle.rb_reasons.proofs.text.write_reason.Goals as goal
 
