@@ -34,7 +34,7 @@ pub record TakesAll {S M : Type 0} (rest : Option S → ℕ → List (List ℕ) 
 
 -- before the first line
 abbrev pub first_lines : {S : Type 0} → Lines S
-first_lines = record { opened = None; number = 1; count = 0 }
+first_lines = record { opened = None; number = 1; count = 0; why = None }
 
 -- the state of a run
 abbrev pub lines_state : {S : Type 0} → (Option S → ℕ → List (List ℕ) → LinesOutcome) → Lines S → RunState

@@ -1,22 +1,45 @@
 //! The lines of a run, one at a time: the first that isn't skipped opens a value, which takes each later one.
-ghost use Rattle.std.specs.Prelude.{◌≡◌, ◌++◌, ◌+◌, ◌^◌, ◌<◌, List, ℕ, None, Some, false, MatchResult};
+ghost use Rattle.std.specs.Prelude.{◌≡◌, ◌++◌, ◌+◌, ◌^◌, ◌<◌, List, ℕ, None, Some, false, IfSome, MatchResult, length};
+ghost use Rattle.std.specs.Prelude.{string_bytes};
 ghost use Rattle.rb_history.specs.declared.fault.LineFault.TheVariants.{Bad};
 ghost use Rattle.rb_lines.specs.Lines.{is_blank, is_long};
 ghost use Rattle.rb_lines.specs.declared.fault.ScriptFault.TheVariants.{BadConfig};
+ghost use Rattle.rb_reasons.specs.Reasons.{IsReason};
 ghost use Rattle.rb_runs.specs.TakesLines.{StopsAt, TakesLine, first_lines};
 
 use crate::fault::fault_at;
 use crate::takes_lines::TakesLines;
 use rb_history::LineFault;
 use rb_lines::{Responder, ScriptFault, is_blank};
+use rb_money::Config;
+use rb_reasons::{Expected, reason_of};
 use std::alloc::Global;
 
 /// The state of a run over its lines: what the configuration opened, once there is one, the number of the next line,
-/// from 1, and the number of answers so far. It can't be dropped: it is closed, or gives what was opened.
+/// from 1, the number of answers so far, and the reason of the line that stopped it. It can't be dropped: it is closed,
+/// or gives what was opened.
 pub struct Lines<T> {
     pub opened: Option<T>,
     pub number: u64,
     pub count: u64,
+    pub why: Option<String>,
+}
+
+/// Why the reader refused a line, if that is its fault, and memory suffices to say it.
+#[inline(never)]
+fn reason(
+    alloc: Global,
+    fault: LineFault,
+    expected: Expected,
+    config: Option<&Config>,
+    line: &[u8],
+) -> Option<String>
+    ensures { IfSome result (λ s. IsReason (length line.now) (string_bytes s)) }
+{
+    match fault {
+        LineFault::Bad => reason_of(alloc, expected, config, line),
+        LineFault::OutOfMemory => None,
+    }
 }
 
 impl<T: TakesLines> Lines<T> {
@@ -28,6 +51,7 @@ impl<T: TakesLines> Lines<T> {
             opened: None,
             number: 1,
             count: 0,
+            why: None,
         }
     }
 
@@ -68,15 +92,25 @@ impl<T: TakesLines> Lines<T> {
             opened,
             number: _,
             count: _,
+            why: _,
         } = self;
         opened
     }
 
-    /// Ends what was opened.
-    pub fn close(self) {
-        if let Some(opened) = self.into_opened() {
+    /// Ends what was opened, and gives the reason of the line that stopped the run.
+    pub fn close(self) -> Option<String>
+        ensures { result ≡ self.why }
+    {
+        let Lines {
+            opened,
+            number: _,
+            count: _,
+            why,
+        } = self;
+        if let Some(opened) = opened {
             opened.close();
         }
+        why
     }
 }
 
@@ -105,14 +139,18 @@ impl<T: TakesLines> Responder for Lines<T> {
             return Ok(());
         }
         let Some(opened) = &mut self.opened else {
-            return match self.open(alloc, line, buffered) {
-                Ok(()) => Ok(()),
-                Err(why) => Err(fault_at(why, ScriptFault::BadConfig { line: number })),
+            let Err(why) = self.open(alloc, line, buffered) else {
+                return Ok(());
             };
+            self.why = reason(alloc, why, Expected::Config, None, line);
+            return Err(fault_at(why, ScriptFault::BadConfig { line: number }));
         };
         match opened.take(alloc, line, buffered) {
             Ok(answers) => self.count += answers,
-            Err(why) => return Err(fault_at(why, ScriptFault::BadLine { line: number })),
+            Err(why) => {
+                self.why = reason(alloc, why, opened.expected(), Some(opened.config()), line);
+                return Err(fault_at(why, ScriptFault::BadLine { line: number }));
+            }
         }
         Ok(())
     }

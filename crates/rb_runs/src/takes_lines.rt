@@ -7,6 +7,8 @@ ghost use Rattle.rb_lines.specs.declared.fault.ScriptFault.TheVariants.{BadConfi
 ghost use Rattle.rb_runs.specs.TakesLines.{StopsAt, TakesAll, TakesLine};
 
 use rb_history::LineFault;
+use rb_money::Config;
+use rb_reasons::Expected;
 use std::alloc::Global;
 
 /// A type that the configuration of a run opens, and that takes each later line.
@@ -41,6 +43,12 @@ pub trait TakesLines {
             × TakesLine rest made (Some self.old) (Some self.new) line.now text answers)
             (λ why. (buffered.new.items ≡ buffered.old.items)
             × (why ≡ Bad → StopsAt (rest (Some self.old)) line.now (λ n. BadLine n))) };
+
+    /// The reader of each later line.
+    fn expected(&self) -> Expected;
+
+    /// The configuration by which it reads.
+    fn config(&self) -> &Config;
 
     /// Ends the value.
     fn close(self);

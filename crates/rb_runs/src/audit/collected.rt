@@ -11,6 +11,8 @@ use crate::entry::entry_of;
 use crate::takes_lines::TakesLines;
 use rb_auditor::Auditor;
 use rb_history::{LineFault, open_config};
+use rb_money::Config;
+use rb_reasons::Expected;
 use rb_site::{Entry, Event, Reply};
 use std::alloc::Global;
 
@@ -70,6 +72,14 @@ impl TakesLines for Collected {
     ) -> Result<u64, LineFault> {
         take_entry(alloc, &mut self.auditor, line)?;
         Ok(0)
+    }
+
+    fn expected(&self) -> Expected {
+        Expected::Entry
+    }
+
+    fn config(&self) -> &Config {
+        self.auditor.config()
     }
 
     fn close(self) {

@@ -17,10 +17,12 @@ use std::alloc::Global;
 /// The first line that isn't to be skipped is the configuration, and each later one an entry of a site's history; those
 /// of a site come in their order. The whole input is read before anything is answered. After a fault nothing was
 /// written, but for `Write`: then a prefix of the line.
+/// `why` becomes the reason of a line that stops the run, if memory suffices to say it.
 pub fn run_audit<S: Source, W: Sink>(
     alloc: Global,
     reader: &mut S,
     writer: &mut W,
+    why: &mut Option<String>,
 ) -> Result<bool, ScriptFault>
     requires unread { S.calls reader.old ≡ 0 }
     requires fresh { W.failed writer.old ≡ false }
@@ -36,7 +38,7 @@ pub fn run_audit<S: Source, W: Sink>(
 {
     let mut lines = Lines::<Collected>::new();
     if let Err(fault) = take_lines(alloc, reader, writer, &mut lines) {
-        lines.close();
+        *why = lines.close();
         return Err(fault);
     }
     let Some(collected) = lines.into_opened() else {

@@ -16,10 +16,12 @@ use std::alloc::Global;
 /// The first line that isn't to be skipped is the configuration, and each later one an entry of a site's history, both
 /// of either version. The lines of one read go out before the next read, in one write if they fit. Lines written before
 /// a fault go out before the fault is reported; if that write fails, the fault is `Write`.
+/// `why` becomes the reason of a line that stops the run, if memory suffices to say it.
 pub fn run_migrate<S: Source, W: Sink>(
     alloc: Global,
     reader: &mut S,
     writer: &mut W,
+    why: &mut Option<String>,
 ) -> Result<u64, ScriptFault>
     requires unread { S.calls reader.old ≡ 0 }
     requires fresh { W.failed writer.old ≡ false }
@@ -35,6 +37,6 @@ pub fn run_migrate<S: Source, W: Sink>(
 {
     let mut lines = Lines::<Versions>::new();
     let answered = run_lines(alloc, reader, writer, &mut lines);
-    lines.close();
+    *why = lines.close();
     answered
 }

@@ -13,6 +13,8 @@ use crate::migrate::versions::Versions;
 use crate::takes_lines::TakesLines;
 use rb_history::{LineFault, open_config};
 use rb_lines::text_on;
+use rb_money::Config;
+use rb_reasons::Expected;
 use std::alloc::Global;
 
 /// The configuration on a line, which is buffered in version 2. An `Err` buffers nothing.
@@ -78,6 +80,14 @@ impl TakesLines for Versions {
     ) -> Result<u64, LineFault> {
         answer_entry(alloc, self, line, buffered)?;
         Ok(1)
+    }
+
+    fn expected(&self) -> Expected {
+        Expected::Entry
+    }
+
+    fn config(&self) -> &Config {
+        self.read()
     }
 
     fn close(self) {}

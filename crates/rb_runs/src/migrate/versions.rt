@@ -57,6 +57,13 @@ impl Versions {
         Ok(Versions { read, written })
     }
 
+    /// The configuration that lines are read under.
+    pub fn read(&self) -> &Config
+        ensures { result.now ≡ self.now }
+    {
+        &self.read
+    }
+
     /// Adds the line of the configuration in version 2. An `Err` means out of memory, and adds nothing.
     #[tactic(auto, using(crate::proofs::Ended::config_ended, crate::proofs::Ended::taken_back))]
     pub fn append_config(&self, alloc: Global, out: &mut Vec<u8>) -> Result<(), AllocError>

@@ -5,7 +5,8 @@ use crate::script::command::take_command;
 use crate::script::opening::open_world;
 use crate::takes_lines::TakesLines;
 use rb_history::LineFault;
-use rb_money::Refusal;
+use rb_money::{Config, Refusal};
+use rb_reasons::Expected;
 use rb_site::{Entry, Reply};
 use rb_world::{ErasedEvent, World};
 use std::alloc::Global;
@@ -51,6 +52,14 @@ impl TakesLines for Recorder {
     ) -> Result<u64, LineFault> {
         take_command(alloc, &mut self.world, &mut self.reply, line)?;
         Ok(0)
+    }
+
+    fn expected(&self) -> Expected {
+        Expected::Command
+    }
+
+    fn config(&self) -> &Config {
+        self.world.config()
     }
 
     fn close(self) {

@@ -41,10 +41,12 @@ fn write_world<W: Sink>(
 /// The first line that isn't to be skipped is the configuration, and each later one a command, which isn't answered.
 /// The whole input is read before anything is written. Its faults are those of `run_script`, and after one nothing was
 /// written. After `Write` a prefix of the histories' lines was, and after `OutOfMemory` a prefix, or nothing.
+/// `why` becomes the reason of a line that stops the run, if memory suffices to say it.
 pub fn run_histories<S: Source, W: Sink>(
     alloc: Global,
     reader: &mut S,
     writer: &mut W,
+    why: &mut Option<String>,
 ) -> Result<(), ScriptFault>
     requires unread { S.calls reader.old ≡ 0 }
     requires fresh { W.failed writer.old ≡ false }
@@ -60,7 +62,7 @@ pub fn run_histories<S: Source, W: Sink>(
 {
     let mut lines = Lines::<Recorder>::new();
     if let Err(fault) = take_lines(alloc, reader, writer, &mut lines) {
-        lines.close();
+        *why = lines.close();
         return Err(fault);
     }
     let Some(recorder) = lines.into_opened() else {

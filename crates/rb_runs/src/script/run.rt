@@ -15,10 +15,12 @@ use std::alloc::Global;
 /// The first line that isn't to be skipped is the configuration, and each later one a command. The replies to the whole
 /// lines of one read go out before the next read, in one write if they fit. Replies made before a fault go out before
 /// the fault is reported; if that write fails, the fault is `Write`.
+/// `why` becomes the reason of a line that stops the run, if memory suffices to say it.
 pub fn run_script<S: Source, W: Sink>(
     alloc: Global,
     reader: &mut S,
     writer: &mut W,
+    why: &mut Option<String>,
 ) -> Result<u64, ScriptFault>
     requires unread { S.calls reader.old ≡ 0 }
     requires fresh { W.failed writer.old ≡ false }
@@ -34,6 +36,6 @@ pub fn run_script<S: Source, W: Sink>(
 {
     let mut lines = Lines::<Session>::new();
     let answered = run_lines(alloc, reader, writer, &mut lines);
-    lines.close();
+    *why = lines.close();
     answered
 }

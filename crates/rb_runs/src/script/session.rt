@@ -6,7 +6,8 @@ use crate::script::command::answer_command;
 use crate::script::opening::open_world;
 use crate::takes_lines::TakesLines;
 use rb_history::LineFault;
-use rb_money::Refusal;
+use rb_money::{Config, Refusal};
+use rb_reasons::Expected;
 use rb_site::Reply;
 use rb_world::LeanWorld;
 use std::alloc::Global;
@@ -44,6 +45,14 @@ impl TakesLines for Session {
     ) -> Result<u64, LineFault> {
         answer_command(alloc, &mut self.world, &mut self.reply, line, buffered)?;
         Ok(1)
+    }
+
+    fn expected(&self) -> Expected {
+        Expected::Command
+    }
+
+    fn config(&self) -> &Config {
+        self.world.config()
     }
 
     fn close(self) {
