@@ -166,6 +166,13 @@ def made_here():
         yield Case(f"one teller at {sites} sites", words, b"", one_teller.text(sites, seed))
 
 
+def without_reason(written, whole):
+    """What was written on standard error without the lines that say why a line is bad, unless these are wanted too."""
+    if "\n  " in whole:
+        return written
+    return "".join(line for line in written.splitlines(keepends=True) if not line.startswith("  "))
+
+
 def is_wanted(written, whole, part, end=""):
     """Whether a run wrote the whole, or, if a part or an end is named, that part of it."""
     if end:
@@ -186,7 +193,9 @@ def run_of(program, case):
 def passes(program, case):
     run = run_of(program, case)
     fine = is_wanted((run.stdout or b"").decode(), case.out, case.part_of_out, case.end_of_out)
-    return fine and is_wanted(run.stderr.decode(), case.err, case.part_of_err) and run.returncode == case.status
+    said = run.stderr.decode()
+    said = said if case.part_of_err else without_reason(said, case.err)
+    return fine and is_wanted(said, case.err, case.part_of_err) and run.returncode == case.status
 
 
 def catches_up(entries, sites):

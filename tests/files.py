@@ -100,7 +100,9 @@ def results(program: str) -> Results:
         yield f"{task} {name}", piped[0] != "" and folder.ran(f"{task} {name}") == piped
     for words, out, said, status in RUNS:
         found = folder.ran(words, given="not read\n")
-        yield words, found == (out and out + "\n", said and f"rbbank: {said}\n", status)
+        first = found[1].split("\n  ")[0].rstrip("\n")
+        yield words, (found[0], first, found[2]) == (out and out + "\n", said and f"rbbank: {said}", status)
+        yield f"{words}: where", ("\n  column " in found[1]) == ("bad " in said)
     for words in REFUSED:
         out, said, status = folder.ran(words)
         yield words, (out, status) == ("", 2) and said.startswith("error: ")

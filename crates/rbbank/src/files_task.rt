@@ -10,7 +10,7 @@ use crate::files_on_disk::{FilesOnDisk, name_of, report_unread};
 use crate::joined::{FilesFault, Joined, join_files};
 use crate::read_log::ReadLog;
 use crate::task::{TaskRan, run_task};
-use crate::{FAULT_FOUND, out_of_memory, print_line, report_fault};
+use crate::{FAULT_FOUND, out_of_memory, print_line, report_fault, report_why};
 use rb_cli::Task;
 use rb_lines::{ScriptFault, Sink, status};
 use rb_runs::{JournalFault, journal_message, journal_status};
@@ -123,8 +123,10 @@ pub fn run_over_files<W: Sink>(
     let (read, error) = files.end();
     match joined {
         Ok(joined) => {
-            let ran = run_task(rt.alloc(), task, &joined.bytes, writer);
+            let mut why = None;
+            let ran = run_task(rt.alloc(), task, &joined.bytes, writer, &mut why);
             let code = end_of_task(rt, names, &joined, ran);
+            report_why(rt, why);
             let ended = Ok(ran);
             RanOverFiles { read, ended, code }
         }

@@ -74,6 +74,13 @@ pub(crate) fn report_fault(rt: &HostRuntime, fault: ScriptFault) -> ExitCode
     print_line(rt, message(rt.alloc(), fault), status(fault))
 }
 
+/// Says, behind the line that says which line a run stopped at, why that line is bad.
+pub(crate) fn report_why(rt: &HostRuntime, why: Option<String>) {
+    if let Some(why) = why {
+        let _ = rt.eprintln(why.as_str());
+    }
+}
+
 /// Writes help or the version, which was asked for, to standard output.
 fn show(rt: &HostRuntime, asked: &clap::Error) -> ExitCode
     ensures { (exit_status result ≡ 0) ⊎ IsReportedStatus (status_of NotWritten) (exit_status result) }
@@ -251,9 +258,18 @@ fn run<H: Threads + Wait + Sync>(rt: &HostRuntime, handle: &H) -> ExitCode
     };
     let mut reader = FromReader::new(rt.reader());
     let mut writer = ToWriter::new(io::writer(rt));
-    match run_on_streams(handle, alloc, views.as_slice(), &mut reader, &mut writer) {
+    let mut why = None;
+    match run_on_streams(
+        handle,
+        alloc,
+        views.as_slice(),
+        &mut reader,
+        &mut writer,
+        &mut why,
+    ) {
         Ok(streamed) => {
             let Ended { code, done: _ } = end(rt, &mut reader, &mut writer, streamed);
+            report_why(rt, why);
             code
         }
         Err(error) => report_words(rt, error),

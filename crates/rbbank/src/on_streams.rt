@@ -67,13 +67,14 @@ pub enum Streamed<'a> {
 /// Does what the words after the program's name ask for, from this reader to this writer. Tellers read nothing;
 /// the handle starts their threads, and waits for them. A task with files, a site, its seal and closing the books take
 /// files as well, so they are the caller's to run. If the words ask for nothing, the error says so, and nothing is read
-/// or written.
+/// or written. `why` becomes the reason of a line that stops a run, if memory suffices for it.
 pub fn run_on_streams<'a, H: Threads + Wait + Sync, S: Source, W: Sink>(
     handle: &H,
     alloc: Global,
     words: &'a [&'a str],
     reader: &mut S,
     writer: &mut W,
+    why: &mut Option<String>,
 ) -> Result<Streamed<'a>, clap::Error>
     requires unread { S.calls reader.old ≡ 0 }
     requires fresh { W.failed writer.old ≡ false }
@@ -94,10 +95,10 @@ pub fn run_on_streams<'a, H: Threads + Wait + Sync, S: Source, W: Sink>(
     ensures calls { S.calls reader.new ≤ S.calls reader.old + MOST_READS }
 {
     match read_words(alloc, words) {
-        Ok(Words::Script) => Ok(Streamed::Script(run_script(alloc, reader, writer))),
-        Ok(Words::Histories) => Ok(Streamed::Histories(run_histories(alloc, reader, writer))),
-        Ok(Words::Audit) => Ok(Streamed::Audit(run_audit(alloc, reader, writer))),
-        Ok(Words::Migrate) => Ok(Streamed::Migrate(run_migrate(alloc, reader, writer))),
+        Ok(Words::Script) => Ok(Streamed::Script(run_script(alloc, reader, writer, why))),
+        Ok(Words::Histories) => Ok(Streamed::Histories(run_histories(alloc, reader, writer, why))),
+        Ok(Words::Audit) => Ok(Streamed::Audit(run_audit(alloc, reader, writer, why))),
+        Ok(Words::Migrate) => Ok(Streamed::Migrate(run_migrate(alloc, reader, writer, why))),
         Ok(Words::Files { task, files }) => Ok(Streamed::FilesAsked { task, files }),
         Ok(
             Words::Threads {

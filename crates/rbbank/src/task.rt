@@ -22,17 +22,24 @@ pub enum TaskRan {
     Migrate(Result<u64, ScriptFault>),
 }
 
-/// Does this with the lines of the bytes, to the writer.
-pub fn run_task<W: Sink>(alloc: Global, task: Task, bytes: &[u8], writer: &mut W) -> TaskRan
+/// Does this with the lines of the bytes, to the writer. `why` becomes the reason of a line that stops it, if memory
+/// suffices for it.
+pub fn run_task<W: Sink>(
+    alloc: Global,
+    task: Task,
+    bytes: &[u8],
+    writer: &mut W,
+    why: &mut Option<String>,
+) -> TaskRan
     requires fresh { W.failed writer.old ≡ false }
     ensures { (text : List ℕ) × Appends (W.contents writer.old) (W.contents writer.new) text
         × (left : List ℕ) × TaskEndsAs task result bytes.now (Some left) text }
 {
     let mut reader = FromBytes::new(bytes);
     match task {
-        Task::Script => TaskRan::Script(run_script(alloc, &mut reader, writer)),
-        Task::Histories => TaskRan::Histories(run_histories(alloc, &mut reader, writer)),
-        Task::Audit => TaskRan::Audit(run_audit(alloc, &mut reader, writer)),
-        Task::Migrate => TaskRan::Migrate(run_migrate(alloc, &mut reader, writer)),
+        Task::Script => TaskRan::Script(run_script(alloc, &mut reader, writer, why)),
+        Task::Histories => TaskRan::Histories(run_histories(alloc, &mut reader, writer, why)),
+        Task::Audit => TaskRan::Audit(run_audit(alloc, &mut reader, writer, why)),
+        Task::Migrate => TaskRan::Migrate(run_migrate(alloc, &mut reader, writer, why)),
     }
 }
