@@ -142,6 +142,26 @@ async def kills(folder: str) -> None:
     same("ids in the journal, each once", len(set(ids)), 1000)
 
 
+async def unheard(folder: str) -> None:
+    """A child's answers are lost with it: what it made is made once, answered by the next one, and handed on."""
+    async with site(folder) as one:
+        await one.ask({"balance": "ann"})
+        lost: list[Json] = []
+        events: list[Json] = [{"deposit": ["ann", 5], "id": "a"}, {"deposit": ["ann", 7]}]
+        heard = one.site.heard
+        setattr(one.site, "heard", lost.append)
+        asked = asyncio.gather(*map(one.site.ask, events))
+        await until("both are made", lambda: len(lost) == 2)
+        setattr(one.site, "heard", heard)
+        assert one.site.process
+        one.site.process.kill()
+        answers, names = await asyncio.wait_for(asked, PATIENCE), ["B0.1", "B0.2"]
+        same("answered", [(answer.get("again"), answer["reply"]["name"]) for answer in answers],
+             [(True, name) for name in names])
+        same("handed on", one.names(), names)
+        same("balance", await one.replies({"balance": "ann"}), [{"balance": 1012}])
+
+
 async def restarts(folder: str) -> None:
     """A new service: what wasn't confirmed is handed on, and the picture is as before."""
     events: list[Json] = [{"deposit": ["ann", 5]}, {"withdraw": ["ann", 3]}, {"cancel": "B0.1"}, {"pass": 1}]
@@ -499,7 +519,8 @@ async def queues(folder: str) -> None:
         broker.stop()
 
 
-ALONE, HTTP, BROKER = (lines, kills, restarts, faults, token, closes, texts), (asks, apart, waits, tokens), (queues,)
+ALONE, HTTP, BROKER = (
+    (lines, kills, unheard, restarts, faults, token, closes, texts), (asks, apart, waits, tokens), (queues,))
 GROUPS: dict[str, tuple[Callable[[str], Any], ...]] = {
     "": ALONE, "--http": ALONE + HTTP, "--broker": ALONE + HTTP + BROKER}
 

@@ -18,8 +18,9 @@ sys.dont_write_bytecode = True
 import cluster
 
 PATIENCE = 1500  # seconds, after which a check has caught what it doesn't end by
-LINES, KILLS, RESTARTS, FAULTS, TOKEN, CLOSES, ASKS, APART, WAITS, TOKENS, QUEUES = (("check.py", name) for name in (
-    "lines", "kills", "restarts", "faults", "token", "closes", "asks", "apart", "waits", "tokens", "queues"))
+LINES, KILLS, UNHEARD, RESTARTS, FAULTS, TOKEN, CLOSES, ASKS, APART, WAITS, TOKENS, QUEUES = (
+    ("check.py", name) for name in ("lines", "kills", "unheard", "restarts", "faults", "token", "closes", "asks",
+                                    "apart", "waits", "tokens", "queues"))
 SMALL = ("chaos.py", "--inbox", "2", "--seconds", "40", "--seed", "3", "--patience", "600")
 CHAOS = ("chaos.py", "--inbox", "4096", "--seconds", "40", "--seed", "3", "--patience", "600")
 
@@ -34,10 +35,10 @@ class Mutant(NamedTuple):
 MUTANTS = {
     "sent_again_from_the_last": Mutant("site_child.py", '{"resend": entries - self.told}', '{"resend": 0}', RESTARTS),
     "handed_on_before_it_came": Mutant("site_child.py", '{"resend": entries - self.told}',
-                                       '{"resend": 0 if self.starts else entries - self.told}', KILLS),
+                                       '{"resend": 0 if self.starts else entries - self.told}', UNHEARD),
     "unanswered_are_forgotten": Mutant("site_child.py", "self.give(*(event for event, _ in self.asked))",
                                        "self.asked.clear()", KILLS),
-    "no_id_of_its_own": Mutant("site_child.py", 'if "id" not in event and', "if False and", KILLS),
+    "no_id_of_its_own": Mutant("site_child.py", 'if "id" not in event and', "if False and", UNHEARD),
     "older_copy_is_served": Mutant("site_child.py", "if entries < known:", "if False:", FAULTS),
     "questions_are_entries": Mutant("site_child.py", '"balance", "already"', '"already"', LINES),
     "messages_count_once_more": Mutant("site_child.py", 'changes + len(answer["then"])', "changes", LINES),
