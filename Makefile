@@ -43,7 +43,7 @@ help:
 	@echo '  make service-test  its parts killed for SECONDS=60, SEEDS=1 times; SEED=7 makes the same choices again'
 	@echo '  make service-page  its console used in a browser, mutants of the page, and the files of service/deploy'
 	@echo '  make service-mutants'
-	@echo '                     changes of the service that its tests have to catch; an hour'
+	@echo '                     changes of the service that its checks have to catch; a quarter of an hour'
 
 # The stored run, drawn, each command beside its reply.
 demo:

@@ -463,11 +463,12 @@ def tokens(folder: str) -> None:
 
 
 class Pretended:
-    """A site that notes what it is asked, and answers once it may."""
+    """A site that notes what it is asked, applies something, and answers once it may; at first by these refusals."""
 
-    def __init__(self) -> None:
+    def __init__(self, *refusals: int) -> None:
         self.view, self.told, self.starts, self.up = View(CONFIG, 1), 7, 1, asyncio.Event()
         self.asked: list[str] = []
+        self.refusals = list(refusals)
 
     def ask(self, event: Json) -> Awaitable[Json]:
         self.asked.append(event["shadow"]["name"])
@@ -475,52 +476,124 @@ class Pretended:
 
     async def answer(self) -> Json:
         await self.up.wait()
-        return {"reply": {"held": "B0.1"}}
+        self.view.clock["R"] += 1
+        return {"reply": {"refused": self.refusals.pop(0)} if self.refusals else {"held": "B0.1"}}
+
+
+class Lost:
+    """A connection whose broker ends before it confirms anything."""
+
+    def __init__(self) -> None:
+        self.default_exchange, self.name = self, ""
+
+    async def channel(self, **_: Any) -> Lost:
+        return self
+
+    async def declare_queue(self, *_: Any, **__: Any) -> Lost:
+        return self
+
+    async def publish(self, *_: Any, **__: Any) -> None:
+        raise ConnectionError
+
+
+def wires(folder: str, me: int, urls: list[str], *refusals: int) -> tuple[Any, Pretended]:
+    """The wires of a pretended site."""
+    import wires as module
+    made, site = module.Wires(me, 2, urls, NAME, None, f"{folder}/{me}.c"), Pretended(*refusals)
+    made.site = site  # type: ignore[assignment]
+    made.passing = passing.Passing(made.site, made.news, lambda: False)
+    return made, site
+
+
+async def keeps(folder: str) -> None:
+    """A message that finds no place at a site is given again, and one that the broker didn't confirm is kept."""
+    made, site = wires(folder, 1, [], 16, 23, 16)
+    site.up.set()
+    await made.take(b'{"shadow":{"name":"B0.1"}}\n{"shadow":{"name":"B0.2"}}')
+    same("given until there is a place", site.asked, ["B0.1", "B0.2", "B0.1", "B0.1", "B0.2"])
+    made.send(3, [{"shadow": {"name": "B1.1"}}])
+    with contextlib.suppress(ConnectionError):
+        await made.publish(Lost(), 0)
+    same("what isn't confirmed", (made.unconfirmed(), made.confirmed()), (1, 3))
 
 
 async def queues(folder: str) -> None:
     """A queue gives what it has in order, to one at a time; and what it has confirmed is counted."""
-    import wires as module
     broker = cluster.Cluster(folder, PATIENCE)
     try:
         broker.start(0)
         await asyncio.to_thread(broker.wait, 0)
+        await ordered(folder, broker)
+    finally:
+        broker.stop()
 
-        def wires(me: int) -> tuple[module.Wires, Any]:
-            made, pretended = module.Wires(me, 2, broker.urls()[:1], NAME, None, f"{folder}/{me}.c"), Pretended()
-            made.site = pretended  # type: ignore[assignment]
-            made.passing = passing.Passing(made.site, made.news, lambda: False)
-            return made, pretended
 
-        sender, _ = wires(0)
-        names = [f"B0.{n}" for n in range(1, 41)]
-        for entry, name in enumerate(names):
-            sender.send(entry, [{"shadow": {"name": name}}])
-        same("confirmed before there is a broker", sender.confirmed(), 0)
-        (first, slow), (second, late) = wires(1), wires(1)
-        tasks = [asyncio.create_task(first.run())]
-        await until("connected", lambda: bool(first.url))
-        module.MOST_LINES = 1  # a message of the broker for each
-        tasks.append(asyncio.create_task(sender.run()))
-        await until("the first is asked", lambda: bool(slow.asked))
-        await until("all is confirmed", lambda: sender.confirmed() == 7 and not sender.unconfirmed())
-        tasks.append(asyncio.create_task(second.run()))
-        await until("connected", lambda: bool(second.url))
-        await asyncio.sleep(1)
-        same("a second consumer waits", late.asked, [])
-        tasks[0].cancel()
-        late.up.set()
-        await until("the second has all", lambda: len(late.asked) >= len(names))
-        same("in order", late.asked, names)
-        for task in tasks:
-            task.cancel()
-        await asyncio.gather(*tasks, return_exceptions=True)
+async def ordered(folder: str, broker: cluster.Cluster) -> None:
+    import wires as module
+    (sender, _), (first, slow), (second, late) = (wires(folder, me, broker.urls()[:1]) for me in (0, 1, 1))
+    names = [f"B0.{n}" for n in range(1, 42)]
+    for entry, name in enumerate(names[:-1]):
+        sender.send(entry, [{"shadow": {"name": name}}])
+    same("confirmed before there is a broker", sender.confirmed(), 0)
+    tasks = [asyncio.create_task(first.run())]
+    await until("connected", lambda: bool(first.url))
+    module.MOST_LINES = 1  # a message of the broker for each
+    tasks.append(asyncio.create_task(sender.run()))
+    await until("the first is asked", lambda: bool(slow.asked))
+    await until("all is confirmed", lambda: sender.confirmed() == 7 and not sender.unconfirmed())
+    broker.signal(0, signal.SIGSTOP)
+    sender.send(40, [{"shadow": {"name": names[-1]}}])
+    await asyncio.sleep(1)
+    same("unconfirmed while the broker is held", sender.unconfirmed(), 1)
+    broker.signal(0, signal.SIGCONT)
+    await until("it is confirmed", lambda: not sender.unconfirmed())
+    tasks.append(asyncio.create_task(second.run()))
+    await until("the second has looked", lambda: bool(second.depth))
+    await asyncio.sleep(1)
+    same("a second consumer waits", late.asked, [])
+    tasks[0].cancel()
+    late.up.set()
+    await until("the second has all", lambda: len(late.asked) >= len(names))
+    same("in order", late.asked, names)
+    for task in tasks:
+        task.cancel()
+    await asyncio.gather(*tasks, return_exceptions=True)
+
+
+def periods(folder: str) -> None:
+    """The books are closed by the command: the next period begins, and requests of the one before are still known."""
+    broker = cluster.Cluster(os.path.join(folder, "broker"), PATIENCE)
+    try:
+        broker.start(0)
+        broker.wait(0)
+        first = Http(folder, broker=broker.urls()[:1])
+        second = Http(folder, 1, broker=broker.urls()[:1], http=first.http)
+        for service in (first, second):
+            service.wait()
+        made = {"kind": "deposit", "name": "B0.1"}
+        same("a request", first.event({"deposit": ["ann", 5]}, Idempotency_Key="k"), (200, made))
+        archive = os.path.join(folder, "archive")
+        words = [sys.executable, os.path.join(HERE, "close.py"), os.path.join(folder, "bank.json"), NAME, archive]
+        for _ in range(2):
+            run = subprocess.run([*words, "--account", "zed"], capture_output=True, text=True, timeout=PATIENCE)
+            same("closed", (run.returncode, run.stderr), (0, ""))
+        same("the archive", sorted(os.listdir(archive)), ["0001.0.journal", "0001.1.journal", "0002.bank"])
+        for service in (first, second):
+            service.wait()
+            state = service.ask("/state")[1]
+            same("the next period", (state["bank"], state["balances"]), ("b.0002", {"ann": 1005, "bob": 0, "zed": 0}))
+        known = (200, made | {"bank": NAME})
+        same("the request again", first.event({"deposit": ["ann", 5]}, Idempotency_Key="k"), known)
+        same("another one by its key", first.event({"deposit": ["ann", 6]}, Idempotency_Key="k")[0], 422)
+        same("one that is meant", first.event({"deposit": ["ann", 5], "bank": "b.0002"}, Idempotency_Key="k"),
+             (200, made))
     finally:
         broker.stop()
 
 
 ALONE, HTTP, BROKER = (
-    (lines, kills, unheard, restarts, faults, token, closes, texts), (asks, apart, waits, tokens), (queues,))
+    (lines, kills, unheard, restarts, faults, token, closes, texts), (asks, apart, waits, tokens, keeps),
+    (queues, periods))
 GROUPS: dict[str, tuple[Callable[[str], Any], ...]] = {
     "": ALONE, "--http": ALONE + HTTP, "--broker": ALONE + HTTP + BROKER}
 

@@ -142,20 +142,23 @@ class Cluster:
             self.wait(node)
         self.ctl(0, "await_online_nodes", str(NODES))
 
-    def kill(self, node: int) -> None:
-        """Ends a node by SIGKILL, with its helpers: the session that its start made, which nothing else is in."""
+    def signal(self, node: int, number: int) -> None:
+        """Sends a signal to a node and its helpers: the session that its start made, which nothing else is in."""
         process = self.nodes[node]
-        if process is None:
-            return
-        for pid in filter(str.isdigit, os.listdir("/proc")):
+        for pid in filter(str.isdigit, os.listdir("/proc") if process else []):
             try:
                 with open(f"/proc/{pid}/stat") as file:
-                    is_of_node = file.read().rpartition(")")[2].split()[3] == str(process.pid)
+                    is_of_node = process and file.read().rpartition(")")[2].split()[3] == str(process.pid)
                 if is_of_node:
-                    os.kill(int(pid), signal.SIGKILL)
+                    os.kill(int(pid), number)
             except OSError:
                 pass
-        process.wait()
+
+    def kill(self, node: int) -> None:
+        """Ends a node by SIGKILL."""
+        self.signal(node, signal.SIGKILL)
+        if process := self.nodes[node]:
+            process.wait()
         self.nodes[node] = None
 
     def stop(self) -> None:

@@ -1,5 +1,5 @@
 #!/usr/bin/env python3
-"""Tries mutants of the service: each change below, on a copy, has to be caught by check.py or chaos.py.
+"""Tries mutants of the service: each change below, on a copy, has to be caught by the check of check.py beside it.
 
 usage: mutants.py PROGRAM [NAME]..
 
@@ -18,18 +18,16 @@ sys.dont_write_bytecode = True
 import cluster
 
 PATIENCE = 1500  # seconds, after which a check has caught what it doesn't end by
-LINES, KILLS, UNHEARD, RESTARTS, FAULTS, TOKEN, CLOSES, ASKS, APART, WAITS, TOKENS, QUEUES = (
-    ("check.py", name) for name in ("lines", "kills", "unheard", "restarts", "faults", "token", "closes", "asks",
-                                    "apart", "waits", "tokens", "queues"))
-SMALL = ("chaos.py", "--inbox", "2", "--seconds", "40", "--seed", "3", "--patience", "600")
-CHAOS = ("chaos.py", "--inbox", "4096", "--seconds", "40", "--seed", "3", "--patience", "600")
+LINES, KILLS, UNHEARD, RESTARTS, FAULTS, TOKEN, CLOSES, ASKS, APART, WAITS, TOKENS, KEEPS, QUEUES, PERIODS = (
+    "lines", "kills", "unheard", "restarts", "faults", "token", "closes", "asks", "apart", "waits", "tokens", "keeps",
+    "queues", "periods")
 
 
 class Mutant(NamedTuple):
     file: str
     old: str
     new: str
-    check: tuple[str, ...]
+    check: str
 
 
 MUTANTS = {
@@ -79,7 +77,7 @@ MUTANTS = {
 ''', '''            await delivery.ack()
             await asyncio.sleep(0.005)
             await self.take(delivery.body)
-''', CHAOS),
+''', QUEUES),
     "confirmed_before_the_broker": Mutant(
         "wires.py", "min([self.site.told, *(lines[0][0] for lines in self.out.values() if lines)])", "self.site.told",
         QUEUES),
@@ -87,31 +85,28 @@ MUTANTS = {
                 for _ in part:
                     lines.popleft()
                 part = []
-                await channel.default_exchange.publish(""", CHAOS),
+                await channel.default_exchange.publish(""", KEEPS),
     "confirms_arent_waited_for": Mutant("wires.py", "connection.channel(on_return_raises=True)",
-                                        "connection.channel(publisher_confirms=False)", CHAOS),
-    "full_inbox_is_done": Mutant("wires.py", "FULL = (16, 23)", "FULL = (23,)", SMALL),
+                                        "connection.channel(publisher_confirms=False)", QUEUES),
+    "full_inbox_is_done": Mutant("wires.py", "FULL = (16, 23)", "FULL = (23,)", KEEPS),
     "keys_of_the_closed_are_unknown": Mutant("service.py", "if line is None or event.get", "if True or event.get",
-                                             CHAOS),
+                                             PERIODS),
     "sealed_while_apart": Mutant("close.py", "            self.rest()\n", '            self.all("stop")\n', APART),
 }
 
 
-def status_of(folder: str, check: tuple[str, ...], program: str) -> int:
-    """How a check ends, in this folder."""
-    script, *words = check
-    more = ["--folder", os.path.join(folder, "run")] if script == "chaos.py" else []
+def end_of(folder: str, check: str, program: str) -> tuple[int, str]:
+    """How a check ends, in this folder, and the first that it says."""
     try:
-        run = subprocess.run([sys.executable, os.path.join(folder, "service", script), program, *words, *more],
-                             stdout=subprocess.DEVNULL, stderr=subprocess.DEVNULL, timeout=PATIENCE,
-                             env=os.environ | {"PATIENCE": "60"})
+        run = subprocess.run([sys.executable, os.path.join(folder, "service", "check.py"), program, check], text=True,
+                             capture_output=True, timeout=PATIENCE, env=os.environ | {"PATIENCE": "60"})
     except subprocess.TimeoutExpired:
-        return 1
-    return run.returncode
+        return 1, f"no end in {PATIENCE} s"
+    return run.returncode, run.stdout.partition("\n")[0] or run.stderr.strip().rpartition("\n")[2]
 
 
-def tried(mutant: Mutant | None, check: tuple[str, ...], program: str) -> int | None:
-    """How a check ends on a copy with this change; None if the change can't be made."""
+def tried(mutant: Mutant | None, check: str, program: str) -> tuple[int | None, str]:
+    """How a check ends on a copy with this change, and what it says; None if the change can't be made."""
     with tempfile.TemporaryDirectory(prefix="mutant-") as folder:
         for part in ("service", "docs", os.path.join("examples", "tools")):
             shutil.copytree(os.path.join(cluster.HERE, "..", part), os.path.join(folder, part))
@@ -120,10 +115,10 @@ def tried(mutant: Mutant | None, check: tuple[str, ...], program: str) -> int | 
             with open(path) as file:
                 text = file.read()
             if text.count(mutant.old) != 1:
-                return None
+                return None, ""
             with open(path, "w") as file:
                 file.write(text.replace(mutant.old, mutant.new))
-        return status_of(folder, check, program)
+        return end_of(folder, check, program)
 
 
 def main() -> int:
@@ -137,9 +132,10 @@ def main() -> int:
         mutant = MUTANTS[name]
         if mutant.check not in passed:
             passed[mutant.check] = tried(None, mutant.check, program)
-        end = tried(mutant, mutant.check, program) if passed[mutant.check] == 0 else -1
+        end, why = passed[mutant.check]
+        end, why = tried(mutant, mutant.check, program) if end == 0 else (-1, why)
         found[name] = {1: "caught", 0: "NOT CAUGHT", None: "CAN'T BE MADE"}.get(end, "NOT TRIED")
-        print(f"{found[name]:13} {name}, by {' '.join(mutant.check)}", flush=True)
+        print(f"{found[name]:13} {name}, by {mutant.check}: {why}", flush=True)
     return 0 if set(found.values()) == {"caught"} else 1
 
 
