@@ -245,10 +245,12 @@ class Run:
             with open(os.path.join(self.bank.folder, "close.log"), "ab") as out:
                 process = subprocess.Popen(words, stdout=out, stderr=out)
             left = self.pick.choice([0.5, 2, 1000])
-            while process.poll() is None and left > 0:
-                await asyncio.sleep(0.1)
-                left -= 0.1
-            process.kill()
+            try:
+                while process.poll() is None and left > 0:
+                    await asyncio.sleep(0.1)
+                    left -= 0.1
+            finally:
+                process.kill()
             if process.wait() == 0:
                 self.period += 1
                 return

@@ -185,12 +185,13 @@ async def faults(folder: str) -> None:
     async def fault(what: str, text: str, confirmed: int = 0) -> None:
         running = Running(folder, confirmed=confirmed)
         try:
-            await asyncio.wait_for(running.task, PATIENCE / 10)
+            await asyncio.wait_for(asyncio.shield(running.task), PATIENCE / 10)
         except Fault as why:
             return same(what, text in str(why), True)
         except asyncio.TimeoutError:
             PROBLEMS.append(f"{what}: no fault")
-            await running.end()
+            with contextlib.suppress(Fault):
+                await running.end()
 
     await fault("no journal", "no journal")
     async with site(folder) as one:
@@ -613,6 +614,8 @@ def main() -> int:
                 done = check(folder)
                 if done is not None:
                     asyncio.run(done)
+            except Exception as why:
+                PROBLEMS.append(f"{check.__name__} ends by {why!r}")
             finally:
                 for service in SERVICES:
                     service.kill()
