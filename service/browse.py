@@ -626,12 +626,16 @@ class Services:
     def alike(self, name: str) -> None:
         """All sites come to show the same, which is what each of them answers."""
         page, sites = self.page, range(self.bank.sites)
-        shown = page.until(lambda: page.says("#state", "All sites have the same balances.", 0) and
+
+        def answered(site: int) -> list[str]:
+            asked = [self.bank.get(site, f"/balance/{account}")["balance"] for account in page.texts(".account")]
+            return [money(cents) for cents in asked]
+        shown = page.until(lambda: all(page.column(site)[:-1] == answered(site) for site in sites) and
+                           page.says("#state", "All sites have the same balances.", 0) and
                            set(page.texts("#facts tr:nth-child(2) td")) == {"0"}, 60)
         same(name, "all sites are alike, and none is behind", bool(shown), True)
         for site in sites:
-            asked = [self.bank.get(site, f"/balance/{account}")["balance"] for account in page.texts(".account")]
-            same(name, f"balances of site {site}", page.column(site)[:-1], [money(cents) for cents in asked])
+            same(name, f"balances of site {site}", page.column(site)[:-1], answered(site))
 
     def works(self) -> None:
         """Deposits, a withdrawal without the token, a cancellation at another site, a passed token, a statement."""

@@ -50,6 +50,7 @@ class Passing:
         """Those who wait for the token look again once it came, or, if it is here, a red operation did."""
         if is_taken := "taken" in answer["reply"]:
             self.since = time.monotonic()
+            self.news.set()  # (else it would be passed back to this site, if it soon goes on)
         red = any(later.get("applied", "B")[0] == "R" for later in answer["then"])
         if is_taken or red and self.view.token["here"]:
             self.moved.set()

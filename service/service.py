@@ -220,16 +220,17 @@ class Service:
         """The state, and then what changes in it, ten times a second at most; less often to one who reads slowly."""
         response = web.StreamResponse(headers={"Content-Type": "text/event-stream", "Cache-Control": "no-store"})
         await response.prepare(request)
-        view, place, before = self.view, self.view.clock.total() - SHOWN, {}  # type: View, int, Json
+        view, place, before = self.view, self.view.clock.total() - SHOWN, ""
         with contextlib.suppress(ConnectionError):
             while not self.ends.is_set() and request.transport:
                 if view is not self.view:
                     view, place = self.view, 0
                 now = await self.shown(place)
                 place = view.clock.total()
-                if now != before:
+                rest = compact(now | {"operations": []})
+                if now["operations"] or rest != before:
                     await response.write(f"data: {compact(now)}\n\n".encode())
-                before = now | {"operations": []}
+                before = rest
                 await asyncio.sleep(0.1)
         return response
 
