@@ -72,7 +72,7 @@ PAGES = {
     "docs/CHANGING.md": (2500, 17),
     "docs/DECISIONS.md": (2000, 17),
     "docs/FORMAT.md": (4450, 19),
-    "docs/PROVED.md": (3560, 17),
+    "docs/PROVED.md": (3500, 17),
     "docs/PERIODS.md": (1010, 15),
     "docs/RUNNING.md": (1520, 15),
     "docs/TUTORIAL.md": (2100, 15),
