@@ -325,8 +325,10 @@ class Program:
             return run(words, b"".join(line + b"\n" for line in [odd_lines.CONFIG[:-1], *lines]))
 
     def is_bad(self, form, line):
-        stops, goes_on = (b"", b"rbbank: line 2: bad line\n", 2), (b'{"bad":"line","line":2}\n', b"", 0)
-        return self.answer(form, [line]) == (stops if form == "odd" else goes_on)
+        out, errors, status = self.answer(form, [line])
+        if form == "odd":
+            return (out, errors.split(b"\n  ")[0].rstrip(b"\n"), status) == (b"", b"rbbank: line 2: bad line", 2)
+        return (out, errors, status) == (b'{"bad":"line","line":2}\n', b"", 0)
 
 
 def odd(program, form):

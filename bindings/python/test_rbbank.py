@@ -244,6 +244,7 @@ class Journals(unittest.TestCase):
                 rbbank.Journal(self.path, 0, CONFIG)
             self.assertEqual((fault.exception.reason, fault.exception.line), (reason, line))
             self.assertEqual(self.stored(), data)
+        self.store(b"")
         self.assertRaises(rbbank.BadLine, rbbank.Journal, self.path, 0, "{}")
         self.assertRaises(rbbank.NoSuchSite, rbbank.Journal, self.path, 2, CONFIG)
         self.assertRaises(rbbank.NoSuchSite, rbbank.Journal, self.path, 256, CONFIG)
