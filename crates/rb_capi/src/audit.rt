@@ -39,8 +39,7 @@ pub extern "C" fn rbbank_audit(
 {
     let mut reader = FromBytes::new(input);
     let mut writer = ToBytes::new(alloc);
-    let mut why = None;
-    let ran = run_audit(alloc, &mut reader, &mut writer, &mut why);
+    let ran = run_audit(alloc, &mut reader, &mut writer);
     let ended = end_of_verdict(in_memory(ran, &mut writer.taken));
     hand_over(writer.taken.as_slice(), ended, out, written, number)
 }

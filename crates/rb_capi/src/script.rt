@@ -24,8 +24,7 @@ pub extern "C" fn rbbank_script(
 {
     let mut reader = FromBytes::new(input);
     let mut writer = ToBytes::new(alloc);
-    let mut why = None;
-    let ran = run_script(alloc, &mut reader, &mut writer, &mut why);
+    let ran = run_script(alloc, &mut reader, &mut writer);
     let ended = ending_of(in_memory(ran, &mut writer.taken));
     hand_over(writer.taken.as_slice(), ended, out, written, number)
 }

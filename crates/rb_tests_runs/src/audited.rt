@@ -45,8 +45,7 @@ fn audited<W: Threads + Wait + Sync + Abort>(
     let written = writer.taken.as_slice();
     let mut reader = FromBytes::new(written);
     let mut order = ToBytes::new(alloc);
-    let mut why = None;
-    let ran = run_audit(alloc, &mut reader, &mut order, &mut why);
+    let ran = run_audit(alloc, &mut reader, &mut order);
     equal(rt, ran, Ok(true));
     calls_in(alloc, std::str::from_utf8(written)?)
 }

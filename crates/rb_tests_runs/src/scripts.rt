@@ -101,12 +101,11 @@ pub fn ran(
 ) -> (Result<u64, ScriptFault>, Vec<u8>) {
     let mut reader = FromBytes::in_pieces(input.as_bytes(), ends.piece.max(1), ends.fails);
     let mut writer = ToBytes::up_to(alloc, 7, ends.left);
-    let mut why = None;
     let answer = match program {
-        Program::Script => run_script(alloc, &mut reader, &mut writer, &mut why),
-        Program::Histories => run_histories(alloc, &mut reader, &mut writer, &mut why).map(|()| 0),
-        Program::Audit => run_audit(alloc, &mut reader, &mut writer, &mut why).map(u64::from),
-        Program::Migration => run_migrate(alloc, &mut reader, &mut writer, &mut why),
+        Program::Script => run_script(alloc, &mut reader, &mut writer),
+        Program::Histories => run_histories(alloc, &mut reader, &mut writer).map(|()| 0),
+        Program::Audit => run_audit(alloc, &mut reader, &mut writer).map(u64::from),
+        Program::Migration => run_migrate(alloc, &mut reader, &mut writer),
     };
     (answer, writer.taken)
 }
@@ -262,8 +261,7 @@ fn calls(alloc: Global, input: &[u8], piece: usize) -> (Result<u64, ScriptFault>
     let log = RefCell::new(Vec::new(alloc));
     let mut reader = Pieces::new(input, piece, &log);
     let mut writer = Writes::new(&log);
-    let mut why = None;
-    let result = run_script(alloc, &mut reader, &mut writer, &mut why);
+    let result = run_script(alloc, &mut reader, &mut writer);
     drop(reader);
     drop(writer);
     (result, log.into_inner())
@@ -338,8 +336,7 @@ fn refuse_script(rt: HostRuntime) -> Result<(), Fail> {
     if writer.taken.reserve(capacity).is_err() {
         writer.taken.reserve(capacity)?;
     }
-    let mut why = None;
-    let result = run_script(rt.alloc(), &mut reader, &mut writer, &mut why);
+    let result = run_script(rt.alloc(), &mut reader, &mut writer);
     let count = row.replies.lines().count() as u64;
     let written = writer.taken.as_slice();
     let written = written.strip_suffix(b"\n".as_slice()).unwrap_or(written);

@@ -14,7 +14,9 @@ use rb_cli::{Record, Task, Words, read_words};
 use rb_history::is_id;
 use rb_lines::{ScriptFault, Sink, Source};
 use rb_run_threads::run_threads;
-use rb_runs::{run_audit, run_histories, run_migrate, run_script};
+use rb_runs::{
+    run_audit_explained, run_histories_explained, run_migrate_explained, run_script_explained,
+};
 use std::alloc::Global;
 use std::sync::Wait;
 use std::thread::Threads;
@@ -95,10 +97,14 @@ pub fn run_on_streams<'a, H: Threads + Wait + Sync, S: Source, W: Sink>(
     ensures calls { S.calls reader.new ≤ S.calls reader.old + MOST_READS }
 {
     match read_words(alloc, words) {
-        Ok(Words::Script) => Ok(Streamed::Script(run_script(alloc, reader, writer, why))),
-        Ok(Words::Histories) => Ok(Streamed::Histories(run_histories(alloc, reader, writer, why))),
-        Ok(Words::Audit) => Ok(Streamed::Audit(run_audit(alloc, reader, writer, why))),
-        Ok(Words::Migrate) => Ok(Streamed::Migrate(run_migrate(alloc, reader, writer, why))),
+        Ok(Words::Script) => Ok(Streamed::Script(run_script_explained(alloc, reader, writer, why))),
+        Ok(Words::Histories) => Ok(Streamed::Histories(run_histories_explained(
+            alloc, reader, writer, why,
+        ))),
+        Ok(Words::Audit) => Ok(Streamed::Audit(run_audit_explained(alloc, reader, writer, why))),
+        Ok(Words::Migrate) => Ok(Streamed::Migrate(run_migrate_explained(
+            alloc, reader, writer, why,
+        ))),
         Ok(Words::Files { task, files }) => Ok(Streamed::FilesAsked { task, files }),
         Ok(
             Words::Threads {

@@ -6,7 +6,9 @@ ghost use Rattle.rbbank.specs.Files.{TaskEndsAs};
 
 use rb_cli::Task;
 use rb_lines::{FromBytes, ScriptFault, Sink};
-use rb_runs::{run_audit, run_histories, run_migrate, run_script};
+use rb_runs::{
+    run_audit_explained, run_histories_explained, run_migrate_explained, run_script_explained,
+};
 use std::alloc::Global;
 
 /// The outcome of a task.
@@ -37,9 +39,14 @@ pub fn run_task<W: Sink>(
 {
     let mut reader = FromBytes::new(bytes);
     match task {
-        Task::Script => TaskRan::Script(run_script(alloc, &mut reader, writer, why)),
-        Task::Histories => TaskRan::Histories(run_histories(alloc, &mut reader, writer, why)),
-        Task::Audit => TaskRan::Audit(run_audit(alloc, &mut reader, writer, why)),
-        Task::Migrate => TaskRan::Migrate(run_migrate(alloc, &mut reader, writer, why)),
+        Task::Script => TaskRan::Script(run_script_explained(alloc, &mut reader, writer, why)),
+        Task::Histories => TaskRan::Histories(run_histories_explained(
+            alloc,
+            &mut reader,
+            writer,
+            why,
+        )),
+        Task::Audit => TaskRan::Audit(run_audit_explained(alloc, &mut reader, writer, why)),
+        Task::Migrate => TaskRan::Migrate(run_migrate_explained(alloc, &mut reader, writer, why)),
     }
 }

@@ -17,8 +17,30 @@ use std::alloc::Global;
 /// The first line that isn't to be skipped is the configuration, and each later one an entry of a site's history; those
 /// of a site come in their order. The whole input is read before anything is answered. After a fault nothing was
 /// written, but for `Write`: then a prefix of the line.
-/// `why` becomes the reason of a line that stops the run, if memory suffices to say it.
 pub fn run_audit<S: Source, W: Sink>(
+    alloc: Global,
+    reader: &mut S,
+    writer: &mut W,
+) -> Result<bool, ScriptFault>
+    requires unread { S.calls reader.old ≡ 0 }
+    requires fresh { W.failed writer.old ≡ false }
+    // The text written is what the audit of all histories of the input finds.
+    ensures written { (text : List ℕ) × Appends (W.contents writer.old) (W.contents writer.new) text
+        × IfSome (S.remaining reader.old) (λ input. AuditEndsAs result input (S.remaining reader.new) text) }
+    ensures read { result ≡ Err Read → (S.failed reader.new ≡ true) ⊎ (S.calls reader.new ≡ MOST_READS) }
+    ensures write { (result ≡ Err Write) ↔ (W.failed writer.new ≡ true) }
+    // Whatever the reader has, there are no histories to gather.
+    ensures gather { result ≢ Err Gather }
+    // There are up to `MOST_READS` reads, whatever is answered.
+    ensures calls { S.calls reader.new ≤ S.calls reader.old + MOST_READS }
+{
+    let mut why = None;
+    run_audit_explained(alloc, reader, writer, &mut why)
+}
+
+/// Does the same as [`run_audit`], and `why` becomes the reason of a line that stops the run, if memory suffices to
+/// say it.
+pub fn run_audit_explained<S: Source, W: Sink>(
     alloc: Global,
     reader: &mut S,
     writer: &mut W,

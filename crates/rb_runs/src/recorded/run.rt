@@ -41,8 +41,30 @@ fn write_world<W: Sink>(
 /// The first line that isn't to be skipped is the configuration, and each later one a command, which isn't answered.
 /// The whole input is read before anything is written. Its faults are those of `run_script`, and after one nothing was
 /// written. After `Write` a prefix of the histories' lines was, and after `OutOfMemory` a prefix, or nothing.
-/// `why` becomes the reason of a line that stops the run, if memory suffices to say it.
 pub fn run_histories<S: Source, W: Sink>(
+    alloc: Global,
+    reader: &mut S,
+    writer: &mut W,
+) -> Result<(), ScriptFault>
+    requires unread { S.calls reader.old ≡ 0 }
+    requires fresh { W.failed writer.old ≡ false }
+    // The text written is the histories of the script's run, and nothing else.
+    ensures written { (text : List ℕ) × Appends (W.contents writer.old) (W.contents writer.new) text
+        × IfSome (S.remaining reader.old) (λ input. HistoriesEndAs result input (S.remaining reader.new) text) }
+    ensures read { result ≡ Err Read → (S.failed reader.new ≡ true) ⊎ (S.calls reader.new ≡ MOST_READS) }
+    ensures write { (result ≡ Err Write) ↔ (W.failed writer.new ≡ true) }
+    // Whatever the reader has, the histories are those of one world, which need no gathering.
+    ensures gather { result ≢ Err Gather }
+    // There are up to `MOST_READS` reads, whatever is answered.
+    ensures calls { S.calls reader.new ≤ S.calls reader.old + MOST_READS }
+{
+    let mut why = None;
+    run_histories_explained(alloc, reader, writer, &mut why)
+}
+
+/// Does the same as [`run_histories`], and `why` becomes the reason of a line that stops the run, if memory suffices to
+/// say it.
+pub fn run_histories_explained<S: Source, W: Sink>(
     alloc: Global,
     reader: &mut S,
     writer: &mut W,

@@ -15,8 +15,30 @@ use std::alloc::Global;
 /// The first line that isn't to be skipped is the configuration, and each later one a command. The replies to the whole
 /// lines of one read go out before the next read, in one write if they fit. Replies made before a fault go out before
 /// the fault is reported; if that write fails, the fault is `Write`.
-/// `why` becomes the reason of a line that stops the run, if memory suffices to say it.
 pub fn run_script<S: Source, W: Sink>(
+    alloc: Global,
+    reader: &mut S,
+    writer: &mut W,
+) -> Result<u64, ScriptFault>
+    requires unread { S.calls reader.old ≡ 0 }
+    requires fresh { W.failed writer.old ≡ false }
+    // The text written is what the script asks for, and nothing else.
+    ensures written { (text : List ℕ) × Appends (W.contents writer.old) (W.contents writer.new) text
+        × IfSome (S.remaining reader.old) (λ input. ScriptEndsAs result input (S.remaining reader.new) text) }
+    ensures read { result ≡ Err Read → (S.failed reader.new ≡ true) ⊎ (S.calls reader.new ≡ MOST_READS) }
+    ensures write { (result ≡ Err Write) ↔ (W.failed writer.new ≡ true) }
+    // Whatever the reader has, there are no histories to gather.
+    ensures gather { result ≢ Err Gather }
+    // There are up to `MOST_READS` reads, whatever is answered.
+    ensures calls { S.calls reader.new ≤ S.calls reader.old + MOST_READS }
+{
+    let mut why = None;
+    run_script_explained(alloc, reader, writer, &mut why)
+}
+
+/// Does the same as [`run_script`], and `why` becomes the reason of a line that stops the run, if memory suffices to
+/// say it.
+pub fn run_script_explained<S: Source, W: Sink>(
     alloc: Global,
     reader: &mut S,
     writer: &mut W,

@@ -17,7 +17,7 @@ returns-in-Ok-Script-clause-done g c =
     let words = map (λ word. word.now) c.args.words.now in
     let read = c.in-Ok-Script.ensures in
     let asked = subst (AreAsked words) c.in-Ok-Script.field-0-is (read.ok, read.usual) in
-    let ran = c.run_script.ensures in
+    let ran = c.run_script_explained.ensures in
     (Script, asked.0, asked.1, ran.written.0, ran.written.1, (ran.gather, ran.written.2))
 
 pub returns-in-Ok-Histories-clause-done : goal.returns-in-Ok-Histories-clause-done
@@ -25,7 +25,7 @@ returns-in-Ok-Histories-clause-done g c =
     let words = map (λ word. word.now) c.args.words.now in
     let read = c.in-Ok-Histories.ensures in
     let asked = subst (AreAsked words) c.in-Ok-Histories.field-0-is (read.ok, read.usual) in
-    let ran = c.run_histories.ensures in
+    let ran = c.run_histories_explained.ensures in
     (Histories, asked.0, asked.1, ran.written.0, ran.written.1, (ran.gather, ran.written.2))
 
 pub returns-in-Ok-Audit-clause-done : goal.returns-in-Ok-Audit-clause-done
@@ -33,7 +33,7 @@ returns-in-Ok-Audit-clause-done g c =
     let words = map (λ word. word.now) c.args.words.now in
     let read = c.in-Ok-Audit.ensures in
     let asked = subst (AreAsked words) c.in-Ok-Audit.field-0-is (read.ok, read.usual) in
-    let ran = c.run_audit.ensures in
+    let ran = c.run_audit_explained.ensures in
     (Audit, asked.0, asked.1, ran.written.0, ran.written.1, (ran.gather, ran.written.2))
 
 pub returns-in-Ok-Migrate-clause-done : goal.returns-in-Ok-Migrate-clause-done
@@ -41,7 +41,7 @@ returns-in-Ok-Migrate-clause-done g c =
     let words = map (λ word. word.now) c.args.words.now in
     let read = c.in-Ok-Migrate.ensures in
     let asked = subst (AreAsked words) c.in-Ok-Migrate.field-0-is (read.ok, read.usual) in
-    let ran = c.run_migrate.ensures in
+    let ran = c.run_migrate_explained.ensures in
     (Migrate, asked.0, asked.1, ran.written.0, ran.written.1, (ran.gather, ran.written.2))
 
 pub returns-in-Ok-Files-clause-done : goal.returns-in-Ok-Files-clause-done

@@ -7,7 +7,7 @@ use Rattle.rb_runs.specs.declared.audit.collected.Collected.{Collected}
 use Rattle.rb_runs.proofs.Collected.{ended, silent, taken}
 use Rattle.rb_runs.proofs.Failures.{same_reason}
 use Rattle.rb_runs.proofs.Reported.{reported, part_reported}
-use Rattle.rb_runs.proofs.audit.run.run_audit.Goals as goal
+use Rattle.rb_runs.proofs.audit.run.run_audit_explained.Goals as goal
 
 pub returns-clause-written : goal.returns-clause-written
 returns-clause-written g c =

@@ -5,7 +5,7 @@ use Rattle.std.specs.Io.KnownBytes.{Appends}
 use Rattle.rb_lines.specs.Answers.{RunEndsAs}
 use Rattle.rb_runs.specs.MigrationSession.{migration_rest}
 use Rattle.rb_runs.specs.TakesLines.{lines_state}
-use Rattle.rb_runs.proofs.migrate.run.run_migrate.Goals as goal
+use Rattle.rb_runs.proofs.migrate.run.run_migrate_explained.Goals as goal
 
 pub returns-clause-written : goal.returns-clause-written
 returns-clause-written g c =

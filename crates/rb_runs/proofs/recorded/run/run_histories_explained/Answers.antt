@@ -5,7 +5,7 @@ use Rattle.rb_runs.specs.declared.lines.Lines.{Lines}
 use Rattle.rb_runs.specs.declared.recorded.recorder.Recorder.{Recorder}
 use Rattle.rb_runs.proofs.Failures.{same_reason}
 use Rattle.rb_runs.proofs.Recording.{all_written, ended, front_written, or_nothing, recorded, silent}
-use Rattle.rb_runs.proofs.recorded.run.run_histories.Goals as goal
+use Rattle.rb_runs.proofs.recorded.run.run_histories_explained.Goals as goal
 
 pub returns-in-Ok-clause-written : goal.returns-in-Ok-clause-written
 returns-in-Ok-clause-written g c =
