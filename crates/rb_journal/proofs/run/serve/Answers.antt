@@ -1,29 +1,20 @@
 -- A group more of a run, and how it ends.
-use Rattle.std.proofs.Common.{rules, arith, ◌≡◌, ◌∙◌, ℕ, true, false, List, Err, refl, ap, sym, subst, ◌*◌, ◌≤◌}
-use Rattle.std.specs.Io.KnownBytes.{IsAtEnd}
-use Rattle.rb_journal.specs.Host.{LeavesOnly}
+use Rattle.std.proofs.Common.{rules, arith, ◌≡◌, ◌∙◌, ℕ, true, false, Err, refl, ap, sym, subst, ◌*◌, ◌≤◌}
 use Rattle.rb_journal.specs.Lines.{IsIntact, recovered}
 use Rattle.rb_journal.proofs.Intact.{at_rest_intact}
-use Rattle.rb_journal.proofs.Public.Moments.{runs_on, started, weaker}
+use Rattle.rb_journal.proofs.Public.Moments.{started}
 use Rattle.rb_lines.specs.Buffers.{Counts}
 use Rattle.rb_lines.specs.declared.limits.TheConstants.{READ_SIZE}
 use Rattle.rb_journal.specs.Ends.{EndsAs, EndsAtRest}
-use Rattle.rb_journal.specs.Run.{IsRunOfBatches, IsRunOfTurns, served_input}
+use Rattle.rb_journal.specs.Run.{IsRunOfBatches, served_input}
 use Rattle.rb_journal.specs.Steps.{point_of}
 use Rattle.rb_journal.specs.declared.fault.ServeFault.TheVariants.{Journal, Read}
 use Rattle.rb_journal.proofs.Ending.{ends_all, ends_read, keeps_same, put_out, rest_is_read}
-use Rattle.rb_journal.proofs.Follow.{Follows, are_turns, follows_read, follows_start, follows_steps, run_start}
-use Rattle.rb_journal.proofs.Groups.{cause_on, group_cause, group_follows, group_moments, moments_on, read_follows}
-use Rattle.rb_journal.proofs.run.serve.Given.{Over}
-use Rattle.rb_journal.proofs.run.serve.Goals.{After-answer_group, After-answer_long_line, In_ok-answer_group}
+use Rattle.rb_journal.proofs.Follow.{Follows, follows_read, follows_start, follows_steps, run_start}
+use Rattle.rb_journal.proofs.Groups.{cause_on, group_cause, read_follows}
+use Rattle.rb_journal.proofs.run.serve.Answers.Serving.{ended_here, here, long_moments, long_turned, moments, then_intact, turned}
 use Rattle.rb_journal.proofs.run.serve.Goals as goal
-
--- one call more leaves no damaged file
-then_intact : {H : Type 0} {moment : H → ℕ} {left_since : H → ℕ → List ℕ → List ℕ → Type 0} {old mid new : H}
-    → LeavesOnly moment left_since old mid (λ f d. IsIntact f) → LeavesOnly moment left_since mid new (λ f d. IsIntact f)
-    → LeavesOnly moment left_since old new (λ f d. IsIntact f)
-then_intact {moment = m} {left_since = l} {old = x} {mid = y} {new = z} so_far then_on =
-    runs_on m l x y z (λ f d. IsIntact f) (λ f d. IsIntact f) so_far then_on (λ f d at. at)
+mod Serving
 
 pub batches-init : goal.batches-init
 batches-init g c =
@@ -60,41 +51,6 @@ batches-init g c =
     }
 
 -- ---- after a group
-
--- at each moment of the calls so far, and of the batch that was answered now
-moments : (g : Over) (c : After-answer_group g) → LeavesOnly g.H.Host.moment g.H.Host.left_since c.args.journal.now.host
-    c.answer_group.new.journal.host (IsRunOfBatches g.R.JournaledResponder.answers c.args.number
-    (served_input c.args.buffers.now.pending (g.I.Input.remaining c.args.reader.now))
-    (g.R.JournaledResponder.state c.args.responder.now) (recovered (g.H.Host.content c.args.journal.now.host))
-    (g.H.Host.output c.args.journal.now.host))
-moments g c =
-    let inv = c.batches.invariant in
-    group_moments inv.follows inv.end inv.any_moment c.answer_group.ensures.any_moment
-
--- and that leaves a run of turns
-turned : (g : Over) (c : After-answer_group g) → LeavesOnly g.H.Host.moment g.H.Host.left_since c.args.journal.now.host
-    c.answer_group.new.journal.host (IsRunOfTurns g.R.JournaledResponder.answers c.args.number
-    (served_input c.args.buffers.now.pending (g.I.Input.remaining c.args.reader.now))
-    (g.R.JournaledResponder.state c.args.responder.now) (recovered (g.H.Host.content c.args.journal.now.host))
-    (g.H.Host.output c.args.journal.now.host))
-turned g c =
-    weaker g.H.Host.moment g.H.Host.left_since _ _ _ _ (moments g c) (λ f d run. are_turns _ _ _ _ _ _ f d run)
-
--- how far the run has come
-here : (g : Over) (c : In_ok-answer_group g) → Follows g.R.JournaledResponder.answers
-    (served_input c.args.buffers.now.pending (g.I.Input.remaining c.args.reader.now))
-    (g.R.JournaledResponder.state c.args.responder.now) (recovered (g.H.Host.content c.args.journal.now.host))
-    (g.H.Host.output c.args.journal.now.host) c.args.number
-    (point_of (g.R.JournaledResponder.state c.answer_group.new.responder) (recovered (g.H.Host.content c.answer_group.new.journal.host))
-    (g.H.Host.output c.answer_group.new.journal.host) c.answer_group.new.work c.answer_group.new.buffers.pending)
-    (g.I.Input.remaining c.batches.reader) c.answer_group.new.buffers.ended
-here g c =
-    group_follows c.batches.invariant.follows c.batches.invariant.end c.in_ok-answer_group.ensures.answered c.answer_group.ensures.ended
-
--- the input has ended only if all of it was read
-ended_here : (g : Over) (c : After-answer_group g) → c.answer_group.new.buffers.ended ≡ true
-    → IsAtEnd (g.I.Input.remaining c.batches.reader)
-ended_here g c ended = c.batches.invariant.end (sym c.answer_group.ensures.ended ∙ ended)
 
 pub returns-in_err-answer_group-clause-any_moment : goal.returns-in_err-answer_group-clause-any_moment
 returns-in_err-answer_group-clause-any_moment g c =
@@ -197,24 +153,6 @@ batches-preserved g c =
     }
 
 -- ---- after a line that is too long
-
-long_moments : (g : Over) (c : After-answer_long_line g) → LeavesOnly g.H.Host.moment g.H.Host.left_since c.args.journal.now.host
-    c.answer_long_line.new.journal.host (IsRunOfBatches g.R.JournaledResponder.answers c.args.number
-    (served_input c.args.buffers.now.pending (g.I.Input.remaining c.args.reader.now))
-    (g.R.JournaledResponder.state c.args.responder.now) (recovered (g.H.Host.content c.args.journal.now.host))
-    (g.H.Host.output c.args.journal.now.host))
-long_moments g c =
-    let at = goal.at.After-answer_long_line g c in
-    moments_on (here g at.In_ok-answer_group) (ended_here g at.After-answer_group) (moments g at.After-answer_group)
-    c.answer_long_line.ensures.any_moment
-
-long_turned : (g : Over) (c : After-answer_long_line g) → LeavesOnly g.H.Host.moment g.H.Host.left_since c.args.journal.now.host
-    c.answer_long_line.new.journal.host (IsRunOfTurns g.R.JournaledResponder.answers c.args.number
-    (served_input c.args.buffers.now.pending (g.I.Input.remaining c.args.reader.now))
-    (g.R.JournaledResponder.state c.args.responder.now) (recovered (g.H.Host.content c.args.journal.now.host))
-    (g.H.Host.output c.args.journal.now.host))
-long_turned g c =
-    weaker g.H.Host.moment g.H.Host.left_since _ _ _ _ (long_moments g c) (λ f d run. are_turns _ _ _ _ _ _ f d run)
 
 pub returns-in_err-answer_long_line-in-Long-clause-any_moment : goal.returns-in_err-answer_long_line-in-Long-clause-any_moment
 returns-in_err-answer_long_line-in-Long-clause-any_moment g c =
