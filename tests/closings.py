@@ -51,9 +51,23 @@ CASES = [
     Case("full.0 full.1", next_bank([["ann", 100_000_000_000]])),
     Case("above.0 above.1", '{"account":"ann","fault":"limit"}\n', status=1),
     Case("made.0 open.1", err="rbbank: open.1: not sealed\n", status=2),
-    Case("made.0 full.1", err="rbbank: full.1: another bank's journal\n", status=2),
-    Case("nothing.0 none.1", err="rbbank: nothing.0: another bank's journal\n", status=2),
-    Case("bad.0 none.1", err="rbbank: bad.0: line 2: bad line\n", status=2),
+    Case("made.0 full.1", err="rbbank: full.1: another bank's journal\n"
+         "  its first line has another list of accounts\n", status=2),
+    Case("nothing.0 none.1", err="""\
+rbbank: nothing.0: another bank's journal
+  column 2: a configuration has no key "account": there are: accounts, sites, version, blue, red, inbox, history, epoch
+  {"account":[["ann",0],["bob",7]],"blue":1000000,"epoch":4000000000,"hist
+   ^
+""", status=2),
+    Case("made.0 nothing.0", err="rbbank: nothing.0: another bank's journal\n"
+         "  its first line is no configuration\n", status=2),
+    Case("bad.0 none.1", err="""\
+rbbank: bad.0: line 2: bad line
+  column 11: an event has no key "gift": there are: deposit, withdraw, interest, transfer, cancel, batch, apply, pass, \
+balance, asof, statement, shadow, token
+  {"event":{"gift":["ann",500]},"reply":{"kind":"deposit","name":"B0.1"},"
+            ^
+""", status=2),
     Case("made.0 made.0", err="rbbank: made.0: line 2: another site's entry\n", status=2),
     Case("made.0", err="rbbank: 1 journals for 2 sites\n", status=2),
     Case("made.0 none.1 none.1", err="rbbank: 3 journals for 2 sites\n", status=2),

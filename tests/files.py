@@ -52,10 +52,10 @@ RUNS = [
     ("audit head whole cut head", '{"order":[0,1,1]}', "", 0),
     ("audit 1.journal", '{"fault":"stuck","next":[1,1]}', "", 1),
     ("audit whole whole", '{"event":2,"fault":"reply","site":0}', "", 1),
-    ("audit whole other", "", "other: another bank's journal", 2),
-    ("audit other whole nowhere", "", "whole: another bank's journal", 2),
-    ("audit whole script", "", "script: another bank's journal", 2),
-    ("audit whole empty", "", "empty: another bank's journal", 2),
+    ("audit whole other", "", "other: another bank's journal\n  its first line has another limit", 2),
+    ("audit other whole nowhere", "", "whole: another bank's journal\n  its first line has another limit", 2),
+    ("audit whole script", "", "script: another bank's journal\n  its first line has another spelling", 2),
+    ("audit whole empty", "", "empty: another bank's journal\n  its first line is no configuration", 2),
     ("audit empty whole", "", "whole: another bank's journal", 2),
     ("audit empty empty", "", "empty: no configuration", 2),
     ("audit blank", "", "blank: no configuration", 2),
@@ -100,7 +100,7 @@ def results(program: str) -> Results:
         yield f"{task} {name}", piped[0] != "" and folder.ran(f"{task} {name}") == piped
     for words, out, said, status in RUNS:
         found = folder.ran(words, given="not read\n")
-        first = found[1].split("\n  ")[0].rstrip("\n")
+        first = found[1].split("\n  column ")[0].rstrip("\n")
         yield words, (found[0], first, found[2]) == (out and out + "\n", said and f"rbbank: {said}", status)
         yield f"{words}: where", ("\n  column " in found[1]) == ("bad " in said)
     for words in REFUSED:

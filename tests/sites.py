@@ -254,39 +254,63 @@ def audited(sites):
         yield f"audit of journals, {name}", (run.stdout, run.stderr) == (b'{"order":' + out + b"}\n", b"")
 
 
+def both(wrong, right):
+    """What is said of the reply that the line of a deposit has, and of the site's own."""
+    return "".join(f'  the {who} {{"kind":"deposit","name":"{name}"}}\n'
+                   for who, name in (("line has the reply", wrong), ("site replies  ", right)))
+
+
 def refused_journals(sites):
     """Journals that a site doesn't go on from, each of which is left as it was."""
     journal = stored("site_deposit.site.journal")
     first, rest = journal.split(b"\n", 1)
+    rest = b"\n" + rest
     foreign = {
-        "with another start": first.replace(b'["ann",0]', b'["ann",1]') + b"\n" + rest,
-        "with another limit": first.replace(b'"blue":1000000', b'"blue":999999') + b"\n" + rest,
-        "of version 2": first.replace(b'"version":1', b'"version":2') + b"\n" + rest,
-        "whose first line is cut": first[:40],
-        "whose first line has no end": first,
-        "that is another file": b"some notes\nof mine\n",
-        "that begins with a line feed": b"\n" + journal,
-        "of bytes": bytes(range(33, 256)) * 40,
+        "with another start": (first.replace(b'["ann",0]', b'["ann",1]') + rest, "has another list of accounts"),
+        "with one account more": (first.replace(b',0]]', b',0],["bob",0]]') + rest, "has another list of accounts"),
+        "with another limit": (first.replace(b'"blue":1000000', b'"blue":999999') + rest, "has another limit"),
+        "of version 2": (first.replace(b'"version":1', b'"version":2') + rest, "has another version"),
+        "of three sites, with another limit": (
+            first.replace(b'"sites":2', b'"sites":3').replace(b'"red":1000000', b'"red":9') + rest,
+            "has another number of sites, another limit"),
+        "with a space": (first.replace(b",", b", ", 1) + rest, "has another spelling"),
+        "whose first line is cut": (first[:40], "is no configuration"),
+        "whose first line has no end": (first, "has another spelling"),
+        "that is another file": (b"some notes\nof mine\n", "is no configuration"),
+        "that begins with a line feed": (b"\n" + journal, "is no configuration"),
+        "of bytes": (bytes(range(33, 256)) * 40, "is no configuration"),
     }
-    for name, before in foreign.items():
-        wanted = (b"", "rbbank: another bank's journal\n", 2, before)
+    for name, (before, reason) in foreign.items():
+        wanted = (b"", f"rbbank: another bank's journal\n  its first line {reason}\n", 2, before)
         yield f"a journal {name}", sites.run(BANK, before) == wanted
+    rest = rest[1:]
     lines = rest.strip(b" ").splitlines(keepends=True)
+    asked = lines[0].replace(b',"reply"', b',"id":"a","reply"')
     bad = {
-        "a bad line": (lines[0] + b'{"event":{"balance":"ann"}}\n', 3, "bad line"),
-        "an entry of another site": (lines[0] + lines[1].replace(b'"site":0', b'"site":1'), 3, "bad line"),
-        "an entry of no site": (lines[0].replace(b'"site":0', b'"site":7') + lines[1], 2, "bad line"),
-        "a wrong reply": (lines[0].replace(b"B0.1", b"B0.2") + lines[1], 2, "wrong reply"),
-        "an entry left out": (lines[1], 2, "wrong reply"),
-        "an entry that is there twice": (lines[0] + lines[0], 3, "wrong reply"),
+        "a bad line": (lines[0] + b'{"event":{"balance":"ann"}}\n', 3, "bad line", """\
+  column 27: the key "reply" of an entry is missing
+  {"event":{"balance":"ann"}}
+                            ^
+"""),
+        "an entry of another site": (lines[0] + lines[1].replace(b'"site":0', b'"site":1'), 3, "bad line",
+                                     "  it is an entry of site 1, and this is site 0\n"),
+        "an id twice": (asked + asked.replace(b"B0.1", b"B0.2"), 3, "bad line", "  an entry before it has its id\n"),
+        "an entry with a space": (lines[0].replace(b",", b", ", 1) + lines[1], 2, "bad line",
+                                  "  the site writes this entry with another spelling\n"),
+        "a wrong reply": (lines[0].replace(b"B0.1", b"B0.2") + lines[1], 2, "wrong reply", both("B0.2", "B0.1")),
+        "an entry left out": (lines[1], 2, "wrong reply", """\
+  the line has the reply {"balance":500}
+  the site replies   {"balance":0}
+"""),
+        "an entry that is there twice": (lines[0] + lines[0], 3, "wrong reply", both("B0.1", "B0.2")),
     }
-    for name, (text, number, fault) in bad.items():
+    for name, (text, number, fault, reason) in bad.items():
         before = first + b"\n" + text + AT_REST
-        wanted = (b"", f"rbbank: journal line {number}: {fault}\n", 2, before)
+        wanted = (b"", f"rbbank: journal line {number}: {fault}\n{reason}", 2, before)
         yield f"a journal with {name}", sites.run(BANK, before) == wanted
     yield from damaged_journals(sites, first, *lines)
     torn_too = first + b"\n" + bad["a wrong reply"][0] + b"{torn"
-    wanted = (b"", "rbbank: journal line 2: wrong reply\n", 2, torn_too)
+    wanted = (b"", "rbbank: journal line 2: wrong reply\n" + both("B0.2", "B0.1"), 2, torn_too)
     yield "a journal with a wrong reply and a torn end", sites.run(BANK, torn_too) == wanted
 
 
@@ -311,7 +335,8 @@ def damaged_journals(sites, first, one, two):
         wanted = (b"", "rbbank: journal line 1: damaged\n", 2, before)
         yield f"a file that begins with {name}", sites.run(BANK, before) == wanted
     before = first + b"\n" + two + b"\n" + one
-    wanted = (b"", "rbbank: journal line 2: wrong reply\n", 2, before)
+    replies = '  the line has the reply {"balance":500}\n  the site replies   {"balance":0}\n'
+    wanted = (b"", "rbbank: journal line 2: wrong reply\n" + replies, 2, before)
     yield "a journal with a wrong reply before a blank line", sites.run(BANK, before) == wanted
 
 
@@ -498,7 +523,12 @@ def no_events(sites):
     longest = b'{"balance":"ann"}'.ljust(LINE_LIMIT) + b"\n"
     yield "the longest line", sites.run(deposit + longest) == (out, "", 0, journal)
     yield "no configuration", sites.run(b"\n")[:3] == (b"", "rbbank: no configuration\n", 2)
-    bad = (b"", "rbbank: line 2: bad configuration\n", 2)
+    bad = (b"", """\
+rbbank: line 2: bad configuration
+  column 1: the first line is the configuration, as {"accounts":[["ann",0]],"sites":2,"version":1}
+  {"balance":"ann"}
+  ^
+""", 2)
     yield "a bad configuration", sites.run(b"\n" + BALANCE, journal)[:3] == bad
     yield "... leaves the journal", sites.run(b"\n" + BALANCE, journal)[3] == journal
     long = (b"", "rbbank: line 2: line too long\n", 2, journal)

@@ -22,7 +22,8 @@ pub struct Node {
     pub(crate) site: AskedSite,
     /// The messages of the last event.
     pub(crate) sent: Vec<Message>,
-    /// The last entry, written to compare it with its line; it keeps its memory from one entry to the next.
+    /// The last entry, written to compare it with its line, or two replies that differ; it keeps its memory from one
+    /// entry to the next.
     pub(crate) written: Vec<u8>,
 }
 

@@ -14,7 +14,9 @@ ghost use Rattle.rb_node.specs.Replays.{IsNotNext, IsReadBack, IsReplayedAs};
 use crate::event_line::append_messages;
 use crate::{Node, NodeFault};
 use rb_history::write::append::append;
-use rb_history::{BankName, LineFault, RequestId, append_asked_line, read_asked_entry, spell};
+use rb_history::{
+    BankName, LineFault, RequestId, append_asked_line, append_reply, read_asked_entry, spell,
+};
 use rb_lines::text_on;
 use rb_money::{Config, Refusal};
 use rb_site::{Entry, Event, Message, Reply};
@@ -149,16 +151,41 @@ impl Node {
             return Err(NodeFault::BadLine);
         }
         self.sent.clear();
+        let mut reply = Reply::Refused(Refusal::HistoryFull);
         if self.site.site().is_full() {
+            self.keep_replies(&entry.reply, &reply);
             return Err(NodeFault::WrongReply);
         }
-        let mut reply = Reply::Refused(Refusal::HistoryFull);
         self.site
             .answer(id, &entry.event, &mut self.sent, &mut reply)?;
         if !reply.same(&entry.reply) {
+            self.keep_replies(&entry.reply, &reply);
             return Err(NodeFault::WrongReply);
         }
         Ok(())
+    }
+
+    /// Keeps the line of a reply that is wrong, and the line of the right one, for `written`. Without memory for both
+    /// nothing is kept.
+    #[inline(never)]
+    fn keep_replies(&mut self, wrong: &Reply, right: &Reply)
+        ensures { self.new ≡ self.old }
+    {
+        self.written.clear();
+        let kept = append_reply(&mut self.written, wrong).and_then(|()| append_reply(
+            &mut self.written,
+            right,
+        ));
+        if kept.is_err() {
+            self.written.clear();
+        }
+    }
+
+    /// What was written last to be compared. After `BadLine` for the line of an entry of this site it is the line that
+    /// the site writes for the entry. After `WrongReply` it is two lines, the entry's reply and the site's own; or
+    /// nothing, if there was no memory.
+    pub fn written(&self) -> &[u8] {
+        self.written.as_slice()
     }
 
     /// Adds the line `{"sends":[M..]}` of what the last entry sent, with its line feed; nothing if it sent nothing.

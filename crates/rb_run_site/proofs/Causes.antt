@@ -1,14 +1,12 @@
 -- Why a site isn't opened.
 use Rattle.std.proofs.Common.{◌≡◌, ◌<◌, ◌≤◌, ◌+◌, ◌⊎◌, ℕ, Bool, true, List, ◌∷◌, ◌++◌, length, take, drop, Option, Some, None}
-use Rattle.std.proofs.Common.{Err, sym, ap, subst, ◌∙◌}
+use Rattle.std.proofs.Common.{Err, sym, ap, ◌∙◌, inl, inr}
 use Rattle.std.specs.Prelude.{IfSome}
 use Rattle.std.specs.Io.KnownBytes.{IsAtEnd}
 use Rattle.rb_lines.specs.Lines.{line_len, lines_of}
-use Rattle.rb_node.specs.Asked.{SeenAsked, first_asked}
 use Rattle.rb_run_site.specs.Faults.{IsFirstLineFault}
 use Rattle.rb_run_site.specs.FirstLines.{FindsFirst, IsBehindBlanks, WaitsAt}
-use Rattle.rb_run_site.specs.Openings.{EndsFile, EndsNode, IsOpeningCause}
-use Rattle.rb_run_site.specs.Starts.{IsOf}
+use Rattle.rb_run_site.specs.Openings.{EndsNode, EndsOpening, EndsOver, IsOpeningCause}
 use Rattle.rb_run_site.specs.declared.fault.SiteFault.{SiteFault}
 use Rattle.rb_run_site.specs.declared.fault.SiteFault.TheVariants.{NoConfig, BadConfig, NoSite, AnotherJournal, BadEntry, WrongReply}
 use Rattle.rb_run_site.specs.declared.fault.SiteFault.TheVariants.{Damaged, LongLine, Read, OutOfMemory, Sealed}
@@ -59,37 +57,20 @@ module _ (me : ℕ) (bank : List ℕ) (input left : Option (List ℕ)) (file : L
   node_cause _ ends = tt
 
   -- the file isn't replayed
-  pub file_cause : (old : SeenAsked) → IsOf line me bank old → old ≡ first_asked old.settings me bank → (why : SiteFault)
-      → EndsFile old file why
-      → IsOpeningCause me bank input left file why
-  file_cause old is begins AnotherJournal ends = record {
-    number = number;
-    line = line;
-    first = first;
-    holds = (old.settings, is.configured, is.within, subst (λ x. EndsFile x file AnotherJournal) begins ends);
-  }
-  file_cause old is begins (BadEntry n) ends = record {
-    number = number;
-    line = line;
-    first = first;
-    holds = (old.settings, is.configured, is.within, subst (λ x. EndsFile x file (BadEntry n)) begins ends);
-  }
-  file_cause old is begins (WrongReply n) ends = record {
-    number = number;
-    line = line;
-    first = first;
-    holds = (old.settings, is.configured, is.within, subst (λ x. EndsFile x file (WrongReply n)) begins ends);
-  }
-  file_cause old is begins (Damaged n) ends = record {
-    number = number;
-    line = line;
-    first = first;
-    holds = (old.settings, is.configured, is.within, subst (λ x. EndsFile x file (Damaged n)) begins ends);
-  }
-  file_cause old is begins Sealed ends = ends
-  file_cause old is begins NoConfig ends = absurd ends
-  file_cause old is begins (BadConfig n) ends = absurd ends
-  file_cause old is begins NoSite ends = absurd ends
-  file_cause old is begins (LongLine n) ends = absurd ends
-  file_cause old is begins Read ends = absurd ends
-  file_cause old is begins _ ends = tt
+  pub file_cause : (why : SiteFault) → EndsOpening me bank file why number line → IsOpeningCause me bank input left file why
+  file_cause AnotherJournal ends = record { number = number; line = line; first = first; holds = ends }
+  file_cause (BadEntry n) ends = record { number = number; line = line; first = first; holds = ends }
+  file_cause (WrongReply n) ends = record { number = number; line = line; first = first; holds = ends }
+  file_cause (Damaged n) ends = record { number = number; line = line; first = first; holds = ends }
+  file_cause Sealed ends = ends.3
+  file_cause NoConfig ends = absurd ends.3
+  file_cause (BadConfig n) ends = absurd ends.3
+  file_cause NoSite ends = absurd ends.3
+  file_cause (LongLine n) ends = absurd ends.3
+  file_cause Read ends = absurd ends.3
+  file_cause _ ends = tt
+
+  -- the line is at fault, or the file
+  pub over_cause : (why : SiteFault) → EndsOver me bank file number line why → IsOpeningCause me bank input left file why
+  over_cause why (inl ends) = node_cause why ends
+  over_cause why (inr ends) = file_cause why ends

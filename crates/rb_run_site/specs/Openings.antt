@@ -70,11 +70,14 @@ abbrev pub EndsOpening : ℕ → List ℕ → List ℕ → SiteFault → ℕ →
 EndsOpening me bank file fault number line =
     (s : Settings) × (config_on line ≡ Some s) × (me < s.sites) × EndsFile (first_asked s me bank) file fault
 
+-- the line of this number, or the file, is at fault
+abbrev pub EndsOver : ℕ → List ℕ → List ℕ → ℕ → List ℕ → SiteFault → Type 0
+EndsOver me bank file number line fault = EndsNode line number me fault ⊎ EndsOpening me bank file fault number line
+
 -- why a site of the configuration on this line, which is line 1, isn't opened over the file: the file is sealed; or the
 -- line or the file is at fault
 abbrev pub EndsOnLine : ℕ → List ℕ → List ℕ → List ℕ → SiteFault → Type 0
-EndsOnLine me bank file line fault = ((fault ≡ Sealed) × IsSealed file)
-    ⊎ (EndsNode line 1 me fault ⊎ EndsOpening me bank file fault 1 line)
+EndsOnLine me bank file line fault = ((fault ≡ Sealed) × IsSealed file) ⊎ EndsOver me bank file 1 line fault
 
 -- of the input's first line that isn't blank, and of its number, this holds
 pub record HasFirstLine (input : Option (List ℕ)) (P : ℕ → List ℕ → Type 0) : Type 0 where

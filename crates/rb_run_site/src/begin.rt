@@ -9,9 +9,8 @@ ghost use Rattle.rb_run_site.specs.Openings.{EndsOnLine, IsToBegin, OpensSite};
 ghost use Rattle.rb_run_site.specs.Starts.{IsJournalOf};
 
 use crate::fault::SiteFault;
-use crate::opening::{Opened, open_node, replay_file};
+use crate::opening::{Opened, open_over};
 use crate::records::Records;
-use crate::responder::SiteResponder;
 use rb_history::{BankName, lines_are_single};
 use rb_journal::{Host, HostError, Journal, is_sealed};
 use std::alloc::Global;
@@ -36,22 +35,8 @@ pub fn open_on_line<M: Records>(
     if is_sealed(bytes) {
         return Err(SiteFault::Sealed);
     }
-    let mut node = open_node(alloc, config, 1, me, bank)?;
-    let mut sends = Vec::new(alloc);
-    match replay_file(alloc, &mut node, bytes, resend, &mut sends) {
-        Ok(first) => {
-            let responder = SiteResponder::new(alloc, node);
-            Ok(Opened {
-                responder,
-                first,
-                sends,
-            })
-        }
-        Err(fault) => {
-            node.close();
-            Err(fault)
-        }
-    }
+    let mut why = None;
+    open_over(alloc, config, 1, bytes, me, bank, resend, &mut why)
 }
 
 impl<M: Records> Opened<M> {

@@ -14,6 +14,7 @@ mod replay;
 mod responder;
 mod run;
 mod seal;
+mod why;
 
 ghost use Rattle.rb_run_site.specs.Asking.{AskedOnce, AskingIsServing, SameAnswer};
 ghost use Rattle.rb_run_site.specs.OtherBanks.{OtherBanksChangeNothing};

@@ -11,7 +11,8 @@ ghost use Rattle.rb_lines.specs.Buffers.{Counts};
 ghost use Rattle.rb_lines.specs.declared.limits.TheConstants.{MOST_READS};
 ghost use Rattle.rb_run_site.specs.Journals.{journal_head, journal_of};
 ghost use Rattle.rb_run_site.specs.Faults.{IsOpeningFault};
-ghost use Rattle.rb_run_site.specs.Openings.{EndsFile, EndsNode, IsOpeningCause, OpensFile, OpensSite};
+ghost use Rattle.rb_run_site.specs.Openings.{EndsFile, EndsNode, EndsOver, IsOpeningCause, OpensFile};
+ghost use Rattle.rb_run_site.specs.Openings.{OpensSite};
 ghost use Rattle.rb_run_site.specs.Starts.{IsOf, WaitsBehind};
 ghost use Rattle.rb_run_site.specs.declared.fault.SiteFault.TheVariants.{Read as NotRead};
 
@@ -21,6 +22,7 @@ use crate::first_line::first_line;
 use crate::records::Records;
 use crate::replay::{count_lines, replay_all};
 use crate::responder::SiteResponder;
+use crate::why::{reason_of_config, reason_of_journal};
 use rb_history::{BankName, lines_are_single};
 use rb_journal::damaged_line;
 use rb_lines::{Buffers, Source, ToBytes};
@@ -100,9 +102,52 @@ pub fn replay_file(
     }
 }
 
+/// Opens site `me` of the configuration on a line, of this number, of the bank of the name, with the history in the
+/// file of these bytes. `why` becomes the reason of a fault that has one, if memory suffices to say it.
+pub fn open_over<M: Records>(
+    alloc: Global,
+    line: &[u8],
+    number: u64,
+    bytes: &[u8],
+    me: u8,
+    bank: BankName,
+    resend: usize,
+    why: &mut Option<String>,
+) -> Result<Opened<M>, SiteFault>
+    ensures { MatchResult result
+        (λ opened. OpensSite line.now me bank resend bytes.now opened.responder.node.site opened.first.items
+        opened.sends.items)
+        (EndsOver me bank bytes.now number line.now) }
+{
+    let mut node = match open_node(alloc, line, number, me, bank) {
+        Ok(node) => node,
+        Err(fault) => {
+            *why = reason_of_config(alloc, line, fault);
+            return Err(fault);
+        }
+    };
+    let mut sends = Vec::new(alloc);
+    match replay_file(alloc, &mut node, bytes, resend, &mut sends) {
+        Ok(first) => {
+            let responder = SiteResponder::new(alloc, node);
+            Ok(Opened {
+                responder,
+                first,
+                sends,
+            })
+        }
+        Err(fault) => {
+            *why = reason_of_journal(alloc, &node, bytes, fault);
+            node.close();
+            Err(fault)
+        }
+    }
+}
+
 /// Reads the configuration, and opens site `me` of it, of the bank of the name, with the history in the file.
 ///
-/// The number of the line behind the configuration's comes with it.
+/// The number of the line behind the configuration's comes with it. `why` becomes the reason of a fault that has one,
+/// if memory suffices to say it.
 pub fn open_site<S: Source, M: Records>(
     alloc: Global,
     buffers: &mut Buffers,
@@ -111,6 +156,7 @@ pub fn open_site<S: Source, M: Records>(
     me: u8,
     bank: BankName,
     resend: usize,
+    why: &mut Option<String>,
 ) -> Result<(Opened<M>, u64), SiteFault>
     requires unread { S.calls reader.old ≡ 0 }
     requires pending { buffers.old.pending ≡ [] }
@@ -131,24 +177,8 @@ pub fn open_site<S: Source, M: Records>(
 {
     let mut nothing = ToBytes::new(alloc);
     let (n, number) = first_line(buffers, reader, &mut nothing)?;
-    let mut node = open_node(alloc, &buffers.pending.as_slice()[..n], number, me, bank)?;
+    let line = &buffers.pending.as_slice()[..n];
+    let opened = open_over(alloc, line, number, bytes, me, bank, resend, why)?;
     buffers.skip_line(n);
-    let mut sends = Vec::new(alloc);
-    match replay_file(alloc, &mut node, bytes, resend, &mut sends) {
-        Ok(first) => {
-            let responder = SiteResponder::new(alloc, node);
-            Ok((
-                Opened {
-                    responder,
-                    first,
-                    sends,
-                },
-                number + 1,
-            ))
-        }
-        Err(fault) => {
-            node.close();
-            Err(fault)
-        }
-    }
+    Ok((opened, number + 1))
 }

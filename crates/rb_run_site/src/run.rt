@@ -161,6 +161,7 @@ pub fn run_site<S: Source, H: Host, M: Records>(
     me: u8,
     bank: BankName,
     resend: usize,
+    why: &mut Option<String>,
 ) -> Ran<H>
     requires usable { H.is_usable host }
     requires bytes { bytes.items ≡ H.content host }
@@ -207,7 +208,7 @@ pub fn run_site<S: Source, H: Host, M: Records>(
         };
     }
     let mut buffers = Buffers::new(alloc);
-    match open_site::<S, M>(alloc, &mut buffers, reader, &bytes, me, bank, resend) {
+    match open_site::<S, M>(alloc, &mut buffers, reader, &bytes, me, bank, resend, why) {
         Ok((opened, number)) => run_opened(
             alloc,
             opened,

@@ -16,7 +16,12 @@ use rb_lines::{Buffers, FromBytes};
 use std::alloc::Global;
 
 /// Starts site `me` of the configuration that a journal's first line has, with the journal's entries, and closes it.
-fn replay_alone(alloc: Global, bytes: &[u8], me: u8) -> Result<(), SiteFault>
+fn replay_alone(
+    alloc: Global,
+    bytes: &[u8],
+    me: u8,
+    why: &mut Option<String>,
+) -> Result<(), SiteFault>
     ensures { MatchResult result
         (λ _. StartsAlone me bytes.now × IsIntact bytes.now)
         (λ fault. IsOpeningFault fault × IsSealCause me bytes.now fault) }
@@ -24,7 +29,16 @@ fn replay_alone(alloc: Global, bytes: &[u8], me: u8) -> Result<(), SiteFault>
     let mut reader = FromBytes::new(&bytes[..end_of_lines(bytes)]);
     let mut buffers = Buffers::new(alloc);
     let bank = BankName::none(alloc);
-    match open_site::<FromBytes, AllEvents>(alloc, &mut buffers, &mut reader, bytes, me, bank, 0) {
+    match open_site::<FromBytes, AllEvents>(
+        alloc,
+        &mut buffers,
+        &mut reader,
+        bytes,
+        me,
+        bank,
+        0,
+        why,
+    ) {
         Ok((opened, _number)) => {
             opened.close();
             Ok(())
@@ -60,8 +74,15 @@ fn seal_file<H: Host>(host: H, bytes: &[u8]) -> Result<H, (HostError, H)>
 
 /// Seals the journal of site `me`, over the file of the host, whose bytes these are: no later run goes on with it. No
 /// input is read, and nothing is put out: the configuration is the journal's own first line, and its entries are
-/// replayed before anything is changed. `Ok` is 0, as no line is answered.
-pub fn seal_site<H: Host>(alloc: Global, host: H, bytes: Vec<u8>, me: u8) -> Ran<H>
+/// replayed before anything is changed. `Ok` is 0, as no line is answered. `why` becomes the reason of a fault that has
+/// one, if memory suffices to say it.
+pub fn seal_site<H: Host>(
+    alloc: Global,
+    host: H,
+    bytes: Vec<u8>,
+    me: u8,
+    why: &mut Option<String>,
+) -> Ran<H>
     requires usable { H.is_usable host }
     requires bytes { bytes.items ≡ H.content host }
     // After a restart, what is read is what is on the disk.
@@ -88,7 +109,7 @@ pub fn seal_site<H: Host>(alloc: Global, host: H, bytes: Vec<u8>, me: u8) -> Ran
             ended: Err(SiteFault::Sealed),
         };
     }
-    match replay_alone(alloc, &bytes, me) {
+    match replay_alone(alloc, &bytes, me, why) {
         Ok(()) => match seal_file(host, &bytes) {
             Ok(host) => Ran { host, ended: Ok(0) },
             Err((error, host)) => Ran {

@@ -8,7 +8,8 @@ ghost use Rattle.rbbank.specs.Statuses.{IsEndOfClosing, IsReportedStatus};
 
 use crate::files_on_disk::{FilesOnDisk, name_of, report_unread};
 use crate::read_log::ReadLog;
-use crate::{FAULT_FOUND, out_of_memory, print_line, report_fault};
+use crate::why::reason_of_file;
+use crate::{FAULT_FOUND, out_of_memory, print_line, report_fault, report_why};
 use rb_lines::{ScriptFault, Sink};
 use rb_runs::{
     CloseFault, NextBank, added_message, added_status, journal_message, journal_status, run_close,
@@ -56,6 +57,13 @@ fn report_closing(
     }
 }
 
+/// Says behind that why a line of a journal isn't taken, if that is the fault.
+fn report_why_not(rt: &HostRuntime, journals: &[&str], fault: CloseFault) {
+    if let CloseFault::Journal { site, fault } = fault {
+        report_why(rt, reason_of_file(rt, journals, site, fault));
+    }
+}
+
 /// Closes the books by the journals in these files, and writes one line to the writer.
 pub fn close_books<W: Sink>(
     rt: &HostRuntime,
@@ -79,7 +87,11 @@ pub fn close_books<W: Sink>(
     let code = match ended {
         Ok(true) => ExitCode::SUCCESS,
         Ok(false) => ExitCode::from(FAULT_FOUND),
-        Err(fault) => report_closing(rt, accounts, journals, fault, error),
+        Err(fault) => {
+            let code = report_closing(rt, accounts, journals, fault, error);
+            report_why_not(rt, journals, fault);
+            code
+        }
     };
     RanClosing { read, ended, code }
 }

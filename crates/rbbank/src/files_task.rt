@@ -10,6 +10,7 @@ use crate::files_on_disk::{FilesOnDisk, name_of, report_unread};
 use crate::joined::{FilesFault, Joined, join_files};
 use crate::read_log::ReadLog;
 use crate::task::{TaskRan, run_task};
+use crate::why::reason_of_file;
 use crate::{FAULT_FOUND, out_of_memory, print_line, report_fault, report_why};
 use rb_cli::Task;
 use rb_lines::{ScriptFault, Sink, status};
@@ -99,7 +100,9 @@ fn report_files(
         FilesFault::AnotherBank { file } => {
             let fault = JournalFault::AnotherBank;
             let line = journal_message(rt.alloc(), name_of(names, file), fault);
-            print_line(rt, line, journal_status(fault))
+            let code = print_line(rt, line, journal_status(fault));
+            report_why(rt, reason_of_file(rt, names, file, fault));
+            code
         }
         FilesFault::OutOfMemory => out_of_memory(rt),
     }

@@ -23,6 +23,7 @@ mod on_streams;
 mod over_files;
 mod read_log;
 mod task;
+mod why;
 
 use clap::error::ErrorKind;
 use closing::close_books;

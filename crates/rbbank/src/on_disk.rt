@@ -8,7 +8,7 @@ ghost use Rattle.rbbank.specs.OnDisk.{IsJournalMessage, IsRunOn, IsSealOn, bank_
 ghost use Rattle.rbbank.specs.OnDisk.{records_all};
 ghost use Rattle.rbbank.specs.Statuses.{IsEndOfSite};
 
-use crate::print_line;
+use crate::{print_line, report_why};
 use rb_cli::Record;
 use rb_history::BankName;
 use rb_journal::{Disk, OpenError, open_disk};
@@ -168,6 +168,7 @@ fn run_recording<S: Source, M: Records>(
 {
     match open_disk(rt, journal, is_new, rt.stdout()) {
         Ok((disk, bytes)) => {
+            let mut why = None;
             let Ran { host, ended } = run_site::<S, Disk<HostRuntime, Stdout>, M>(
                 rt.alloc(),
                 reader,
@@ -176,8 +177,10 @@ fn run_recording<S: Source, M: Records>(
                 me,
                 bank,
                 most_resent(resend),
+                &mut why,
             );
             let code = end_of_site(rt, journal, ended, host.error());
+            report_why(rt, why);
             RanOnDisk {
                 disk: Some(host),
                 ended,
@@ -228,8 +231,10 @@ pub fn seal_on_disk(rt: &HostRuntime, me: u8, journal: &str) -> RanOnDisk
 {
     match open_disk(rt, journal, false, rt.stdout()) {
         Ok((disk, bytes)) => {
-            let Ran { host, ended } = seal_site(rt.alloc(), disk, bytes, me);
+            let mut why = None;
+            let Ran { host, ended } = seal_site(rt.alloc(), disk, bytes, me, &mut why);
             let code = end_of_site(rt, journal, ended, host.error());
+            report_why(rt, why);
             RanOnDisk {
                 disk: Some(host),
                 ended,
