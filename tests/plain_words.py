@@ -20,6 +20,7 @@ lists, and of the cells of its tables that have eight words or more. Lower a num
 
 A line has at most 120 columns, but for a row of a table and what is indented in a page (commands, and lines that the
 program reads or writes), and in crates/*/src for such lines and for an attribute, which `rt fmt` puts into one line.
+One of a definition or a proof has at most 140.
 """
 import fnmatch
 import glob
@@ -29,6 +30,7 @@ import sys
 
 ROOT = os.path.dirname(os.path.dirname(os.path.abspath(__file__)))
 WIDTH = 120  # the most columns of a line
+WIDTHS = {".antt": 140}  # of those of other files
 LONGEST_MEAN = 25  # the most words that a page's sentences may have in the mean
 LONG_CELL = 8  # the words from which a cell of a table counts as sentences
 CLOSED = r"[.;:,|)]|$"  # what ends a clause
@@ -204,11 +206,13 @@ def too_long():
     folders = ("bench", "bindings", "examples", "play", "service", "tests")
     places = [f"{folder}/**/*.{kind}" for folder in folders for kind in ("md", "py")]
     places += [f"play/page/*.{kind}" for kind in ("html", "css", "js")]
-    for path, text in files("Makefile", "*.md", "docs/*.md", "crates/*/*.md", "crates/*/src/**/*.rt", *places):
-        free = FREE.get(os.path.splitext(path)[1])
+    places += ["Makefile", "*.md", "docs/*.md", "crates/*/*.md", "crates/*/src/**/*.rt"]
+    for path, text in files(*places, "crates/*/specs/**/*.antt", "crates/*/proofs/**/*.antt"):
+        kind = os.path.splitext(path)[1]
+        free, most = FREE.get(kind), WIDTHS.get(kind, WIDTH)
         for number, line in enumerate(text.split("\n"), 1):
-            if len(line) > WIDTH and not (free and re.match(free, line)):
-                yield f"{path}:{number}: {len(line)} columns, and a line has at most {WIDTH}"
+            if len(line) > most and not (free and re.match(free, line)):
+                yield f"{path}:{number}: {len(line)} columns, and a line has at most {most}"
 
 
 def main():

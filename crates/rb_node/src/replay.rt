@@ -181,9 +181,9 @@ impl Node {
         }
     }
 
-    /// What was written last to be compared. After `BadLine` for the line of an entry of this site it is the line that
-    /// the site writes for the entry. After `WrongReply` it is two lines, the entry's reply and the site's own; or
-    /// nothing, if there was no memory.
+    /// The text that was written last, to be compared. After `BadLine` for the line of an entry of this site it is the
+    /// line that the site writes for the entry. After `WrongReply` it is two lines, the entry's reply and the site's
+    /// own; or nothing, if there was no memory.
     pub fn written(&self) -> &[u8] {
         self.written.as_slice()
     }

@@ -8,7 +8,8 @@ IsPlain bytes = All (λ b. (32 ≤ b) × (b < 127)) bytes
 -- three lines, each behind two spaces: a column and what is wrong there, a part of the line, and a caret
 abbrev pub reason_text : ℕ → List ℕ → List ℕ → List ℕ → List ℕ → List ℕ
 reason_text column why before behind blanks =
-    codes "  column " ++ (decimal column ++ (codes ": " ++ (why ++ (codes "\n  " ++ (before ++ (behind ++ (codes "\n  " ++ (blanks ++ codes "^"))))))))
+    codes "  column " ++ (decimal column ++ (codes ": " ++ (why
+    ++ (codes "\n  " ++ (before ++ (behind ++ (codes "\n  " ++ (blanks ++ codes "^"))))))))
 
 -- why a line with this many bytes was refused: the column is from 1 to one more than the line has bytes, and all that
 -- comes from the line is plain

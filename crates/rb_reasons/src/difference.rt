@@ -1,5 +1,5 @@
-//! What a journal's first line has otherwise than a bank's configuration. The line as a site writes it is compared as a
-//! whole; the parts are looked at here, once it differs.
+//! The difference between a journal's first line and a bank's configuration. A site compares the line as a whole; the
+//! parts are compared here, once it differs.
 
 use rb_history::open_config;
 use rb_money::{Accounts, Config, Place};
@@ -35,8 +35,8 @@ fn push_part(text: &mut String, part: &str, differs: bool) -> Option<()> {
     text.push_str(part).ok()
 }
 
-/// What the configuration on a journal's first line has otherwise, as words behind two spaces: another version, another
-/// number of sites, other accounts or other limits; or, if none of these, another spelling. `None` if memory ran out.
+/// The parts of the configuration on a journal's first line that differ, as words behind two spaces: another version,
+/// number of sites, list of accounts or limit; or, if none of these, another spelling. `None` if memory ran out.
 pub fn difference_of(alloc: Global, config: &Config, line: &[u8]) -> Option<String> {
     let Ok(other) = open_config(alloc, line) else {
         return format!(in alloc; "  its first line is no configuration").ok();

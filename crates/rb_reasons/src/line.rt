@@ -8,7 +8,7 @@ pub fn line_of(bytes: &[u8], number: u64) -> &[u8] {
     let mut rest = bytes;
     for _ in 1..number {
         match first_feed(rest) {
-            Some(n) => rest = &rest[n + 1..],
+            Some(n) => rest = rest.get(n.saturating_add(1)..).unwrap_or(b""),
             None => return b"",
         }
     }

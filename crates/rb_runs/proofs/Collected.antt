@@ -40,7 +40,8 @@ stopped Gather input left not h = h
 
 -- the run ended with a fault
 pub ended : (a b : Option (List ℕ)) (c : Lines Collected) (f : ScriptFault) → c ≡ first_lines → f ≢ Write
-    → IfSome a (λ input. EndsSilently (lines_state (unanswered input_rest) c).rest (Err f) input b) → IfSome a (λ input. AuditEndsAs (Err f) input b [])
+    → IfSome a (λ input. EndsSilently (lines_state (unanswered input_rest) c).rest (Err f) input b)
+    → IfSome a (λ input. AuditEndsAs (Err f) input b [])
 ended None b c f first not h = tt
 ended (Some input) b c f first not h =
     stopped f input b not (stops input_of (made_by c) (λ ls. at_first c ls first) f input b h.0 not h.1)

@@ -84,7 +84,8 @@ stopped Gather input left not h = h
 
 -- the run ended with a fault
 pub ended : (a b : Option (List ℕ)) (r : Lines Recorder) (f : ScriptFault) → r ≡ first_lines → f ≢ Write
-    → IfSome a (λ input. EndsSilently (lines_state (unanswered recorder_rest) r).rest (Err f) input b) → IfSome a (λ input. HistoriesEndAs (Err f) input b [])
+    → IfSome a (λ input. EndsSilently (lines_state (unanswered recorder_rest) r).rest (Err f) input b)
+    → IfSome a (λ input. HistoriesEndAs (Err f) input b [])
 ended None b r f first not h = tt
 ended (Some input) b r f first not h =
     stopped f input b not

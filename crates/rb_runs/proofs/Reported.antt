@@ -23,15 +23,16 @@ whole_input : (all : List ℕ) (b : Option (List ℕ)) (c : Lines Collected) (s 
 whole_input all b c s whole conf = whole.0 ∙ ap (λ m. input_rest m c.number []) conf
 
 of_whole : (a b : Option (List ℕ)) (c : Lines Collected) (s : Audited) (found : Bool) (line : List ℕ)
-    → IfSome a (λ input. IsTaken c input b) → c.opened ≡ Some (record { auditor = s }) → ReportsVerdict found (input_at s) line
+    → IfSome a (λ input. IsTaken c input b) → c.opened ≡ Some (record { auditor = s })
+    → ReportsVerdict found (input_at s) line
     → IfSome a (λ input. AuditEndsAs (Ok found) input b line)
 of_whole None b c s found line whole conf shown = tt
 of_whole (Some all) b c s found line whole conf shown = (input_at s, whole_input all b c s whole conf, shown, whole.1)
 
 -- all lines were taken, and the line of the verdict was written
 pub reported : (w0 w w' a b : Option (List ℕ)) (c : Lines Collected) (s : Audited) (found : Bool) (line : List ℕ)
-    → Appends w0 w []
-    → Appends w w' line → IfSome a (λ input. IsTaken c input b) → c.opened ≡ Some (record { auditor = s }) → ReportsVerdict found (input_at s) line
+    → Appends w0 w [] → Appends w w' line → IfSome a (λ input. IsTaken c input b)
+    → c.opened ≡ Some (record { auditor = s }) → ReportsVerdict found (input_at s) line
     → (text : List ℕ) × Appends w0 w' text × IfSome a (λ input. AuditEndsAs (Ok found) input b text)
 reported w0 w w' a b c s found line before written whole conf shown =
     (line, Appends-trans w0 w w' [] line before written, of_whole a b c s found line whole conf shown)

@@ -14,7 +14,8 @@ input_outcome (Ok x) = record { text = []; count = 0; fault = None }
 input_outcome (Err f) = no_outcome f
 
 -- lines come to no text, whatever input they make
-abbrev pub unanswered : {S : Type 0} → (Option S → ℕ → List (List ℕ) → Result Input ScriptFault) → Option S → ℕ → List (List ℕ) → LinesOutcome
+abbrev pub unanswered : {S : Type 0} → (Option S → ℕ → List (List ℕ) → Result Input ScriptFault) → Option S → ℕ
+    → List (List ℕ) → LinesOutcome
 unanswered made o n ls = input_outcome (made o n ls)
 
 -- whatever makes an input of lines: one that is too long is bad, a blank one is skipped, and the end is no bad line

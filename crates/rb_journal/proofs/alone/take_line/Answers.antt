@@ -10,9 +10,12 @@ pub returns-then-line-gt-LINE_LIMIT : goal.returns-then-line-gt-LINE_LIMIT
 returns-then-line-gt-LINE_LIMIT g c =
     let line = c.args.line.now in
     let long : is_long line ≡ true = search rules in
-    on_ok_weaker c.answer_long.result (λ answered. one_turn g.R.JournaledResponder.answers _ _ _ _ [] (recovered c.args.batch.now.bytes.items) c.args.number line
-    c.args.text.now.items c.answer_long.new.text.items (rw (ap recovered c.requires.batch) (answered line long)) refl
-    c.requires.text (long_answered line long)) c.answer_long.ensures.answered
+    let answers = g.R.JournaledResponder.answers in
+    let batch = recovered c.args.batch.now.bytes.items in
+    let text = c.args.text.now.items in
+    on_ok_weaker c.answer_long.result (λ answered. one_turn answers _ _ _ _ [] batch c.args.number line text
+    c.answer_long.new.text.items (rw (ap recovered c.requires.batch) (answered line long)) refl c.requires.text
+    (long_answered line long)) c.answer_long.ensures.answered
 
 pub returns : goal.returns
 returns g c =

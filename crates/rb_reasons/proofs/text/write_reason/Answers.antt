@@ -25,6 +25,6 @@ returns-in-Ok-clause-most c =
     let behind = string_bytes c.in_ok-behind.behind in
     let caret = string_bytes c.in_ok-caret.caret in
     let of_behind : length behind ≤ 72 = omega (arith, c.in_ok-behind.ensures.most) in
-    let all = short (c.count_chars.result + 1) why before behind caret (omega arith) c.in_ok-why.ensures.most c.in_ok-before.ensures.most of_behind
-    c.in_ok-caret.ensures.most in
+    let all = short (c.count_chars.result + 1) why before behind caret (omega arith) c.in_ok-why.ensures.most
+    c.in_ok-before.ensures.most of_behind c.in_ok-caret.ensures.most in
     omega (arith, ap length c.in-Ok.ensures.ok, all)

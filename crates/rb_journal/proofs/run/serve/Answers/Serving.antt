@@ -1,4 +1,4 @@
--- Where a run is after a group, and after a line that is too long: how far it has come, and what a crash leaves.
+-- The state of a run after a group, and after a line that is too long: how far it has come, and what a crash leaves.
 use Rattle.std.proofs.Common.{◌≡◌, ◌∙◌, ℕ, true, List, sym}
 use Rattle.std.specs.Io.KnownBytes.{IsAtEnd}
 use Rattle.rb_journal.specs.Host.{LeavesOnly}

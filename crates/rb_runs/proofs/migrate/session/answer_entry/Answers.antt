@@ -19,6 +19,7 @@ returns-clause-answered c =
     let s = c.args.versions.now in
     let old = c.args.buffered.now.items in
     let new = c.append_migrated_entry.new.out.items in
-    subst (λ o. MatchResult c.append_migrated_entry.result (λ _. (x : ℕ × AskedEntry) × (o ≡ Some x) × (new ≡ old ++ migrated_entry_line s x))
-    (λ why. why ≡ Bad → o ≡ None)) (on_text s c.args.line.now c.in-Some.text.now c.in-Some.ensures.0 c.in-Some.ensures.1)
-    c.append_migrated_entry.ensures.answered
+    let some = c.in-Some in
+    subst (λ o. MatchResult c.append_migrated_entry.result
+    (λ _. (x : ℕ × AskedEntry) × (o ≡ Some x) × (new ≡ old ++ migrated_entry_line s x)) (λ why. why ≡ Bad → o ≡ None))
+    (on_text s c.args.line.now some.text.now some.ensures.0 some.ensures.1) c.append_migrated_entry.ensures.answered
