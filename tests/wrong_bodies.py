@@ -24,7 +24,7 @@ ROOT = os.path.dirname(os.path.dirname(os.path.abspath(__file__)))
 MUTANTS = os.path.join(ROOT, "tests", "wrong_bodies")
 CRATES = os.path.join(ROOT, "crates")
 # how many mutants there are in all, so that none is lost with a change: raise it with each that is added
-MUTANTS_IN_ALL = 733
+MUTANTS_IN_ALL = 764
 
 
 def mutants_of(crate):
