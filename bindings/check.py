@@ -236,11 +236,16 @@ LANGUAGES = {
 NEEDS = {"C": "C compiler", "Rust": "cargo", "Python": "Python"}
 
 
+def first_line(text):
+    """A fault on standard error without the reason behind it, which the program alone says."""
+    return re.sub(r"(?m)^  .*\n", "", text)
+
+
 def fault_of(text):
-    """A line on standard error, whose kind of bad line the library's caller doesn't know. What a crash left behind the
-    last line is kept by the program alone, which says so."""
-    text = re.sub(rb"(?m)^rbbank: journal line .* cut off, kept in .*\n", b"", text)
-    return re.sub(rb"(?m)^(rbbank: line \d+): .*$", rb"\1", text)
+    """A fault on standard error as the library's caller knows it, without the kind of a bad line. That of what a crash
+    left behind the last line is said by the program alone."""
+    text = re.sub(r"(?m)^rbbank: journal line .* cut off, kept in .*\n", "", first_line(text.decode()))
+    return re.sub(r"(?m)^(rbbank: line \d+): .*$", r"\1", text).encode()
 
 
 def row(rows, path, word):
@@ -279,8 +284,9 @@ def same_closings(name, rows, program):
             files = [word for word in case.words.split() if "." in word]
             if all(os.path.exists(os.path.join(path, file)) for file in files):
                 out, errors, status = run([*rows, "close", *case.words.split()], folder=path)
-                found = case._replace(out=out.decode(), err=errors.decode(), status=status)
-                yield f"{name}, close {case.words[-60:]}", found == case
+                found = out.decode(), errors.decode(), status
+                wanted = case.out, first_line(case.err), case.status
+                yield f"{name}, close {case.words[-60:]}", found == wanted
 
 
 # ---- odd lines, through C
