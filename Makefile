@@ -16,7 +16,7 @@ help:
 	@echo '                     copies the program, the manual pages rbbank(1) and rbbank(5), completions for three'
 	@echo '                     shells, and the tools rbbank-draw, rbbank-explain and rbbank-wire, after make build'
 	@echo '  make install-libs PREFIX=/usr/local'
-	@echo '                     copies the library for C with its header and a file for pkg-config, after make bindings'
+	@echo '                     copies the library for C with its headers and a file for pkg-config, after make bindings'
 	@echo '  make examples      every example, and every case of tests/cases, through the program, after make build'
 	@echo '  make test          the gate; about an hour; less than a minute if nothing changed since'
 	@echo '                     (docs/CHANGING.md)'
@@ -91,14 +91,15 @@ install:
 	@install -m 755 $(TOOLS:%=examples/tools/%.py) "$(UNDER)/share/rbbank"
 	@for tool in $(TOOLS); do ln -sf "../share/rbbank/$$tool.py" "$(UNDER)/bin/rbbank-$$tool" || exit 1; done
 
-# The library for C, its header and what pkg-config says of it, below PREFIX. The version is the library's.
+# The library for C, its headers and what pkg-config says of it, below PREFIX. The version is the library's.
 LIBRARY_VERSION := $(shell sed -n 's/.*VERSION: &str = "\(.*\)";/\1/p' crates/rb_capi/src/version.rt)
 SHARED := librbbank.so.$(firstword $(subst ., ,$(LIBRARY_VERSION)))
 install-libs:
-	@test -f bindings/out/librbbank.so || { echo 'there is no library yet: make bindings'; exit 1; }
-	@install -D -m 644 bindings/c/rbbank.h "$(DESTDIR)$(PREFIX)/include/rbbank.h"
-	@install -D -m 644 bindings/out/librbbank.a "$(DESTDIR)$(PREFIX)/lib/librbbank.a"
-	@install -D -m 755 bindings/out/librbbank.so "$(DESTDIR)$(PREFIX)/lib/$(SHARED)"
+	@test -f bindings/out/librbbank_file.a || { echo 'there is no library yet: make bindings'; exit 1; }
+	@install -d "$(DESTDIR)$(PREFIX)/include" "$(DESTDIR)$(PREFIX)/lib"
+	@install -m 644 bindings/c/rbbank.h bindings/c/rbbank_file.h "$(DESTDIR)$(PREFIX)/include"
+	@install -m 644 bindings/out/librbbank.a bindings/out/librbbank_file.a "$(DESTDIR)$(PREFIX)/lib"
+	@install -m 755 bindings/out/librbbank.so "$(DESTDIR)$(PREFIX)/lib/$(SHARED)"
 	@ln -sf $(SHARED) "$(DESTDIR)$(PREFIX)/lib/librbbank.so"
 	@install -d "$(DESTDIR)$(PREFIX)/lib/pkgconfig"
 	@sed -e 's|@PREFIX@|$(PREFIX)|' -e 's|@VERSION@|$(LIBRARY_VERSION)|' bindings/c/rbbank.pc.in \

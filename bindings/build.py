@@ -1,6 +1,7 @@
 #!/usr/bin/env python3
 """Builds the library for C, Rust and Python in bindings/out: librbbank.a, with all that it needs beside the system's C
-library, and librbbank.so. Nothing is built that isn't proved.
+library, and librbbank.so. Nothing is built into them that isn't proved. Beside them librbbank_file.a is made of
+c/rbbank_file.c, which is plain C, and isn't proved.
 
 usage: build.py              builds it: if the gate proved the crates below rb_capi as they are, over what it proved,
                              and then only rb_capi is proved once more; else by `rt lib`, over what earlier checks kept
@@ -12,6 +13,7 @@ import re
 import shutil
 import subprocess
 import sys
+import tempfile
 
 sys.dont_write_bytecode = True
 HERE = os.path.dirname(os.path.abspath(__file__))
@@ -23,6 +25,7 @@ RECORD = os.path.join(CRATE, "out", "gate-record")
 OUT = os.path.join(HERE, "out")
 STATIC = os.path.join(OUT, "librbbank.a")
 SHARED = os.path.join(OUT, "librbbank.so")
+FILE = os.path.join(OUT, "librbbank_file.a")
 
 
 class Stop(Exception):
@@ -163,6 +166,15 @@ def shared(compiler):
         os.symlink(os.path.basename(SHARED), named)
 
 
+def of_file(compiler):
+    """The calls on a journal's file, for C: tested, not proved."""
+    with tempfile.TemporaryDirectory() as folder:
+        made = os.path.join(folder, "rbbank_file.o")
+        words = ["-std=c11", "-D_DEFAULT_SOURCE", "-O2", "-fPIC", "-c", "-o", made]
+        subprocess.run([compiler, *words, os.path.join(HERE, "c", "rbbank_file.c")], check=True)
+        subprocess.run(["ar", "rcs", FILE, made], check=True)
+
+
 def main():
     words = sys.argv[1:]
     if words == ["--record"]:
@@ -179,7 +191,8 @@ def main():
     os.makedirs(OUT, exist_ok=True)
     static([PROVED, os.path.join(kit(), "c", "liblibc_c.a")])
     shared(c_compiler())
-    print(f"{STATIC}\n{SHARED}")
+    of_file(c_compiler())
+    print(f"{STATIC}\n{SHARED}\n{FILE}")
     return 0
 
 

@@ -55,12 +55,16 @@ def stored(path, otherwise=b""):
 
 # ---- the tests and the rows, by each language
 
+def source_of_c(name):
+    return os.path.join(HERE, "c", name + ".c")
+
+
 def compiled(name, *flags):
     """A program of bindings/c, linked with the library, or None where the compiler refuses it."""
     out = os.path.join(build.OUT, name + ("-asan" if flags else ""))
     strict = ["-std=c11", "-D_DEFAULT_SOURCE", "-Wall", "-Wextra", "-Wpedantic", "-Werror", "-O1", "-g", "-pthread"]
     wanted = f'-DRBBANK_WANTED_VERSION="{build.version()}"'
-    sources = [os.path.join(HERE, "c", one + ".c") for one in ([name, "rbbank_file"] if name == "journal" else [name])]
+    sources = [source_of_c(one) for one in ([name, "rbbank_file"] if name == "journal" else [name])]
     _, errors, status = run([build.c_compiler(), *strict, wanted, *flags, "-o", out, *sources, build.STATIC])
     if status != 0:
         print(errors.decode(), file=sys.stderr)
@@ -149,7 +153,8 @@ def goes_on(words):
 
 
 def installed():
-    """Whether a program is built by what `make install-libs` copied and pkg-config says, with either library."""
+    """Whether programs are built by what `make install-libs` copied and pkg-config says, alone and with either library:
+    that of a bank and a site, and that of a site with its journal in a file."""
     with tempfile.TemporaryDirectory() as folder:
         if not passes(["make", "--no-print-directory", "install-libs", f"PREFIX={folder}"], ROOT):
             return False
@@ -159,12 +164,16 @@ def installed():
             words = ["pkg-config", word, "rbbank"]
             return subprocess.run(words, env=found, capture_output=True, text=True).stdout.split()
 
-        source, program = os.path.join(HERE, "c", "example.c"), os.path.join(folder, "example")
-        libraries = os.path.join(folder, "lib")
-        same = [said("--modversion") == [build.version()]]
-        for link in ([*said("--libs"), "-Wl,-rpath," + libraries], [os.path.join(libraries, "librbbank.a")]):
+        def built(name, *link):
+            # The source is copied, since the headers that are beside it would be found before those that are installed.
+            source, program = shutil.copy(source_of_c(name), folder), os.path.join(folder, name)
             words = [build.c_compiler(), "-D_DEFAULT_SOURCE", *said("--cflags"), "-o", program, source, *link]
-            same.append(passes(words) and run([program])[2] == 0)
+            return [program if passes(words) else None]
+
+        same = [said("--modversion") == [build.version()]]
+        for link in ([*said("--libs"), "-Wl,-rpath," + os.path.join(folder, "lib")],
+                     ["-Wl,-Bstatic", *said("--libs"), "-Wl,-Bdynamic"]):
+            same += [passes(built("example", *link)), goes_on(built("journal", *link))]
         return all(same)
 
 

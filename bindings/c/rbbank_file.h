@@ -2,7 +2,8 @@
  * rbbank_journal_call asks for, in its order, and says how each ended. What was answered is on the disk before its
  * reply can be read. The file is the one that `rbbank site` has, and either goes on from it.
  *
- * A file that is zeroed (`struct rbbank_file file = {0};`) isn't open. It is used by one thread at a time.
+ * librbbank_file.a is this alone, and is linked before librbbank. A file that is zeroed
+ * (`struct rbbank_file file = {0};`) isn't open. It is used by one thread at a time.
  */
 #ifndef RBBANK_FILE_H
 #define RBBANK_FILE_H
