@@ -3,11 +3,11 @@
 
 usage: check.py [--quiet] PROGRAM      (--quiet prints only what is different)
 
-Every script, histories, migration and site of examples/ goes through the three, whole and by handles, and what they
-write, their status and the journal are compared with what examples/ has, byte for byte. So is what they answer to the
-closings of tests/closings.py. 10,000 odd lines, valid and
-broken, always the same, go through C under AddressSanitizer (and some under valgrind, where it is there): those that
-are taken have to be answered as PROGRAM answers them, and those that aren't have to be bad lines to PROGRAM.
+Every script, histories, migration and site of examples/ goes through the three, whole and by handles, a site also by
+the library's own journal, and what they write, their status and the journal are compared with what examples/ has, byte
+for byte. So is what they answer to the closings of tests/closings.py. 10,000 odd lines, valid and broken, always the
+same, go through C under AddressSanitizer (and some under valgrind, where it is there): those that are taken have to be
+answered as PROGRAM answers them, and those that aren't have to be bad lines to PROGRAM.
 It wants what build.py makes. Where a compiler is missing, it says so and ends in status 1.
 """
 import concurrent.futures
@@ -36,7 +36,9 @@ ENVIRONMENT = os.environ | {
     "RBBANK_LIB": build.OUT, "CARGO_TARGET_DIR": os.path.join(build.OUT, "cargo"), "PYTHONDONTWRITEBYTECODE": "1",
     "ASAN_OPTIONS": "detect_leaks=1:abort_on_error=0:exitcode=86",
 }
-WORDS = {"histories": "audit", "migration": "migrate", "site": "site"}
+WORDS = {"histories": ["audit"], "migration": ["migrate"], "site": ["site", "journal"]}
+OF_SCRIPTS = ["script", "bank"]
+WITH_FILES = ("journal", "rows")  # the programs of bindings/c that keep a journal by rbbank_file.c
 
 
 def run(words, given=b"", folder=None):
@@ -64,7 +66,7 @@ def compiled(name, *flags):
     out = os.path.join(build.OUT, name + ("-asan" if flags else ""))
     strict = ["-std=c11", "-D_DEFAULT_SOURCE", "-Wall", "-Wextra", "-Wpedantic", "-Werror", "-O1", "-g", "-pthread"]
     wanted = f'-DRBBANK_WANTED_VERSION="{build.version()}"'
-    sources = [source_of_c(one) for one in ([name, "rbbank_file"] if name == "journal" else [name])]
+    sources = [source_of_c(one) for one in ([name, "rbbank_file"] if name in WITH_FILES else [name])]
     _, errors, status = run([build.c_compiler(), *strict, wanted, *flags, "-o", out, *sources, build.STATIC])
     if status != 0:
         print(errors.decode(), file=sys.stderr)
@@ -257,9 +259,16 @@ def fault_of(text):
     return re.sub(r"(?m)^(rbbank: line \d+): .*$", r"\1", text).encode()
 
 
+def cut_off(before, fault):
+    """What a crash left behind a journal's last line, by what the program says of it."""
+    said = re.search(rb"(?m)^rbbank: journal line \d+: (\d+) bytes behind it cut off, kept in .*$", fault)
+    return before[-int(said[1]):] if said else None
+
+
 def row(rows, path, word):
     """Whether an example is answered as it is stored, and its journal is what it has to be. A site of the library
-    records all events; by default one of the program doesn't, so then only its answers are compared."""
+    records all events; by default one of the program doesn't, so then only its answers are compared. By the library's
+    own journal what is cut off of it is kept beside it."""
     stem = path.removesuffix(".jsonl")
     before = stored(stem + ".before", None)
     with tempfile.TemporaryDirectory() as folder:
@@ -267,20 +276,22 @@ def row(rows, path, word):
         if before is not None:
             with open(journal, "wb") as file:
                 file.write(before)
-        more = [*stored(stem + ".words").decode().split(), "--journal", journal] if word == "site" else []
+        more = [*stored(stem + ".words").decode().split(), "--journal", journal] if word in WORDS["site"] else []
         found = run([*rows, word, *more], stored(path))
         after = stored(journal, None) if "--record" in more else None
-    wanted = stored(stem + ".expected"), fault_of(stored(stem + ".fault")), int(stored(stem + ".status", b"0"))
-    return found == wanted and (after is None or after == stored(stem + ".journal", after))
+        kept = stored(journal + ".cut", None)
+    fault = stored(stem + ".fault")
+    wanted = stored(stem + ".expected"), fault_of(fault), int(stored(stem + ".status", b"0"))
+    return (found == wanted and (after is None or after == stored(stem + ".journal", after))
+            and (word != "journal" or kept == cut_off(before, fault)))
 
 
 def same_rows(name, rows):
     """Each example through the rows of a language."""
     for path in sorted(glob.glob(os.path.join(EXAMPLES, "*", "*.jsonl")), key=os.path.basename):
-        kind = WORDS.get(path.removesuffix(".jsonl").rpartition(".")[2], "script")
         if b"--bank" in stored(path.removesuffix(".jsonl") + ".words", b""):
             continue  # a bank of the library has no name
-        for word in ["script", "bank"] if kind == "script" else [kind]:
+        for word in WORDS.get(path.removesuffix(".jsonl").rpartition(".")[2], OF_SCRIPTS):
             yield f"{name}, {word}: {os.path.basename(path)}", row(rows, path, word)
 
 

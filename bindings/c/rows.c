@@ -1,16 +1,16 @@
 /* The commands of the program over the library, for check.py: what each writes has to be what the program writes.
  *
  * usage: rows script|audit|migrate|bank|odd < LINES
- *        rows site --me S --journal FILE [--new] [--resend N] [--record all] < LINES
+ *        rows site|journal --me S --journal FILE [--new] [--resend N] [--record all] < LINES
  *        rows close [--sites N] [--account NAME].. JOURNAL..
  *        rows odd-site --me S < LINES
  *        rows calls COUNT < TWO LINES
  *
- * `bank` answers a script line by line. `odd` and `odd-site` go on after bad lines, and write the status before each
- * answer. `calls` gives the second line COUNT times to the bank of the first, and writes nothing, for
- * bench/bindings.py. A fault is `rbbank: line N` without its kind.
+ * `bank` answers a script line by line. `site` keeps the journal itself, `journal` by rbbank_file.h. `odd` and
+ * `odd-site` go on after bad lines, and write the status before each answer. `calls` gives the second line COUNT times
+ * to the bank of the first, and writes nothing, for bench/bindings.py. A fault is `rbbank: line N` without its kind.
  */
-#include "rbbank.h"
+#include "rbbank_file.h"
 
 #include <stdio.h>
 #include <stdlib.h>
@@ -209,10 +209,10 @@ static void replay(struct rbbank_site *site, struct text journal, long resend) {
     free(again.bytes);
 }
 
-/* The journal that a site goes on from: that of a file, replayed, or a new one. */
-static struct text opened(struct rbbank_site *site, const char *path, int is_new, long resend) {
+/* What a journal's file has, which is there unless it is new. */
+static struct text stored(const char *path, int is_new) {
     FILE *file = fopen(path, "rb");
-    struct text config = entries_of(site), all = {NULL, 0};
+    struct text all = {NULL, 0};
     if (file != NULL) {
         all = read_all(file);
         fclose(file);
@@ -220,6 +220,12 @@ static struct text opened(struct rbbank_site *site, const char *path, int is_new
         stop("no journal", 0, "");
     if (is_new && all.length != 0)
         stop("there is a journal", 0, "");
+    return all;
+}
+
+/* The journal that a site goes on from: that of a file, replayed, or a new one. */
+static struct text opened(struct rbbank_site *site, const char *path, int is_new, long resend) {
+    struct text config = entries_of(site), all = stored(path, is_new);
     struct text before = {all.bytes, whole_lines(all)};
     if (before.length == 0 && (all.length == 0 || all.bytes[0] == ' ')) {
         free(all.bytes);
@@ -257,6 +263,49 @@ static int site(struct text all, unsigned me, const char *path, int is_new, long
     fclose(journal);
     rbbank_site_close(&site);
     return status == RBBANK_BAD_LINE ? 0 : status;
+}
+
+/* Says why a journal wasn't opened, as the program does, where it says so. */
+static void say_unopened(int32_t status, size_t line, uint64_t number) {
+    switch (status) {
+    case RBBANK_BAD_LINE: stop("line", line, ""); break;
+    case RBBANK_REFUSED: stop("no such site", 0, ""); break;
+    case RBBANK_ANOTHER_JOURNAL: stop("another bank's journal", 0, ""); break;
+    case RBBANK_BAD_ENTRY: stop("journal line", (size_t)number, ": bad line"); break;
+    case RBBANK_WRONG_REPLY: stop("journal line", (size_t)number, ": wrong reply"); break;
+    case RBBANK_DAMAGED: stop("journal line", (size_t)number, ": damaged"); break;
+    case RBBANK_SEALED: stop("journal is sealed", 0, ""); break;
+    case RBBANK_FILE_IN_USE: stop("journal is in use", 0, ""); break;
+    default: break;
+    }
+}
+
+static void print_journal(struct rbbank_file *file) {
+    size_t length = rbbank_journal_reply(&file->journal, NULL, 0);
+    char *reply = larger(NULL, length + 1);
+    fwrite(reply, 1, rbbank_journal_reply(&file->journal, reply, length), stdout);
+    free(reply);
+}
+
+/* A site whose journal the library keeps. A `resend` of -1 is all. */
+static int journal(struct text all, unsigned me, const char *path, int is_new, long resend) {
+    struct line line = {0};
+    struct rbbank_file file = {0};
+    uint64_t wrong;
+    first_line(all, &line);
+    free(stored(path, is_new).bytes);
+    int32_t status = rbbank_file_open(&file, path, (uint8_t)me, resend < 0 ? SIZE_MAX : (size_t)resend,
+                                      line.text.bytes, line.text.length, &wrong);
+    if (status != RBBANK_OK)
+        say_unopened(status, line.number, wrong);
+    while (status == RBBANK_OK) {
+        print_journal(&file);
+        if (!next_line(all, &line))
+            break;
+        status = rbbank_file_answer(&file, line.number, line.text.bytes, line.text.length);
+    }
+    rbbank_file_close(&file);
+    return status;
 }
 
 /* A site that goes on after a bad line, with no journal. */
@@ -383,7 +432,10 @@ static int has(int count, char **words, const char *wanted) {
 
 static int run(int count, char **words, struct text all) {
     const char *what = count > 1 ? words[1] : "";
+    const char *path = word(count, words, "--journal", "journal");
     unsigned me = (unsigned)atoi(word(count, words, "--me", "0"));
+    long resend = atol(word(count, words, "--resend", "-1"));
+    int is_new = has(count, words, "--new");
     if (strcmp(what, "script") == 0)
         return whole(rbbank_script, all);
     if (strcmp(what, "audit") == 0)
@@ -399,9 +451,10 @@ static int run(int count, char **words, struct text all) {
     if (strcmp(what, "odd-site") == 0)
         return odd_site(all, me);
     if (strcmp(what, "site") == 0)
-        return site(all, me, word(count, words, "--journal", "journal"), has(count, words, "--new"),
-                    atol(word(count, words, "--resend", "-1")));
-    stop("rows script|audit|migrate|bank|odd|site|close|odd-site|calls", 0, "");
+        return site(all, me, path, is_new, resend);
+    if (strcmp(what, "journal") == 0)
+        return journal(all, me, path, is_new, resend);
+    stop("rows script|audit|migrate|bank|odd|site|journal|close|odd-site|calls", 0, "");
     return 2;
 }
 

@@ -2,14 +2,16 @@
 """The commands of the program over the Python module, for check.py: what each writes has to be what the program writes.
 
 usage: rows.py script|audit|migrate|bank < LINES
-       rows.py site --me S --journal FILE [--new] [--resend N] [--record all] < LINES
+       rows.py site|journal --me S --journal FILE [--new] [--resend N] [--record all] < LINES
        rows.py close [--sites N] [--account NAME].. JOURNAL..
        rows.py calls COUNT < TWO LINES
 
-`bank` answers a script line by line. `calls` gives the second line COUNT times to the bank of the first, and writes
-nothing, for bench/bindings.py. A fault is `rbbank: line N` without its kind.
+`bank` answers a script line by line. `site` keeps the journal itself, `journal` by `Journal`. `calls` gives the second
+line COUNT times to the bank of the first, and writes nothing, for bench/bindings.py. A fault is `rbbank: line N`
+without its kind.
 """
 import argparse
+import itertools
 import os
 import re
 import sys
@@ -115,28 +117,36 @@ def answered(at, number, line, journal):
     return answer
 
 
-def site(words, data):
-    """A site with its journal, which is written before the answer is."""
+def asked_of(words):
+    """What is asked of a site."""
     asked = argparse.ArgumentParser()
     asked.add_argument("--me", type=int)
     asked.add_argument("--journal")
     asked.add_argument("--new", action="store_true")
     asked.add_argument("--resend", type=int)
     asked.add_argument("--record", choices=["all"])
-    given = asked.parse_args(words)
+    return asked.parse_args(words)
+
+
+def stored(given):
+    """What the journal's file has, which is there unless it is new."""
+    if not os.path.exists(given.journal):
+        if not given.new:
+            raise Stop("no journal")
+        return b""
+    before = read(given.journal)
+    if given.new and before:
+        raise Stop("there is a journal")
+    return before
+
+
+def site(given, data):
+    """A site with its journal, which is written before the answer is."""
     lines = lines_of(data)
     number, config = first(lines)
     try:
         with rbbank.Site(given.me, config) as at:
-            before = b""
-            if os.path.exists(given.journal):
-                with open(given.journal, "rb") as file:
-                    before = file.read()
-            elif not given.new:
-                raise Stop("no journal")
-            if given.new and before:
-                raise Stop("there is a journal")
-            kept = replay(at, before, at.entries(), given.resend)
+            kept = replay(at, stored(given), at.entries(), given.resend)
             with open(given.journal, "wb") as journal:
                 journal.write(kept)
                 for number, line in lines[1:]:
@@ -146,6 +156,33 @@ def site(words, data):
         raise Stop("no such site") from None
     except rbbank.BadLine:
         raise Stop(f"line {number}") from None
+    return 0
+
+
+def opened(given, number, config):
+    """A site whose journal the library keeps, by the configuration on the line of this number."""
+    try:
+        resend = sys.maxsize if given.resend is None else given.resend
+        return rbbank.Journal(given.journal, given.me, config, resend)
+    except rbbank.NoSuchSite:
+        raise Stop("no such site") from None
+    except rbbank.BadLine:
+        raise Stop(f"line {number}") from None
+    except rbbank.JournalFault as fault:
+        raise Stop("journal is sealed" if fault.reason == "sealed" else str(fault)) from None
+    except BlockingIOError:
+        raise Stop("journal is in use") from None
+
+
+def journal(given, data):
+    """A site whose journal the library keeps. It counts its lines itself, so that the blank ones are given as well."""
+    number, config = first(lines_of(data))
+    stored(given)
+    with opened(given, number, config) as at:
+        lines = data.split(b"\n")
+        answers = (at.answer(line) for line in lines[:number - 1] + lines[number:])
+        for answer in filter(None, itertools.chain([at.reply()], answers)):
+            write(answer + "\n")
     return 0
 
 
@@ -177,8 +214,8 @@ def main(words):
     if words[0] == "close":
         return close(words[1:])
     data = sys.stdin.buffer.read()
-    if words[0] == "site":
-        return site(words[1:], data)
+    if words[0] in ("site", "journal"):
+        return {"site": site, "journal": journal}[words[0]](asked_of(words[1:]), data)
     if words[0] == "calls":
         return calls(data, int(words[1]))
     return bank(data) if words[0] == "bank" else whole(words[0], data)

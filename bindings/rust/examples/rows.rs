@@ -2,13 +2,14 @@
 //! writes.
 //!
 //! usage: rows script|audit|migrate|bank < LINES
-//!        rows site --me S --journal FILE [--new] [--resend N] [--record all] < LINES
+//!        rows site|journal --me S --journal FILE [--new] [--resend N] [--record all] < LINES
 //!        rows close [--sites N] [--account NAME].. JOURNAL..
 //!        rows calls COUNT < TWO LINES
 //!
-//! `bank` answers a script line by line. `calls` gives the second line COUNT times to the bank of the first, and writes
-//! nothing, for bench/bindings.py. A fault is `rbbank: line N` without its kind.
-use rbbank::{Audit, Bank, Books, OpenError, ReplayError, RunError, Site};
+//! `bank` answers a script line by line. `site` keeps the journal itself, `journal` by `Journal`. `calls` gives the
+//! second line COUNT times to the bank of the first, and writes nothing, for bench/bindings.py. A fault is
+//! `rbbank: line N` without its kind.
+use rbbank::{Audit, Bank, Books, Journal, JournalError, OpenError, ReplayError, RunError, Site};
 use std::io::{Read, Write};
 use std::process::ExitCode;
 use std::{env, fs, io};
@@ -124,39 +125,52 @@ fn replay(site: &mut Site, journal: &[u8], resend: Option<usize>) -> Result<Stri
     Ok(if is_new { config } else { before.to_owned() })
 }
 
+/// What is asked of a site.
+struct Asked<'a> {
+    me: u8,
+    path: &'a str,
+    is_new: bool,
+    resend: Option<usize>,
+}
+
+impl Asked<'_> {
+    fn of(words: &[String]) -> Asked<'_> {
+        let word = |name: &str| {
+            let at = words.iter().position(|word| word == name)?;
+            words.get(at + 1).map(String::as_str)
+        };
+        Asked {
+            me: word("--me").expect("--me").parse().expect("a number"),
+            path: word("--journal").expect("--journal"),
+            is_new: words.iter().any(|word| word == "--new"),
+            resend: word("--resend").map(|word| word.parse().expect("a number")),
+        }
+    }
+
+    /// What the journal's file has, which is there unless it is new.
+    fn stored(&self) -> Result<Vec<u8>, Stop> {
+        match fs::read(self.path) {
+            Ok(before) if self.is_new && !before.is_empty() => stop("there is a journal"),
+            Ok(before) => Ok(before),
+            Err(_) if self.is_new => Ok(Vec::new()),
+            Err(_) => stop("no journal"),
+        }
+    }
+}
+
 /// A site with its journal, which is written before the answer is.
-fn site(words: &[String], input: &str) -> Result<(), Stop> {
-    let word = |name: &str| {
-        words
-            .iter()
-            .position(|word| word == name)
-            .map(|at| words[at + 1].as_str())
-    };
-    let number_of = |name: &str| word(name).map(|word| word.parse().expect("a number"));
-    let (me, path) = (
-        number_of("--me").expect("--me"),
-        word("--journal").expect("--journal"),
-    );
+fn site(asked: &Asked, input: &str) -> Result<(), Stop> {
     let mut lines = lines_of(input);
     let Some((number, config)) = lines.next() else {
         return stop("no configuration");
     };
-    let mut site = match Site::open(me as u8, config) {
+    let mut site = match Site::open(asked.me, config) {
         Ok(site) => site,
         Err(OpenError::NoSuchSite) => return stop("no such site"),
         Err(_) => return stop(format!("line {number}")),
     };
-    let is_new = words.iter().any(|word| word == "--new");
-    let before = match fs::read(path) {
-        Ok(before) => before,
-        Err(_) if is_new => Vec::new(),
-        Err(_) => return stop("no journal"),
-    };
-    if is_new && !before.is_empty() {
-        return stop("there is a journal");
-    }
-    let kept = replay(&mut site, &before, number_of("--resend"))?;
-    let mut journal = fs::File::create(path).expect("a file");
+    let kept = replay(&mut site, &asked.stored()?, asked.resend)?;
+    let mut journal = fs::File::create(asked.path).expect("a file");
     let mut keep = |text: &str| {
         journal
             .write_all(text.as_bytes())
@@ -172,6 +186,32 @@ fn site(words: &[String], input: &str) -> Result<(), Stop> {
         }
     }
     keep(" ");
+    Ok(())
+}
+
+/// A site whose journal the library keeps. It counts its lines itself, so that the blank ones are given as well.
+fn journal(asked: &Asked, input: &str) -> Result<(), Stop> {
+    let Some((number, config)) = lines_of(input).next() else {
+        return stop("no configuration");
+    };
+    asked.stored()?;
+    let resend = asked.resend.unwrap_or(usize::MAX);
+    let mut site = match Journal::open(asked.path, asked.me, config, resend) {
+        Ok(site) => site,
+        Err(JournalError::BadConfiguration) => return stop(format!("line {number}")),
+        Err(why) => return stop(why.to_string()),
+    };
+    let put = |reply: &str| {
+        if !reply.is_empty() {
+            write(&format!("{reply}\n"));
+        }
+    };
+    put(site.reply());
+    for (at, line) in input.split('\n').enumerate() {
+        if at + 1 != number {
+            put(site.answer(line).or_else(|why| stop(why.to_string()))?);
+        }
+    }
     Ok(())
 }
 
@@ -221,9 +261,10 @@ fn run(words: &[String]) -> Result<ExitCode, Stop> {
         "audit" => return audit(&input),
         "close" => return close(&words[1..]),
         "bank" => bank(&input),
-        "site" => site(&words[1..], &input),
+        "site" => site(&Asked::of(words), &input),
+        "journal" => journal(&Asked::of(words), &input),
         "calls" => calls(&input, words.get(1).map_or("", String::as_str)),
-        _ => stop("rows script|audit|migrate|bank|site|close|calls"),
+        _ => stop("rows script|audit|migrate|bank|site|journal|close|calls"),
     }
     .map(|()| ExitCode::SUCCESS)
 }
