@@ -29,10 +29,10 @@ HERE = os.path.dirname(os.path.abspath(__file__))
 sys.path[:0] = [HERE, os.path.join(HERE, "..", "examples", "tools")]
 import bank
 import cluster
-from close import Closing, Period, last_period, requests_of
-import passing
-from site_child import Fault, Site
-from view import Json, View
+import desk
+from period import Fault, Json, Period, last_period, requests_of
+from site_child import Site
+from view import View
 
 PROGRAM, NAME = os.path.abspath(sys.argv[1] if sys.argv[1:] else ""), "b.0001"
 CONFIG = {"accounts": [["ann", 1000], ["bob", 0]], "sites": 2, "version": 1}
@@ -51,9 +51,10 @@ class Running:
 
     def __init__(self, folder: str, me: int = 0, confirmed: int = 0) -> None:
         self.sent: list[Json] = []
-        self.view = View(CONFIG, me)
-        words = [PROGRAM, "site", "--me", str(me), "--journal", os.path.join(folder, f"0001.{me}.journal")]
-        self.site = Site(words, NAME, CONFIG, self.view, lambda entry, messages: self.sent.extend(messages), confirmed)
+        period = Period(folder, "b", 1)
+        period.keep("confirmed", confirmed)
+        self.site = Site(PROGRAM, period, me, CONFIG)
+        self.view, self.site.send = self.site.view, lambda entry, messages: self.sent.extend(messages)
         self.task = asyncio.create_task(self.site.run())
 
     async def ask(self, *events: Json) -> list[Json]:
@@ -107,7 +108,7 @@ async def lines(folder: str) -> None:
         same("and after them", await one.replies({"balance": "ann"}), [{"balance": 2000}])
         same("messages that were handed on", one.names(), ["B0.1"])
         about = (await one.replies({"about": "site"}))[0]["about"]
-        same("entries", (one.site.entries, one.site.told), (about["entries"], about["entries"]))
+        same("entries", one.site.entries, about["entries"])
     same("entries in the journal", len(entries(folder)), 3)
 
 
@@ -136,8 +137,9 @@ async def kills(folder: str) -> None:
             PROBLEMS.append(f"the child was killed {ends} times alone")
         await one.view.refresh(one.site.ask)
         same("balance", one.view.balances["ann"], 1000 + 1000 * 1001 // 2)
-        same("the last operations", [one.view.operations[name]["place"] for name in names[-100:]],
-             list(range(901, 1001)))
+        last = one.view.shown(900)["operations"]
+        same("the last operations", [(each["name"], each["place"]) for each in last],
+             list(zip(names[-100:], range(901, 1001))))
     ids = [entry["id"] for entry in entries(folder)]
     same("ids in the journal, each once", len(set(ids)), 1000)
 
@@ -211,33 +213,32 @@ async def token(folder: str) -> None:
         ({"refused": 8}, True), ({"refused": 9}, True), ({"cause": 8, "refused": 13}, True), ({"refused": 10}, False),
         ({"cause": 10, "refused": 13}, False), ({"cause": "declined", "refused": 13}, False), ({"balance": 8}, False)]
     for reply, lacks in replies:
-        same(f"for want of the token: {reply}", passing.lacks(reply), lacks)
+        same(f"for want of the token: {reply}", desk.lacks(reply), lacks)
     async with site(folder) as one:
-        passing.HOLD, passing.HEARD = 5.0, PATIENCE
+        desk.HOLD, desk.HEARD = 5.0, PATIENCE
         one.site.config = CONFIG | {"sites": 4}
-        desk = passing.Passing(one.site, asyncio.Event(), lambda: True)
-        one.site.hears = desk.answered
+        here = desk.Desk(one.site)
         await one.ask({"balance": "ann"})
-        task = asyncio.create_task(desk.run())
+        task = asyncio.create_task(here.run())
         said = {"applied": {}, "wants": True}
         for other in (3, 1):
-            desk.hears(said | {"site": other})
+            here.hears(said | {"site": other})
         await until("the token is passed", lambda: not one.view.token["here"])
-        same("to the next that wants it", (one.view.token["to"], set(desk.wanted)), (1, {3}))
-        made = asyncio.create_task(desk.ask(lambda: one.site.ask({"withdraw": ["ann", 1], "id": "w"}), PATIENCE))
-        await until("a client waits, and says so", lambda: desk.waiters == 1 and desk.says()["wants"])
+        same("to the next that wants it", (one.view.token["to"], set(here.wanted)), (1, {3}))
+        made = asyncio.create_task(here.ask(lambda: one.site.ask({"withdraw": ["ann", 1], "id": "w"}), PATIENCE))
+        await until("a client waits, and says so", lambda: here.waiters == 1 and here.says()["wants"])
         await one.ask({"bank": NAME, "token": [2, 0, 0]})
         same("it asks again as the token comes", (await made)["reply"], {"kind": "withdraw", "name": "R1"})
-        desk.hears(said | {"site": 1})
+        here.hears(said | {"site": 1})
         await asyncio.sleep(0.5)
         same("a site keeps it for a moment", one.view.token["here"], True)
         await until("it is passed on", lambda: not one.view.token["here"])
-        short = await desk.ask(lambda: one.site.ask({"withdraw": ["ann", 1]}), 0.2)
+        short = await here.ask(lambda: one.site.ask({"withdraw": ["ann", 1]}), 0.2)
         same("a wait has an end", short["reply"], {"refused": 8})
-        desk.hears({"applied": {"B0.": 1, "B1.": 5, "R": 3}, "site": 1, "wants": False})
-        same("behind another site", desk.behind(), {1: 1 + 5 + 2, 3: 0})
+        here.hears({"applied": {"B0.": 1, "B1.": 5, "R": 3}, "site": 1, "wants": False})
+        same("behind another site", here.behind(), {1: 1 + 5 + 2, 3: 0})
         await one.ask({"deposit": ["ann", 1]})
-        same("behind it once more is applied here", desk.behind(), {1: 5 + 2, 3: 0})
+        same("behind it once more is applied here", here.behind(), {1: 5 + 2, 3: 0})
         task.cancel()
 
 
@@ -255,29 +256,37 @@ async def closes(folder: str) -> None:
     period = Period(folder, "b", 1)
     period.begin(0, CONFIG)
     async with site(folder) as one:
-        closing = Closing(period, one.site)
-        one.task.add_done_callback(lambda _: closing.ended.set())
+        here = desk.Desk(one.site)
         await one.ask({"deposit": ["ann", 5], "id": "last"})
 
-        async def step(step: str, **more: Any) -> Json | str:
-            return await asyncio.wait_for(closing.step({"bank": NAME, "step": step, "words": [], **more}), PATIENCE)
-        same("no seal before clients are stopped", await step("seal"), "clients aren't stopped")
+        async def step(step: str, **more: Any) -> Any:
+            asked = {"bank": NAME, "step": step, "words": [], **more}
+            status, said = await asyncio.wait_for(here.step(asked), PATIENCE)
+            return said if status == 200 else said["error"]
+        unstopped = "clients aren't stopped by these words: "
+        same("no seal before clients are stopped", await step("seal"), f"{unstopped}None")
         for _ in range(2):
             same("stop", await step("stop"), {"is": "stopped", "applied": [[1] + [0] * 7, 0]})
-        same("by other words", str(await step("stop", words=["--account", "x"]))[:30], "the books are being closed by ")
-        same("a start goes on so", Closing(period, one.site).mark, {"words": []})
-        same("clients are served again", (await step("open"), closing.mark), ({"is": "open"}, None))
+        same("by other words", await step("stop", words=["--account", "x"]), f"{unstopped}[]")
+        same("a start goes on so", desk.Desk(one.site).words, [])
+        one.site.stopping = True
+        same("no stop as the service ends", await step("stop"), "no stop now")
+        one.site.stopping = False
+        same("clients are served again", (await step("open"), here.words), ({"is": "open"}, None))
+        same("and at a start", desk.Desk(one.site).words, None)
+        same("as often as it is asked for", await step("open"), {"is": "open"})
         same("no next before the seal", (await step("stop") and await step("next", config=CONFIG)), "no next now")
         for _ in range(2):
-            same("seal", await step("seal"), {"is": "seal"})
+            same("seal", await step("seal"), {"is": "sealed"})
         same("sealed", (await step("stop"), await step("open")), ({"is": "sealed"}, "no open now"))
         with open(period.journal(0), "rb") as file:
             same("the journal's end", file.read()[-2:], b"\n\t")
-        same("next", (await step("next", config=CONFIG), closing.next.is_set()), ({"is": "next"}, True))
+        same("next", (await step("next", config=CONFIG), here.next.is_set()), ({"is": "sealed"}, True))
     following = last_period(folder, "b")
-    same("the next period", following and (following.name, os.path.getsize(following.journal(0))), ("b.0002", 0))
-    past = await Closing(Period(folder, "b", 2), one.site).step({"bank": NAME, "step": "next", "words": []})
-    same("its past", past, {"is": "closed"})
+    same("the next period", (following.name, os.path.getsize(following.journal(0))), ("b.0002", 0))
+    second = Site(PROGRAM, Period(folder, "b", 2), 0, CONFIG)
+    past = await desk.Desk(second).step({"bank": NAME, "step": "next", "words": []})
+    same("its past", past, (200, {"is": "closed"}))
     same("requests of the closed one", list(requests_of(period.journal(0))), ["last"])
 
 
@@ -445,8 +454,8 @@ def tokens(folder: str) -> None:
     service = Http(folder, tokens=path)
     service.wait()
     till, officer = {"Authorization": "Bearer t1"}, {"Authorization": "Bearer t2"}
-    same("no token", [service.ask(path)[0] for path in ("/state", "/balance/ann", "/metrics", "/live", "/journal")],
-         [401] * 5)
+    same("no token", [service.ask(path)[0] for path in ("/state", "/balance/ann", "/metrics", "/live", "/closing",
+                                                        "/journals/0001.0.journal")], [401] * 6)
     same("no such token", [service.event({"deposit": ["ann", 1]}, Authorization=f"Bearer {it}")[0]
                            for it in ("", "t", "t11", "T1", "é")], [401] * 5)
     same("a till asks", service.event({"deposit": ["ann", 1]}, **till)[0], 200)
@@ -466,13 +475,14 @@ def tokens(folder: str) -> None:
 class Pretended:
     """A site that notes what it is asked, applies something, and answers once it may; at first by these refusals."""
 
-    def __init__(self, *refusals: int) -> None:
-        self.view, self.told, self.starts, self.up = View(CONFIG, 1), 7, 1, asyncio.Event()
+    def __init__(self, folder: str, me: int, *refusals: int) -> None:
+        self.period, self.me, self.config = Period(folder, "b", 1), me, CONFIG
+        self.view, self.entries, self.up = View(CONFIG, 1), 7, asyncio.Event()
         self.asked: list[str] = []
         self.refusals = list(refusals)
 
     def ask(self, event: Json) -> Awaitable[Json]:
-        self.asked.append(event["shadow"]["name"])
+        self.asked.append(event["shadow"]["name"] if event else "nothing")
         return asyncio.ensure_future(self.answer())
 
     async def answer(self) -> Json:
@@ -500,10 +510,8 @@ class Lost:
 def wires(folder: str, me: int, urls: list[str], *refusals: int) -> tuple[Any, Pretended]:
     """The wires of a pretended site."""
     import wires as module
-    made, site = module.Wires(me, 2, urls, NAME, None, f"{folder}/{me}.c"), Pretended(*refusals)
-    made.site = site  # type: ignore[assignment]
-    made.passing = passing.Passing(made.site, made.news, lambda: False)
-    return made, site
+    site: Any = Pretended(folder, me, *refusals)
+    return module.Wires(desk.Desk(site), urls), site
 
 
 async def keeps(folder: str) -> None:
@@ -512,6 +520,8 @@ async def keeps(folder: str) -> None:
     site.up.set()
     await made.take(b'{"shadow":{"name":"B0.1"}}\n{"shadow":{"name":"B0.2"}}')
     same("given until there is a place", site.asked, ["B0.1", "B0.2", "B0.1", "B0.1", "B0.2"])
+    await made.take(b'{"deposit":["ann",5]}\n[{')
+    same("what is no message is no event", site.asked[5:], ["nothing", "nothing"])
     made.send(3, [{"shadow": {"name": "B1.1"}}])
     with contextlib.suppress(ConnectionError):
         await made.publish(Lost(), 0)

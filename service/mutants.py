@@ -31,45 +31,43 @@ class Mutant(NamedTuple):
 
 
 MUTANTS = {
-    "sent_again_from_the_last": Mutant("site_child.py", '{"resend": entries - self.told}', '{"resend": 0}', RESTARTS),
-    "handed_on_before_it_came": Mutant("site_child.py", '{"resend": entries - self.told}',
-                                       '{"resend": 0 if self.starts else entries - self.told}', UNHEARD),
+    "sent_again_from_the_last": Mutant("site_child.py", '{"resend": entries - known}', '{"resend": 0}', RESTARTS),
+    "handed_on_before_it_came": Mutant("site_child.py", '{"resend": entries - known}',
+                                       '{"resend": 0 if self.starts else entries - known}', UNHEARD),
     "unanswered_are_forgotten": Mutant("site_child.py", "self.give(*(event for event, _ in self.asked))",
                                        "self.asked.clear()", KILLS),
     "no_id_of_its_own": Mutant("site_child.py", 'if "id" not in event and', "if False and", UNHEARD),
     "older_copy_is_served": Mutant("site_child.py", "        if entries < known:",
-                                   "        self.told = min(self.told, entries)\n        if False:", FAULTS),
+                                   "        known = min(known, entries)\n        if False:", FAULTS),
     "questions_are_entries": Mutant("site_child.py", '"balance", "already"', '"already"', LINES),
     "messages_count_once_more": Mutant("site_child.py", 'changes + len(answer["then"])', "changes", LINES),
-    "missing_journal_is_made": Mutant("site_child.py", '"--resend", "0", stdin', '"--resend", "0", "--new", stdin',
-                                      FAULTS),
-    "behind_isnt_counted_anew": Mutant("passing.py", "        return {other: (clock", """\
+    "missing_journal_is_made": Mutant("site_child.py", '"--resend", "0"]', '"--resend", "0", "--new"]', FAULTS),
+    "behind_isnt_counted_anew": Mutant("desk.py", "        return {other: (clock", """\
         self.last: dict[int, int] = getattr(self, "last", None) or self.now()
         return self.last
 
     def now(self) -> dict[int, int]:
         return {other: (clock""", TOKEN),
-    "token_stays": Mutant("passing.py", "if wanting and self.passes()", "if False", TOKEN),
-    "token_goes_to_the_first": Mutant("passing.py", "(other - me) % sites", "-other", TOKEN),
-    "token_goes_at_once": Mutant("passing.py", "now >= self.since + HOLD", "True", TOKEN),
-    "batches_dont_wait": Mutant("passing.py", '"cause" if reply.get("refused") == 13 else "refused"', '"refused"',
-                                TOKEN),
-    "sealed_before_it_stops": Mutant("close.py", '''        if self.mark is None:
-            return "clients aren't stopped"
-''', "", CLOSES),
-    "closed_by_other_words": Mutant("close.py", "if self.mark not in (None, words):", "if False:", CLOSES),
-    "stop_isnt_kept": Mutant("close.py", 'store(self.period.path("closing"), words)', "pass", CLOSES),
+    "token_stays": Mutant("desk.py", "if wanting and self.words is None", "if False", TOKEN),
+    "token_goes_to_the_first": Mutant("desk.py", "(other - me) % sites", "-other", TOKEN),
+    "token_goes_at_once": Mutant("desk.py", "now >= self.view.since + HOLD", "True", TOKEN),
+    "batches_dont_wait": Mutant("desk.py", '"cause" if reply.get("refused") == 13 else "refused"', '"refused"', TOKEN),
+    "sealed_before_it_stops": Mutant("desk.py", '(step, self.words) != ("open", None):', "self.words is not None:",
+                                     CLOSES),
+    "closed_by_other_words": Mutant("desk.py", '(step, self.words) != ("open", None):', "self.words is None:", CLOSES),
+    "ending_is_taken_for_sealed": Mutant("desk.py", ".get(step, site.is_sealed)", ".get(step, not serves)", CLOSES),
+    "stop_isnt_kept": Mutant("desk.py", 'period.keep("closing", asked["words"])', "pass", CLOSES),
     "key_is_dropped": Mutant("service.py", 'event.setdefault("id", key)', 'event.get("id", key)', ASKS),
     "anyone_may": Mutant("service.py", "if not wanted <= may:", "if False:", TOKENS),
-    "a_beginning_is_enough": Mutant("service.py", "hmac.compare_digest(digest(row[\"token\"]), given)",
-                                    "row['token'].startswith(request.headers.get('Authorization', '')[7:])", TOKENS),
+    "a_beginning_is_enough": Mutant("service.py", "hmac.compare_digest(row[\"token\"].encode(), given)",
+                                    "row['token'].encode().startswith(given)", TOKENS),
     "another_page_may": Mutant("service.py", 'request.headers.get("Origin") not in (None, *self.urls) or', "", ASKS),
     "listens_to_all": Mutant("service.py", "if not self.clients and self.host not in", "if False and self.host in",
                              TOKENS),
-    "clients_arent_stopped": Mutant("service.py", "are being closed\", self.closing.mark)", "are being closed\", None)",
-                                    ASKS),
-    "nobody_is_sent_away": Mutant("service.py", "waiting > MOST_WAITING or unconfirmed > MOST_UNCONFIRMED", "False",
-                                  WAITS),
+    "clients_arent_stopped": Mutant("service.py", "if self.ends.is_set() or self.desk.words is not None:",
+                                    "if self.ends.is_set():", ASKS),
+    "nobody_is_sent_away": Mutant("service.py", "waiting > MOST_WAITING or self.wires.unconfirmed() > MOST_UNCONFIRMED",
+                                  "False", WAITS),
     "when_to_ask_again_is_hidden": Mutant("service.py", '"Access-Control-Expose-Headers"', '"X"', ASKS),
     "a_client_sends_messages": Mutant("service.py", "or not verbs <= MAY.keys()", "", ASKS),
     "not_one_at_a_time": Mutant("wires.py", '"x-single-active-consumer": True', '"x-max-length": 10**9', QUEUES),
@@ -80,8 +78,8 @@ MUTANTS = {
             await self.take(delivery.body)
 ''', QUEUES),
     "confirmed_before_the_broker": Mutant(
-        "wires.py", "min([self.site.told, *(lines[0][0] for lines in self.out.values() if lines)])", "self.site.told",
-        QUEUES),
+        "wires.py", "min([self.site.entries, *(lines[0][0] for lines in self.out.values() if lines)])",
+        "self.site.entries", QUEUES),
     "forgotten_before_confirmed": Mutant("wires.py", "                await channel.default_exchange.publish(", """\
                 for _ in part:
                     lines.popleft()

@@ -4,8 +4,6 @@ When it ends, by whatever, another one is started on the journal. It sends the m
 messages weren't handed on, and is given again what the one before didn't answer. A request has an id, its client's or
 one that is made here, so it is made once; a message is known by its name; a question changes nothing.
 """
-from __future__ import annotations
-
 import asyncio
 import contextlib
 import json
@@ -14,37 +12,45 @@ import secrets
 import time
 from collections import deque
 from collections.abc import AsyncIterator, Callable
-from typing import Any
 
-from view import Json, View
+from period import Fault, Json, Period, compact
+from view import KEPT, View
 
-RECENT = 1_000  # entries whose messages are looked at as a child starts, for the console
-IN_USE = 60  # seconds that another process may have the journal: a child that a killed service left ends by itself
-REQUESTS = ("deposit", "withdraw", "interest", "transfer", "cancel", "batch")  # what has an id
+REQUESTS = {"deposit", "withdraw", "interest", "transfer", "cancel", "batch"}  # what has an id
 LEAVE_NO_ENTRY = {"refused", "balance", "already", "stale", "about", "resent"}
+LONGEST = 1 << 30  # bytes of a line of the child: a statement may be long
 PIPE = asyncio.subprocess.PIPE
-compact: Callable[[Any], str] = json.JSONEncoder(separators=(",", ":"), sort_keys=True).encode
 log = logging.getLogger("site")
 
 
-class Fault(Exception):
-    """What no start mends: another bank's journal, an older copy of it, a changed one, none."""
+async def until(fact: Callable[[], bool], seconds: float) -> bool:
+    """Waits until something holds, for this number of seconds at most: whether it does."""
+    end = time.monotonic() + seconds
+    while not fact() and time.monotonic() < end:
+        await asyncio.sleep(0.02)
+    return fact()
+
+
+async def lines_of(pipe: asyncio.StreamReader) -> AsyncIterator[Json]:
+    """The lines of a pipe; not what is behind the last, if its writer was ended."""
+    while (line := await pipe.readline()).endswith(b"\n"):
+        yield json.loads(line)
 
 
 class Site:
-    def __init__(self, words: list[str], name: str, config: Json, view: View,
-                 send: Callable[[int, list[Json]], None], confirmed: int) -> None:
-        self.words, self.name, self.config, self.view, self.send = words, name, config, view, send
-        self.entries = 0  # of the journal, as far as it is answered
-        self.told = confirmed  # the entries, from the first on, whose messages were handed on
+    def __init__(self, program: str, period: Period, me: int, config: Json) -> None:
+        self.words = [program, "site", "--me", str(me), "--journal", period.journal(me)]
+        self.period, self.me, self.config, self.view = period, me, config, View(config, me)
+        self.entries = int(period.kept("confirmed") or 0)  # from the first on, those whose messages were handed on
         self.asked: deque[tuple[Json, asyncio.Future[Json]]] = deque()  # what isn't answered yet, in order
         self.process: asyncio.subprocess.Process | None = None
-        self.starts, self.up, self.stopping, self.is_sealed = 0, False, False, False
-        self.hears: Callable[[Json], None] = lambda answer: None  # is given each answer, once it is taken in here
+        self.starts, self.up, self.stopping, self.sealing, self.is_sealed = 0, False, False, False, False
+        self.ended = asyncio.Event()  # no child is started any more
+        self.send: Callable[[int, list[Json]], None]  # is given each entry's messages
 
     def ask(self, event: Json) -> asyncio.Future[Json]:
         """An event for the site. The future has its answer, once that is on the disk."""
-        if "id" not in event and not event.keys().isdisjoint(REQUESTS):
+        if "id" not in event and not REQUESTS.isdisjoint(event):
             event = event | {"id": secrets.token_hex(12)}
         future: asyncio.Future[Json] = asyncio.get_running_loop().create_future()
         self.asked.append((event, future))
@@ -59,25 +65,25 @@ class Site:
 
     async def run(self) -> None:
         """Starts a child on the journal, and again whenever it ended, until the site stops or is sealed."""
-        free = time.monotonic()  # when the journal was last seen free
-        while not self.stopping and not self.is_sealed:
+        while not self.is_sealed and (self.sealing or not self.stopping):
             status, errors = await self.serve()
-            self.is_sealed, in_use = "journal is sealed" in errors, "journal is in use" in errors
-            free = free if in_use else time.monotonic()
-            if status == 2 and not self.is_sealed and not (in_use and time.monotonic() < free + IN_USE):
-                raise Fault(errors)
-            if not (in_use or self.is_sealed or self.stopping):
+            self.is_sealed = "journal is sealed" in errors
+            if status == 2 and not self.is_sealed and "journal is in use" not in errors:
+                raise Fault(errors)  # (a child that a killed service left ends by itself, and uses it until then)
+            if status and not self.is_sealed:
                 log.warning("the child ended in %s: %s", status, errors)
-            await asyncio.sleep(1 if status > 2 else 0.05)  # (above 2 the disk is full, or there is no memory)
+            await asyncio.sleep(1 if status > 2 else 0.1)  # (above 2 the disk is full, or there is no memory)
+        self.ended.set()
 
     async def serve(self) -> tuple[int, str]:
-        """Runs a child to its end: its status, and what it said."""
-        self.process = process = await asyncio.create_subprocess_exec(
-            *self.words, "--bank", self.name, "--resend", "0", stdin=PIPE, stdout=PIPE, stderr=PIPE)
+        """Runs a child to its end, or one that seals the journal: its status, and what it said."""
+        words = ["--seal"] if self.sealing else ["--bank", self.period.name, "--resend", "0"]
+        self.process = process = await asyncio.create_subprocess_exec(*self.words, *words, stdin=PIPE, stdout=PIPE,
+                                                                      stderr=PIPE, limit=LONGEST)
         assert process.stdin and process.stdout and process.stderr
         answers = lines_of(process.stdout)
         try:
-            with contextlib.suppress(EOFError):
+            with contextlib.suppress(StopAsyncIteration):
                 await self.begin(answers)
             async for answer in answers:
                 self.heard(answer)
@@ -92,21 +98,19 @@ class Site:
         async def own(event: Json) -> tuple[Json, list[Json]]:
             self.give(event)
             sent: list[Json] = []
-            async for answer in answers:
+            while "reply" not in (answer := await anext(answers)):
                 sent += answer["sends"]
-                if "reply" in answer:
-                    return answer["reply"], sent
-            raise EOFError
+            return answer["reply"], sent
 
         self.give(self.config)
         about = (await own({"about": "site"}))[0]["about"]
-        entries, known = about["entries"], max(self.entries, self.told)
+        entries, known = about["entries"], self.entries
         if entries < known:
             raise Fault(f"the journal has {entries} entries, and {known} were reported: an older copy?")
-        _, recent = await own({"resend": min(RECENT, entries)})
-        self.view.begin(about, self.words[-1], recent)
-        self.send(self.told, (await own({"resend": entries - self.told}))[1])
-        self.entries, self.told, self.starts, self.up = entries, entries, self.starts + 1, True
+        _, recent = await own({"resend": min(KEPT, entries)})
+        self.view.begin(about, self.period.journal(self.me), recent)
+        self.send(known, (await own({"resend": entries - known}))[1])
+        self.entries, self.starts, self.up = entries, self.starts + 1, True
         self.give(*(event for event, _ in self.asked))
 
     def heard(self, answer: Json) -> None:
@@ -115,28 +119,16 @@ class Site:
         event, future = self.asked.popleft()
         if "reply" in answer:
             if "again" not in answer:
-                entry, changes = self.entries, LEAVE_NO_ENTRY.isdisjoint(answer["reply"])
+                self.send(self.entries, answer["sends"])
+                changes = LEAVE_NO_ENTRY.isdisjoint(answer["reply"])
                 self.entries += changes + len(answer["then"])
-                self.send(entry, answer["sends"])
-                self.told = self.entries
             self.view.record(event, answer)
-            self.hears(answer)
         if not future.done():
             future.set_result(answer)
 
-    async def stop(self, patience: float = float("inf")) -> None:
-        """Ends the child at the end of its input, once it has answered what it was asked."""
-        until = time.monotonic() + patience
-        while self.asked and not self.is_sealed and time.monotonic() < until:
-            await asyncio.sleep(0.01)
-        self.stopping = True
+    async def stop(self, patience: float = float("inf"), seals: bool = False) -> None:
+        """Ends the child at the end of its input, once it has answered what it was asked; or has it sealed besides."""
+        await until(lambda: self.up and not self.asked or self.is_sealed, patience)
+        self.stopping, self.sealing = True, seals
         if self.process and self.process.stdin:
             self.process.stdin.close()
-
-
-async def lines_of(pipe: asyncio.StreamReader) -> AsyncIterator[Json]:
-    rest = b""
-    while data := await pipe.read(1 << 20):
-        *lines, rest = (rest + data).split(b"\n")
-        for line in lines:
-            yield json.loads(line)

@@ -6,25 +6,21 @@ let a queue wait. Out: what a site reported waits here, with its entry, until a 
 the disk. The number of entries of which all is confirmed is in a file, which may be old: then more is sent again. In: a
 delivery is acknowledged once the site has answered each of its lines.
 """
-from __future__ import annotations
-
 import asyncio
 import contextlib
 import itertools
 import json
 import logging
-import os
-import time
 from collections import Counter, deque
-from collections.abc import Coroutine, Iterator
+from collections.abc import Coroutine
 from typing import Any
 
 import aio_pika
 from aio_pika.abc import AbstractChannel, AbstractConnection, AbstractIncomingMessage, AbstractQueue
 
-from passing import Passing
-from site_child import Site, compact
-from view import Json
+from desk import Desk
+from period import Json, compact
+from site_child import until
 
 MOST_LINES = 500  # of one message of the broker
 PREFETCH = 4  # deliveries of each queue that wait here
@@ -51,18 +47,23 @@ async def together(again: float, *parts: Coroutine[Any, Any, Any]) -> None:
             await asyncio.wait(left, timeout=again)
 
 
+def message_of(line: bytes) -> Json:
+    """A message of a site. Anything else that somebody put into the queue is an event that the site doesn't take."""
+    with contextlib.suppress(AttributeError, ValueError, RecursionError):
+        event: Json = json.loads(line)
+        if event.keys() - {"bank"} in ({"shadow"}, {"token"}):
+            return event
+    return {}
+
+
 class Wires:
-    def __init__(self, me: int, sites: int, urls: list[str], name: str, closed: str | None, path: str) -> None:
-        self.me, self.urls, self.name, self.closed, self.path = me, urls, name, closed, path
-        self.others = [site for site in range(sites) if site != me]
-        self.out: dict[int, deque[tuple[int, str]]] = {site: deque() for site in self.others}  # entries and lines
-        self.more = {site: asyncio.Event() for site in self.others}
-        self.news, self.url = asyncio.Event(), ""
-        self.lag: dict[int, float] = {}
-        self.depth: dict[int, int] = {}
-        self.counts: Counter[str] = Counter()
-        self.site: Site
-        self.passing: Passing
+    def __init__(self, desk: Desk, urls: list[str]) -> None:
+        self.site, self.period, self.desk, self.urls, self.url = desk.site, desk.period, desk, urls, ""
+        self.others = [other for other in range(self.site.config["sites"]) if other != self.site.me]
+        self.out: dict[int, deque[tuple[int, str]]] = {other: deque() for other in self.others}  # entries and lines
+        self.more = {other: asyncio.Event() for other in self.others}
+        self.depth = dict[int, int]()  # by other site, how many deliveries wait in its queue to this one
+        self.site.send = self.send
 
     def send(self, entry: int, messages: list[Json]) -> None:
         """Takes messages that an entry of the site sent, in the order of the entries."""
@@ -71,75 +72,56 @@ class Wires:
                 self.out[site].append((entry, compact(message)))
                 self.more[site].set()
 
-    # ---- what is confirmed
-
     def unconfirmed(self) -> int:
         return sum(map(len, self.out.values()))
 
     def confirmed(self) -> int:
         """The entries, from the first on, all of whose messages the broker has."""
-        return min([self.site.told, *(lines[0][0] for lines in self.out.values() if lines)])
-
-    def saved(self) -> int:
-        """What was confirmed, as the file says. Without a file, or after a torn write, nothing."""
-        with contextlib.suppress(OSError, ValueError), open(self.path) as file:
-            return int(file.read())
-        return 0
-
-    def save(self) -> None:
-        with open(self.path + ".new", "w") as file:
-            file.write(f"{self.confirmed()}\n")
-        os.rename(self.path + ".new", self.path)
-
-    # ---- the broker
+        return min([self.site.entries, *(lines[0][0] for lines in self.out.values() if lines)])
 
     async def run(self) -> None:
         """Goes from node to node of the broker, until one takes us."""
-        before = None
+        before = ""
         for url in itertools.cycle(self.urls):
             try:
                 connection = await aio_pika.connect(url, timeout=PATIENCE)
                 try:
-                    why = await self.session(url, connection)
+                    await self.session(url, connection)
                 finally:
                     self.url = ""
                     with contextlib.suppress(*FAULTS):
                         await asyncio.wait_for(connection.close(), PATIENCE)
             except FAULTS as fault:
-                why = repr(fault)[:200]
-            if why != before:
-                log.warning("%s: %s", url.rpartition("@")[2], why)
-            before = why
+                if (why := repr(fault)[:200]) != before:
+                    log.warning("%s: %s", url.rpartition("@")[2], why)
+                before = why
             await asyncio.sleep(0.2)
 
-    async def session(self, url: str, connection: AbstractConnection) -> str:
+    async def session(self, url: str, connection: AbstractConnection) -> None:
         """What is done while a connection lasts."""
         gone = asyncio.Event()
         connection.close_callbacks.add(lambda *_: gone.set())
-        self.counts["broker_sessions_total"] += 1
         self.url = url
         parts = [part(connection, site) for part in (self.publish, self.receive) for site in self.others]
         await together(1, gone.wait(), self.look(connection), self.talk(connection), *parts)
-        return "the connection ended"
+        raise ConnectionError("the connection ended")
 
     async def queue(self, channel: AbstractChannel, sender: int, receiver: int) -> AbstractQueue:
         """The queue of a pair. Both ends make it, so nothing is published if there is none."""
         return await channel.declare_queue(
-            f"{self.name}.{sender}.{receiver}", durable=True, timeout=PATIENCE,
+            f"{self.period.name}.{sender}.{receiver}", durable=True, timeout=PATIENCE,
             arguments={"x-queue-type": "quorum", "x-single-active-consumer": True})
 
     async def publish(self, connection: AbstractConnection, site: int) -> None:
         """Publishes what waits for a site, in order: the next part once the broker has confirmed the one before."""
         channel, lines = await connection.channel(on_return_raises=True), self.out[site]
-        queue = await self.queue(channel, self.me, site)
+        queue = await self.queue(channel, self.site.me, site)
         while True:
             while part := [line for _, line in itertools.islice(lines, MOST_LINES)]:
-                message = aio_pika.Message("\n".join(part).encode(), message_id=str(time.time()),
-                                           delivery_mode=aio_pika.DeliveryMode.PERSISTENT)
+                message = aio_pika.Message("\n".join(part).encode(), delivery_mode=aio_pika.DeliveryMode.PERSISTENT)
                 await channel.default_exchange.publish(message, queue.name, timeout=PATIENCE)
                 for _ in part:
                     lines.popleft()
-                self.counts["messages_confirmed_total"] += len(part)
             self.more[site].clear()
             await self.more[site].wait()
 
@@ -147,78 +129,57 @@ class Wires:
         """Gives the site what another one sent, and acknowledges what it answered. The consumer isn't cancelled, but it
         ends with its channel: else the next one would be given later messages before those that are in hand here."""
         channel, came = await connection.channel(), asyncio.Queue()  # type: Any, asyncio.Queue[AbstractIncomingMessage]
+        await channel.queue_delete(f"{self.period.other(-1).name}.{site}.{self.site.me}", timeout=PATIENCE)
         await channel.set_qos(prefetch_count=PREFETCH, timeout=PATIENCE)
-        await (await self.queue(channel, site, self.me)).consume(came.put, timeout=PATIENCE)
+        await (await self.queue(channel, site, self.site.me)).consume(came.put, timeout=PATIENCE)
         while True:
             delivery = await came.get()
             await self.take(delivery.body)
             await delivery.ack()
-            self.lag[site] = max(0.0, time.time() - float(delivery.message_id or "inf"))
 
     async def take(self, body: bytes) -> None:
         """Has the site answer each message of a delivery. One that finds no place is given again, until it does: it may
         once more is applied. Were the queue's order ever disturbed, what it waits for could be behind it: so after a
         long time a new session is tried."""
         view = self.site.view
-        asked, seen = [(event, self.site.ask(event)) for event in self.messages(body)], view.clock.total()
-        for event, future in asked:
+        asked, seen = [(line, self.site.ask(message_of(line))) for line in body.split(b"\n")], view.clock.total()
+        for line, future in asked:
             while (answer := await asyncio.shield(future)).get("reply", {}).get("refused") in FULL:
-                self.counts["inbox_full_total"] += 1
-                until = time.monotonic() + LONG
-                while seen == view.clock.total():
-                    if time.monotonic() > until:
-                        raise ConnectionError(f"nothing was applied for {LONG} s, and a queue waits")
-                    await asyncio.sleep(0.05)
-                seen, future = view.clock.total(), self.site.ask(event)
-            is_bad = "bad" in answer or "refused" in answer["reply"]
-            self.counts["messages_bad_total" if is_bad else "messages_taken_total"] += 1
-            if is_bad:
-                log.error("the site doesn't take %s: %s", compact(event)[:500], compact(answer)[:200])
-
-    def messages(self, body: bytes) -> Iterator[Json]:
-        """The messages of a delivery. Anything else that somebody put into the queue is no event of this site."""
-        for line in body.split(b"\n"):
-            try:
-                event = json.loads(line)
-                if event.keys() - {"bank"} not in ({"shadow"}, {"token"}):
-                    raise ValueError
-                yield event
-            except (AttributeError, ValueError, RecursionError):
-                self.counts["messages_bad_total"] += 1
-                log.error("no message of a site: %r", line[:500])
+                if not await until(lambda: view.clock.total() != seen, LONG):
+                    raise ConnectionError(f"nothing was applied for {LONG} s, and a queue waits")
+                seen, future = view.clock.total(), self.site.ask(message_of(line))
+            if "refused" in answer.get("reply", {"refused"}):
+                log.error("the site doesn't take %r: %s", line[:500], compact(answer)[:200])
 
     async def look(self, connection: AbstractConnection) -> None:
         """How many messages wait in the queues to this site; and writes down what is confirmed."""
         channel, alone = await connection.channel(), Counter()  # type: AbstractChannel, Counter[int]
-        for site in self.others if self.closed else []:
-            await channel.queue_delete(f"{self.closed}.{site}.{self.me}", timeout=PATIENCE)
         while True:
             await asyncio.sleep(1)
             for site in self.others:
-                found = (await self.queue(channel, site, self.me)).declaration_result
+                found = (await self.queue(channel, site, self.site.me)).declaration_result
                 self.depth[site] = found.message_count or 0
                 alone[site] = 0 if found.consumer_count else alone[site] + 1
                 if alone[site] > PATIENCE:
                     raise ConnectionError("a queue has no consumer: its channel is gone")
-            if self.site.starts:
-                self.save()
+            self.period.keep("confirmed", self.confirmed(), lasting=False)
 
     async def talk(self, connection: AbstractConnection) -> None:
         """Says where this service is once a second, and at once if there is news, and hears the others."""
         channel = await connection.channel()
-        exchange = await channel.declare_exchange(f"{self.name}.services", aio_pika.ExchangeType.FANOUT,
+        exchange = await channel.declare_exchange(f"{self.period.name}.services", aio_pika.ExchangeType.FANOUT,
                                                   auto_delete=True, timeout=PATIENCE)
         queue = await channel.declare_queue(exclusive=True, timeout=PATIENCE)
         await queue.bind(exchange, timeout=PATIENCE)
         await queue.consume(self.heard, no_ack=True, timeout=PATIENCE)
         while True:
-            await exchange.publish(aio_pika.Message(compact(self.passing.says()).encode()), "", mandatory=False,
-                                   timeout=PATIENCE)
+            said = aio_pika.Message(compact(self.desk.says()).encode())
+            await exchange.publish(said, "", mandatory=False, timeout=PATIENCE)
             await asyncio.sleep(0.02)
             with contextlib.suppress(asyncio.TimeoutError):
-                await asyncio.wait_for(self.news.wait(), SAY)
-            self.news.clear()
+                await asyncio.wait_for(self.desk.news.wait(), SAY)
+            self.desk.news.clear()
 
     async def heard(self, message: AbstractIncomingMessage) -> None:
         with contextlib.suppress(ValueError, KeyError, TypeError):
-            self.passing.hears(json.loads(message.body))
+            self.desk.hears(json.loads(message.body))
