@@ -64,7 +64,6 @@ fn of_file(alloc: Global, file: &str, fault: JournalFault) -> Result<String, All
 
 /// The text that a program writes on standard error about a file with the fault, without the line feed. An `Err` means
 /// out of memory.
-/// memory.
 pub fn journal_message(alloc: Global, file: &str, fault: JournalFault) -> Result<String, AllocError>
     ensures { IfOk result (λ text. string_bytes text ≡ journal_message_of file.now fault) }
 {
