@@ -1,5 +1,6 @@
-.PHONY: help demo try play play-test build install install-libs test toolchain check examples bench bindings refuse \
-	wrong-bodies crash disk wires broker service service-setup service-test service-page service-mutants
+.PHONY: help demo try play play-test build install install-libs test gate-library gate-cases toolchain check \
+	examples bench bindings refuse wrong-bodies crash disk wires broker service service-setup service-test service-page \
+	service-mutants
 
 help:
 	@echo 'At once:'
@@ -21,7 +22,7 @@ help:
 	@echo '  make test          the gate; about an hour; less than a minute if nothing changed since'
 	@echo '                     (docs/CHANGING.md)'
 	@echo '  make bindings      the library for C, Rust and Python (bindings/), their tests and the shop of examples/shop;'
-	@echo '                     wants gcc or clang, and cargo; after make test it proves one crate, some minutes in all'
+	@echo '                     wants gcc or clang, and cargo; after make test the library is there, and it takes a minute'
 	@echo
 	@echo 'While you change something:'
 	@echo '  make check         proves every crate, over what earlier checks kept'
@@ -135,7 +136,13 @@ test: toolchain
 	tests/plain_words.py --check
 	bindings/declarations.py --check
 	rt ci
-	@bindings/build.py --record
+	@$(MAKE) --no-print-directory -j2 gate-library gate-cases
+
+# What the gate does with what it proved: the library for C is built of it, and its program is put to all cases.
+gate-library:
+	@bindings/build.py --of-gate
+
+gate-cases:
 	@tests/refuse.py --gate crates/rb_tests/out/rb_tests_tests crates/rb_tests_runs/out/rb_tests_runs_tests
 	@examples/tools/bank.py --record crates/rbbank/out/rbbank
 	@examples/tools/check.py --quiet crates/rbbank/out/rbbank

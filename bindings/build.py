@@ -3,9 +3,9 @@
 library, and librbbank.so. Nothing is built into them that isn't proved. Beside them librbbank_file.a is made of
 c/rbbank_file.c, which is plain C, and isn't proved.
 
-usage: build.py              builds it: if the gate proved the crates below rb_capi as they are, over what it proved,
-                             and then only rb_capi is proved once more; else by `rt lib`, over what earlier checks kept
-       build.py --record     notes that the gate proved these sources, and which libraries it made of them
+usage: build.py              builds it by `rt lib`, over what earlier checks kept, if it isn't built of these sources
+       build.py --of-gate    builds it over the libraries that `rt ci` proved just now, as the gate does; not if those
+                             that are there are another command's
 """
 import hashlib
 import os
@@ -21,8 +21,8 @@ ROOT = os.path.dirname(HERE)
 CRATES = os.path.join(ROOT, "crates")
 CRATE = os.path.join(CRATES, "rb_capi")
 PROVED = os.path.join(CRATE, "out", "librb_capi.a")
-RECORD = os.path.join(CRATE, "out", "gate-record")
 OUT = os.path.join(HERE, "out")
+RECORD = os.path.join(OUT, "record")
 STATIC = os.path.join(OUT, "librbbank.a")
 SHARED = os.path.join(OUT, "librbbank.so")
 FILE = os.path.join(OUT, "librbbank_file.a")
@@ -89,32 +89,25 @@ def digest(paths):
 
 
 def state():
-    """What the library would be made from: the sources of its crates, the libraries below it, and the toolchain."""
-    lower = below("rb_capi", uses())
-    parts = [os.path.join(CRATES, crate, part) for crate in [*lower, "rb_capi"] for part in ("src", "specs", "proofs")]
-    sources = [os.path.join(ROOT, "crates.txt"), *(path for part in parts for path in files(part))]
-    libraries = [path for crate in lower for path in files(library(crate))]
+    """What is in bindings/out, and what it has to be made from: the sources, and the toolchain."""
+    parts = [os.path.join(CRATES, crate, part)
+             for crate in [*below("rb_capi", uses()), "rb_capi"] for part in ("src", "specs", "proofs")]
+    sources = [os.path.join(ROOT, "crates.txt"), os.path.join(HERE, "build.py"), *files(os.path.join(HERE, "c"))]
+    sources += [path for part in parts for path in files(part)]
     toolchain = subprocess.run(["rt", "version"], capture_output=True, text=True, check=True).stdout.strip()
-    return f"sources {digest(sources)}\nlibraries {digest(libraries)}\ntoolchain {toolchain}\n"
-
-
-def record():
-    """Notes the state right after `rt ci` passed. A library with a stamp beside it was made by another command, whose
-    work `rt ci` gives back at its end, so nothing is noted then."""
-    lower = below("rb_capi", uses())
-    if os.path.exists(RECORD):
-        os.remove(RECORD)
-    lacking = [crate for crate in lower if not os.path.isdir(library(crate))]
-    if lacking or any(os.path.exists(os.path.join(os.path.dirname(library(crate)), "stamp")) for crate in lower):
-        return
-    os.makedirs(os.path.dirname(RECORD), exist_ok=True)
-    with open(RECORD, "w", encoding="utf-8") as file:
-        file.write(state())
+    return f"sources {digest(sources)}\nlibraries {digest([STATIC, SHARED, FILE])}\ntoolchain {toolchain}\n"
 
 
 def is_recorded():
-    """Whether the gate proved just what is there."""
-    return os.path.exists(RECORD) and read(RECORD).decode() == state()
+    """Whether the library was built of these sources, and is as it was then."""
+    return all(map(os.path.exists, [RECORD, STATIC, SHARED, FILE])) and read(RECORD).decode() == state()
+
+
+def is_of_gate():
+    """Whether the libraries below are those that `rt ci` proved. One with a stamp beside it was made by another
+    command, whose work `rt ci` gives back at its end."""
+    lower = [library(crate) for crate in below("rb_capi", uses())]
+    return all(os.path.isdir(it) and not os.path.exists(os.path.join(os.path.dirname(it), "stamp")) for it in lower)
 
 
 # ---- the library
@@ -133,13 +126,11 @@ def over_the_gates():
     words += ["--logic-built", os.path.join(tools, "logic_built"), "--toolchain", os.path.join(tools, "toolchain")]
     words += ["--crate-type", "staticlib", "--links", "rb_capi=", "--backend", "llvm"]
     words += ["--jobs", str(min(os.cpu_count() or 1, 4)), "-o", PROVED]
-    print("rb_capi is proved and built over the libraries that the gate proved.", flush=True)
     ran = subprocess.run([os.path.join(tools, "bin", "rattle"), "build", *words], cwd=CRATE, stdout=subprocess.PIPE,
                          stderr=subprocess.STDOUT, text=True, errors="replace")
     verdict = [line for line in ran.stdout.split("\n") if line.startswith("logic=proved ")]
     if ran.returncode != 0 or not verdict:
         raise Stop(f"{ran.stdout[-3000:]}\nrattle build ended in {ran.returncode}")
-    print(verdict[-1])
 
 
 def by_rt_lib():
@@ -177,22 +168,23 @@ def of_file(compiler):
 
 def main():
     words = sys.argv[1:]
-    if words == ["--record"]:
-        record()
-        return 0
-    if words:
+    if words not in ([], ["--of-gate"]):
         print(__doc__)
         return 0 if words in (["--help"], ["-h"]) else 2
     missing = [word for word in ("rt", "ar") if shutil.which(word) is None]
     missing += [] if c_compiler() else ["C compiler"]
     if missing:
         raise Stop(f"no {', no '.join(missing)} on PATH, so no library is built")
-    over_the_gates() if is_recorded() else by_rt_lib()
-    os.makedirs(OUT, exist_ok=True)
-    static([PROVED, os.path.join(kit(), "c", "liblibc_c.a")])
-    shared(c_compiler())
-    of_file(c_compiler())
-    print(f"{STATIC}\n{SHARED}\n{FILE}")
+    if not is_recorded() and (is_of_gate() or not words):
+        over_the_gates() if words else by_rt_lib()
+        os.makedirs(OUT, exist_ok=True)
+        static([PROVED, os.path.join(kit(), "c", "liblibc_c.a")])
+        shared(c_compiler())
+        of_file(c_compiler())
+        with open(RECORD, "w", encoding="utf-8") as file:
+            file.write(state())
+    if not words:
+        print(f"{STATIC}\n{SHARED}\n{FILE}")
     return 0
 
 

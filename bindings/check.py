@@ -11,6 +11,7 @@ answered as PROGRAM answers them, and those that aren't have to be bad lines to 
 It wants what build.py makes. Where a compiler is missing, it says so and ends in status 1.
 """
 import concurrent.futures
+import functools
 import glob
 import os
 import random
@@ -19,6 +20,7 @@ import shutil
 import subprocess
 import sys
 import tempfile
+import threading
 
 sys.dont_write_bytecode = True
 import build
@@ -62,15 +64,18 @@ def source_of_c(name):
 
 
 def compiled(name, *flags):
-    """A program of bindings/c, linked with the library, or None where the compiler refuses it."""
+    """A program of bindings/c, linked with the library, or None where the compiler refuses it. It is given its name
+    once it is whole, since others may be running the one before."""
     out = os.path.join(build.OUT, name + ("-asan" if flags else ""))
+    made = f"{out}.{threading.get_ident()}"
     strict = ["-std=c11", "-D_DEFAULT_SOURCE", "-Wall", "-Wextra", "-Wpedantic", "-Werror", "-O1", "-g", "-pthread"]
     wanted = f'-DRBBANK_WANTED_VERSION="{build.version()}"'
     sources = [source_of_c(one) for one in ([name, "rbbank_file"] if name in WITH_FILES else [name])]
-    _, errors, status = run([build.c_compiler(), *strict, wanted, *flags, "-o", out, *sources, build.STATIC])
+    _, errors, status = run([build.c_compiler(), *strict, wanted, *flags, "-o", made, *sources, build.STATIC])
     if status != 0:
         print(errors.decode(), file=sys.stderr)
         return None
+    os.replace(made, out)
     return out
 
 
@@ -386,22 +391,39 @@ def shop():
     yield "the shop of examples/shop", passes([sys.executable, os.path.join(EXAMPLES, "shop", "run.py"), "--quiet"])
 
 
-def results(program):
-    """Each case with whether it is as wanted, None for what isn't tested."""
+def declarations():
     words = [sys.executable, os.path.join(HERE, "declarations.py"), "--check"]
     yield "declarations and exports", passes(words)
+
+
+def rows_of(name, rows, program):
+    """What the rows of a language answer."""
+    words = rows()
+    yield from same_rows(name, words) if words[0] else [(f"{name}, rows", False)]
+    yield from same_closings(name, words, program) if words[0] else []
+
+
+def lacking(name):
+    yield f"no {NEEDS[name]} on PATH, so nothing of {name} is tested", None
+
+
+def groups(program):
+    """Calls that may go on side by side: each gives some cases with whether each is as wanted, None for what isn't
+    tested."""
+    found = [declarations]
     for name, (needed, tests, rows) in LANGUAGES.items():
-        if needed() is None:
-            yield f"no {NEEDS[name]} on PATH, so nothing of {name} is tested", None
-            continue
-        yield from tests()
-        words = rows()
-        yield from same_rows(name, words) if words[0] else [(f"{name}, rows", False)]
-        yield from same_closings(name, words, program) if words[0] else []
+        there = [tests, functools.partial(rows_of, name, rows, program)]
+        found += [functools.partial(lacking, name)] if needed() is None else there
     if build.c_compiler():
-        for form in ["odd", "odd-site"]:
-            yield from odd(Program(program), form)
-    yield from shop()
+        found += [functools.partial(odd, Program(program), form) for form in ("odd", "odd-site")]
+    return [*found, shop]
+
+
+def results(program):
+    """Each case with whether it is as wanted."""
+    with concurrent.futures.ThreadPoolExecutor(os.cpu_count()) as pool:
+        for cases in pool.map(lambda group: list(group()), groups(program)):
+            yield from cases
 
 
 def main():
