@@ -195,6 +195,7 @@ SERVICE_PROGRAM = crates/rbbank/out/rbbank
 SECONDS ?= 60
 SEEDS ?= 1
 service-setup:
+	apt-get update
 	apt-get install -y rabbitmq-server python3-aiohttp python3-aio-pika
 
 service:
