@@ -19,7 +19,7 @@ help:
 	@echo '  make install-libs PREFIX=/usr/local'
 	@echo '                     copies the library for C with its headers and a file for pkg-config, after make bindings'
 	@echo '  make examples      every example, and every case of tests/cases, through the program, after make build'
-	@echo '  make test          the gate; about an hour; less than a minute if nothing changed since'
+	@echo '  make test          the gate; about an hour; some minutes if nothing changed since'
 	@echo '                     (docs/CHANGING.md)'
 	@echo '  make bindings      the library for C, Rust and Python (bindings/), their tests and the shop of examples/shop;'
 	@echo '                     wants gcc or clang, and cargo; after make test the library is there, and it takes a minute'
