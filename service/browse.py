@@ -132,7 +132,7 @@ class Browse:
                                     len(page.all(".badge"))], ["◆ token", 1])
         same("shows", "nothing held", page.text("#waiting"), "Nothing is held anywhere.")
         same("shows", "the foot", page.text("#state"), "All sites have the same balances.")
-        undone = [one["name"] for one in self.states[0]["operations"] if one["cancelled"]]
+        undone = [one["target"] for one in self.states[0]["operations"] if one["kind"] == "cancel"]
         same("shows", "struck out", sorted(page.texts("#rows .undone .name")), sorted(undone))
         same("shows", "wider than the page", page.is_wide(), False)
         self.shot("service")
@@ -158,15 +158,15 @@ class Browse:
             same("clocks", f"where {name} is", chips, ["has", "has", "has"])
 
     def differs(self) -> None:
-        """A site that lacks an operation, holds others, and waits to send and to read."""
+        """A site that lacks an operation, holds others, and waits to send."""
         states, last = self.lacking()
         states[2]["balances"]["ann"] += 7
         held = {"account": "ann", "amount": 7, "kind": "deposit", "name": "B1.99", "waits": [last["name"], "R77"]}
-        states[2] |= {"held": [held], "holds": 3, "unread": {"0": 2, "1": 0}, "unsent": {"0": 0, "1": 1200}}
+        states[2] |= {"held": [held], "holds": 3, "unsent": {"0": 0, "1": 1200}}
         _, page = self.open(states)
         facts = [row[2] for row in page.js("return [...document.querySelectorAll('#facts tr')].map((row) => "
                                            "[...row.querySelectorAll('td')].map((cell) => cell.textContent))")]
-        same("differs", "facts of site 2", facts[1:], ["1 operation", "3", "1,200 to 1", "2 from 0"])
+        same("differs", "facts of site 2", facts[1:], ["1 operation", "3", "1,200 to 1"])
         same("differs", "held", page.texts("#waiting li"),
              [f"B1.99 deposit ann 0.07 at site 2 waits for {last['name']}, R77", "and 2 more"])
         odd = page.js("return [...document.querySelectorAll('#accounts td.odd')].map((it) => "
@@ -424,11 +424,11 @@ class Browse:
         before = page.column(0)
         for site in bank.sites:
             site.state["closing"] = True
-            site.tell([])
+            site.tell()
         same("periods", "while it closes", page.says("#heads th:nth-child(2)", "closes its books: clients wait"), True)
         for site in bank.sites:
             site.state["up"] = False
-            site.tell([])
+            site.tell()
         same("periods", "while its program is away", [page.column(0), page.text("#heads th:nth-child(2) .why")],
              [before, "closes its books: clients wait"])
         bank.name, first = bank.name + "-next", bank.name
@@ -436,7 +436,7 @@ class Browse:
             site.state["balances"]["zed"] = 0
             site.state |= {"applied": [[], 0], "bank": bank.name, "closing": False, "operations": [], "up": True}
             site.state["token"] = {"epoch": 0, "here": site.number == 0, "to": 0}
-            site.tell([])
+            site.tell()
         bank.sites[1].lost = 0
         same("periods", "the old request", page.says("#asks .no", "this is of a period that is closed"), True)
         same("periods", "the period", page.says("#who", f"{bank.name}: 3 sites, 6 accounts"), True)
@@ -532,7 +532,7 @@ class Browse:
         """Every text has a contrast of 4.5 at least, in light and dark, with a site down and something held."""
         states = json.loads(json.dumps(self.states))
         held = {"account": "ann", "amount": 7, "kind": "deposit", "name": "B1.99", "waits": ["R77"]}
-        states[1] |= {"held": [held], "holds": 1, "unread": {"0": 2}}
+        states[1] |= {"held": [held], "holds": 1, "unsent": {"0": 2}}
         states[1]["balances"]["bob"] += 1
         bank, page = self.open(states)
         bank.sites[2].down()

@@ -239,11 +239,11 @@ class Run:
     async def closes(self) -> None:
         """Has the books closed, by close.py, which is killed at times, until they are."""
         until, archive = time.monotonic() + self.asked.patience, os.path.join(self.bank.folder, "archive")
-        words = [sys.executable, f"{cluster.HERE}/close.py", self.bank.file, self.name, archive, "--patience", "20",
-                 "--account", f"new-{self.period}"]
+        words = [sys.executable, f"{cluster.HERE}/close.py", self.bank.file, self.name, archive, "--patience", "20"]
         while time.monotonic() < until:
+            account = f"new-{self.period}-{self.pick.randrange(3)}"  # by other words, at times
             with open(os.path.join(self.bank.folder, "close.log"), "ab") as out:
-                process = subprocess.Popen(words, stdout=out, stderr=out)
+                process = subprocess.Popen([*words, "--account", account], stdout=out, stderr=out)
             left = self.pick.choice([0.5, 2, 1000])
             try:
                 while process.poll() is None and left > 0:
@@ -322,7 +322,9 @@ class Books:
         for path in self.paths:
             with open(path) as file:
                 config, *entries = [json.loads(line) for line in file if line.startswith("{")]
-            self.config: Json = config
+            self.config: Json = config if path == self.paths[0] else self.config
+            if self.config != config:
+                raise Wrong(f"the sites began period {period} with {self.config} and {config}")
             self.entries.append(entries)
 
     def requests(self) -> dict[str, tuple[int, Json]]:

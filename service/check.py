@@ -21,6 +21,7 @@ import subprocess
 import sys
 import tempfile
 import time
+import types
 from collections.abc import AsyncIterator, Awaitable, Callable
 from typing import Any
 
@@ -29,10 +30,9 @@ HERE = os.path.dirname(os.path.abspath(__file__))
 sys.path[:0] = [HERE, os.path.join(HERE, "..", "examples", "tools")]
 import bank
 import cluster
-import desk
-from period import Fault, Json, Period, last_period, requests_of
-from site_child import Site
-from view import View
+import site_child
+from site_child import Desk, Fault, Json, Period, Site, last_period, requests_of
+from view import KEPT, View
 
 PROGRAM, NAME = os.path.abspath(sys.argv[1] if sys.argv[1:] else ""), "b.0001"
 CONFIG = {"accounts": [["ann", 1000], ["bob", 0]], "sites": 2, "version": 1}
@@ -68,7 +68,8 @@ class Running:
 
     async def end(self) -> None:
         await self.site.stop(PATIENCE / 10)
-        await asyncio.wait_for(self.task, PATIENCE)
+        self.task.cancel()
+        await asyncio.wait({self.task}, timeout=PATIENCE)
 
 
 @contextlib.asynccontextmanager
@@ -137,9 +138,9 @@ async def kills(folder: str) -> None:
             PROBLEMS.append(f"the child was killed {ends} times alone")
         await one.view.refresh(one.site.ask)
         same("balance", one.view.balances["ann"], 1000 + 1000 * 1001 // 2)
-        last = one.view.shown(900)["operations"]
+        last = one.view.shown()["operations"]
         same("the last operations", [(each["name"], each["place"]) for each in last],
-             list(zip(names[-100:], range(901, 1001))))
+             list(zip(names[-KEPT:], range(1001 - KEPT, 1001))))
     ids = [entry["id"] for entry in entries(folder)]
     same("ids in the journal, each once", len(set(ids)), 1000)
 
@@ -173,12 +174,12 @@ async def restarts(folder: str) -> None:
         late = {"account": "bob", "amount": 7, "deps": [[0, 1, 0, 0, 0, 0, 0, 0], 0], "home": 1, "kind": "deposit",
                 "name": "B1.2"}
         await one.ask({"bank": NAME, "shadow": late})
-        before = one.view.shown(0)
+        before = one.view.shown()
     for confirmed, wanted in ((0, sent), (2, sent[2:]), (5, [])):
         async with site(folder, confirmed=confirmed) as one:
             await one.ask({"balance": "ann"})
             same(f"sent again if {confirmed} entries are confirmed", one.sent, wanted)
-            same("the picture", one.view.shown(0) | {"balances": {}}, before | {"balances": {}})
+            same("the picture", one.view.shown() | {"balances": {}}, before | {"balances": {}})
             same("what is held waits for", before["held"][0]["waits"], ["B1.1"])
 
 
@@ -189,6 +190,8 @@ async def faults(folder: str) -> None:
         try:
             await asyncio.wait_for(asyncio.shield(running.task), PATIENCE / 10)
         except Fault as why:
+            assert running.site.process
+            await running.site.process.communicate(b"")  # (as at the service's end)
             return same(what, text in str(why), True)
         except asyncio.TimeoutError:
             PROBLEMS.append(f"{what}: no fault")
@@ -207,35 +210,40 @@ async def faults(folder: str) -> None:
 # ---- the token, and closing
 
 
+def message(said: Json) -> types.SimpleNamespace:
+    """A message of the broker."""
+    return types.SimpleNamespace(body=json.dumps(said).encode())
+
+
 async def token(folder: str) -> None:
     """The token goes round the sites that want it, after a moment, and clients who wait ask again as it comes."""
     replies: list[tuple[Json, bool]] = [
         ({"refused": 8}, True), ({"refused": 9}, True), ({"cause": 8, "refused": 13}, True), ({"refused": 10}, False),
         ({"cause": 10, "refused": 13}, False), ({"cause": "declined", "refused": 13}, False), ({"balance": 8}, False)]
     for reply, lacks in replies:
-        same(f"for want of the token: {reply}", desk.lacks(reply), lacks)
+        same(f"for want of the token: {reply}", site_child.lacks(reply), lacks)
     async with site(folder) as one:
-        desk.HOLD, desk.HEARD = 5.0, PATIENCE
+        site_child.HOLD, site_child.HEARD = 5.0, PATIENCE
         one.site.config = CONFIG | {"sites": 4}
-        here = desk.Desk(one.site)
+        here = Desk(one.site)
         await one.ask({"balance": "ann"})
         task = asyncio.create_task(here.run())
         said = {"applied": {}, "wants": True}
         for other in (3, 1):
-            here.hears(said | {"site": other})
+            await here.hears(message(said | {"site": other}))
         await until("the token is passed", lambda: not one.view.token["here"])
         same("to the next that wants it", (one.view.token["to"], set(here.wanted)), (1, {3}))
         made = asyncio.create_task(here.ask(lambda: one.site.ask({"withdraw": ["ann", 1], "id": "w"}), PATIENCE))
         await until("a client waits, and says so", lambda: here.waiters == 1 and here.says()["wants"])
         await one.ask({"bank": NAME, "token": [2, 0, 0]})
         same("it asks again as the token comes", (await made)["reply"], {"kind": "withdraw", "name": "R1"})
-        here.hears(said | {"site": 1})
+        await here.hears(message(said | {"site": 1}))
         await asyncio.sleep(0.5)
         same("a site keeps it for a moment", one.view.token["here"], True)
         await until("it is passed on", lambda: not one.view.token["here"])
         short = await here.ask(lambda: one.site.ask({"withdraw": ["ann", 1]}), 0.2)
         same("a wait has an end", short["reply"], {"refused": 8})
-        here.hears({"applied": {"B0.": 1, "B1.": 5, "R": 3}, "site": 1, "wants": False})
+        await here.hears(message({"applied": {"B0.": 1, "B1.": 5, "R": 3}, "site": 1, "wants": False}))
         same("behind another site", here.behind(), {1: 1 + 5 + 2, 3: 0})
         await one.ask({"deposit": ["ann", 1]})
         same("behind it once more is applied here", here.behind(), {1: 5 + 2, 3: 0})
@@ -255,39 +263,49 @@ async def closes(folder: str) -> None:
     """The steps of a closing at a site, each as often as it is asked for."""
     period = Period(folder, "b", 1)
     period.begin(0, CONFIG)
+    same("its first line is the one that it began with", period.begin(0, CONFIG | {"sites": 3}), CONFIG)
     async with site(folder) as one:
-        here = desk.Desk(one.site)
+        here, line = Desk(one.site), CONFIG | {"accounts": [["ann", 1005], ["bob", 0]]}
         await one.ask({"deposit": ["ann", 5], "id": "last"})
 
-        async def step(step: str, **more: Any) -> Any:
-            asked = {"bank": NAME, "step": step, "words": [], **more}
+        async def step(step: str, name: str = NAME, **more: Any) -> Any:
+            asked = {"bank": name, "line": line, "step": step, **more}
             status, said = await asyncio.wait_for(here.step(asked), PATIENCE)
             return said if status == 200 else said["error"]
-        unstopped = "clients aren't stopped by these words: "
-        same("no seal before clients are stopped", await step("seal"), f"{unstopped}None")
+        same("no seal before clients are stopped", await step("seal"), "no seal now")
+        same("nor of another period", await step("stop", "b.0003"), f"this is {NAME}")
+        applied = [[1] + [0] * 7, 0]
         for _ in range(2):
-            same("stop", await step("stop"), {"is": "stopped", "applied": [[1] + [0] * 7, 0]})
-        same("by other words", await step("stop", words=["--account", "x"]), f"{unstopped}[]")
-        same("a start goes on so", desk.Desk(one.site).words, [])
+            same("stop", (await step("stop"), here.closing), ({"is": "stopped", "applied": applied}, True))
+        same("a start goes on so", Desk(one.site).closing, True)
         one.site.stopping = True
         same("no stop as the service ends", await step("stop"), "no stop now")
         one.site.stopping = False
-        same("clients are served again", (await step("open"), here.words), ({"is": "open"}, None))
-        same("and at a start", desk.Desk(one.site).words, None)
-        same("as often as it is asked for", await step("open"), {"is": "open"})
-        same("no next before the seal", (await step("stop") and await step("next", config=CONFIG)), "no next now")
+        for _ in range(2):
+            same("clients are served again", (await step("open"), here.closing),
+                 ({"is": "open", "applied": applied}, False))
+        same("and at a start", Desk(one.site).closing, False)
+        same("no next before the seal", (await step("stop") and await step("next")), "no next now")
         for _ in range(2):
             same("seal", await step("seal"), {"is": "sealed"})
         same("sealed", (await step("stop"), await step("open")), ({"is": "sealed"}, "no open now"))
         with open(period.journal(0), "rb") as file:
             same("the journal's end", file.read()[-2:], b"\n\t")
-        same("next", (await step("next", config=CONFIG), here.next.is_set()), ({"is": "sealed"}, True))
+        for sites in (2, 3):
+            same("next, by the line that came first", await step("next", line=line | {"sites": sites}),
+                 {"is": "closed", "line": line})
+        await asyncio.wait_for(one.task, PATIENCE)
     following = last_period(folder, "b")
     same("the next period", (following.name, os.path.getsize(following.journal(0))), ("b.0002", 0))
-    second = Site(PROGRAM, Period(folder, "b", 2), 0, CONFIG)
-    past = await desk.Desk(second).step({"bank": NAME, "step": "next", "words": []})
-    same("its past", past, (200, {"is": "closed"}))
+    second = Site(PROGRAM, following, 0, following.kept("bank"))
+    past = await Desk(second).step({"bank": NAME, "step": "next", "line": CONFIG})
+    same("its past", past, (200, {"is": "closed", "line": line}))
     same("requests of the closed one", list(requests_of(period.journal(0))), ["last"])
+    period.keep("closing", False)
+    try:
+        await asyncio.wait_for(Site(PROGRAM, period, 0, CONFIG).run(), PATIENCE / 10)
+    except (Fault, asyncio.TimeoutError) as why:
+        same("a sealed journal whose books aren't being closed", str(why), "rbbank: journal is sealed")
 
 
 def texts(folder: str) -> None:
@@ -356,7 +374,7 @@ def refuses(service: Http) -> None:
 
 
 def listens(service: Http) -> None:
-    """A state at first, and then what changed."""
+    """The state at first, and then whenever it changed."""
     with contextlib.closing(http.client.HTTPConnection("127.0.0.1", service.port, timeout=PATIENCE)) as live:
         live.request("GET", "/live")
         stream = live.getresponse()
@@ -364,12 +382,11 @@ def listens(service: Http) -> None:
         same("a state at first", [one["name"] for one in first["operations"]], ["B0.1", "B0.2", "B0.3"])
         for name, balance in (("B0.4", 7), ("B0.5", 14)):
             service.event({"deposit": ["bob", 7]})
-            names: list[str] = []
-            while name not in names:
-                change = json.loads((stream.readline() + stream.readline()).strip().removeprefix(b"data: "))
-                names = [one["name"] for one in change["operations"]]
-            same("then what changed", (names[-1], change["balances"]["bob"]), (name, balance))
-        same("and nothing else", names, ["B0.5"])
+            states: list[Json] = [first]
+            while states[-1]["operations"][-1]["name"] != name:
+                states.append(json.loads((stream.readline() + stream.readline()).strip().removeprefix(b"data: ")))
+                same("only what changed", states[-1] == states[-2], False)
+            same("then what changed", states[-1]["balances"]["bob"], balance)
 
 
 def asks(folder: str) -> None:
@@ -401,7 +418,7 @@ def asks(folder: str) -> None:
                  "rbbank_token_here 1", 'rbbank_unsent{to="1"} 5', "rbbank_child_restarts_total 0",
                  "rbbank_journal_bytes "):
         same(f"metrics have {line}", line in text, True)
-    same("closing", service.ask("/closing", {"bank": NAME, "step": "stop", "words": []})[1]["is"], "stopped")
+    same("closing", service.ask("/closing", {"bank": NAME, "step": "stop"})[1]["is"], "stopped")
     same("clients wait", (service.event({"deposit": ["ann", 5]})[0], service.retry, service.exposed), (503, "1", None))
     status, _ = service.event({"deposit": ["ann", 5]}, Origin=f"http://{service.http[1]}")
     same("and pages of other sites read how long", (status, service.retry, service.exposed), (503, "1", "Retry-After"))
@@ -462,7 +479,7 @@ def tokens(folder: str) -> None:
     same("and cancels nothing", service.event({"cancel": "B0.1"}, **till),
          (403, {"error": "this client may not cancel"}))
     same("nor in a batch", service.event({"batch": [{"cancel": "B0.1"}]}, **till)[0], 403)
-    same("nor closes", service.ask("/closing", {"bank": NAME, "step": "stop", "words": []}, **till)[0], 403)
+    same("nor closes", service.ask("/closing", {"bank": NAME, "step": "stop"}, **till)[0], 403)
     same("an officer cancels", service.event({"cancel": "B0.1"}, **officer)[0], 200)
     same("and reads nothing", service.ask("/balance/ann", **officer)[0], 403)
     same("anyone may ask for its health", service.ask("/health")[0], 200)
@@ -511,7 +528,7 @@ def wires(folder: str, me: int, urls: list[str], *refusals: int) -> tuple[Any, P
     """The wires of a pretended site."""
     import wires as module
     site: Any = Pretended(folder, me, *refusals)
-    return module.Wires(desk.Desk(site), urls), site
+    return module.Wires(Desk(site), urls), site
 
 
 async def keeps(folder: str) -> None:
@@ -547,7 +564,7 @@ async def ordered(folder: str, broker: cluster.Cluster) -> None:
         sender.send(entry, [{"shadow": {"name": name}}])
     same("confirmed before there is a broker", sender.confirmed(), 0)
     tasks = [asyncio.create_task(first.run())]
-    await until("connected", lambda: bool(first.url))
+    await until("connected", lambda: bool(first.is_connected))
     module.MOST_LINES = 1  # a message of the broker for each
     tasks.append(asyncio.create_task(sender.run()))
     await until("the first is asked", lambda: bool(slow.asked))
@@ -559,8 +576,8 @@ async def ordered(folder: str, broker: cluster.Cluster) -> None:
     broker.signal(0, signal.SIGCONT)
     await until("it is confirmed", lambda: not sender.unconfirmed())
     tasks.append(asyncio.create_task(second.run()))
-    await until("the second has looked", lambda: bool(second.depth))
-    await asyncio.sleep(1)
+    await until("the second is connected", lambda: bool(second.is_connected))
+    await asyncio.sleep(2)
     same("a second consumer waits", late.asked, [])
     tasks[0].cancel()
     late.up.set()

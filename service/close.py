@@ -6,11 +6,11 @@ usage: close.py BANK NAME FOLDER [--account NAME].. [--patience SECONDS] [--open
 BANK is the services' bank.json, NAME the period that is closed, as `example.0001`; accounts are added with 0. Clients
 are told to wait. Once all sites applied the same, copies of their journals are closed, to see that they can be. Then
 the journals are sealed, and `rbbank close` says the next period's first line, with which the services go on. FOLDER has
-the period's journals then, to be archived, and that line. Whenever it is ended, it can be run again, by the same words.
-If the books can't be closed, clients are served again, and it says why, in status 1; with --open that is all it does.
+the period's journals then, to be archived, and that line. Whenever it is ended, it can be run again: if a site has
+begun the next period by then, the others begin it with the same line. If the books can't be closed, clients are served
+again, and it says why, in status 1; with --open that is all it does.
 """
 import argparse
-import contextlib
 import http.client
 import json
 import os
@@ -18,7 +18,7 @@ import subprocess
 import sys
 import time
 
-from period import Json, Period, compact, load, store
+from site_child import Json, Period, compact, load, store
 
 PAUSE = 0.3  # seconds before a service is asked again
 OPENS = 60  # seconds to have clients served again
@@ -33,7 +33,7 @@ class Books:
         name, _, number = asked.name.rpartition(".")
         self.period, self.until = Period(asked.folder, name, int(number)), time.monotonic() + asked.patience
         self.words = [word for name in asked.account for word in ("--account", name)]
-        self.heads = {"Content-Type": "application/json"}
+        self.heads = {"Connection": "close", "Content-Type": "application/json"}
         if self.bank.get("tokens"):
             token = next(row["token"] for row in load(self.bank["tokens"]).values() if "close" in row["may"])
             self.heads["Authorization"] = f"Bearer {token}"
@@ -42,23 +42,32 @@ class Books:
         """What a service answers; it is asked until it does, or no time is left."""
         while True:
             try:
-                with contextlib.closing(http.client.HTTPConnection(self.bank["http"][site], timeout=30)) as service:
-                    service.request("POST" if body else "GET", path, body, self.heads)
-                    reply = service.getresponse()
-                    said = reply.read()
-                    if reply.status == 200:
-                        return said
-                    why = f"{reply.status} {said.decode(errors='replace')}"
+                service = http.client.HTTPConnection(self.bank["http"][site], timeout=30)
+                service.request("POST" if body else "GET", path, body, self.heads)
+                reply = service.getresponse()
+                said = reply.read()
+                if reply.status == 200:
+                    return said
+                why = f"{reply.status} {said.decode(errors='replace')}"
             except (OSError, http.client.HTTPException) as fault:
                 why = repr(fault)
-            if time.monotonic() > self.until:
-                sys.exit(f"close: site {site}: {why}")
-            time.sleep(PAUSE)
+            self.wait(f"site {site}: {why}")
 
-    def all(self, step: str, **more: Json) -> list[Json]:
-        """Has all sites do a step: what they say."""
-        asked = compact({"bank": self.period.name, "step": step, "words": self.words, **more})
-        return [json.loads(self.ask(site, "/closing", asked)) for site in self.sites]
+    def wait(self, why: str) -> None:
+        """Waits for a moment before something is tried again; if no time is left, this is why it ends."""
+        if time.monotonic() > self.until:
+            sys.exit(f"close: {why}")
+        time.sleep(PAUSE)
+
+    def all(self, step: str, line: Json | None = None) -> list[Json]:
+        """Has the sites do a step, one after another: what they say. If a site has begun the next period, each behind
+        it is given the line that it began with. So the first one decides, whatever else was on its way to a site."""
+        found: list[Json] = []
+        for site in self.sites:
+            asked = compact({"bank": self.period.name, "line": line, "step": step})
+            found.append(json.loads(self.ask(site, "/closing", asked)))
+            line = found[-1].get("line", line)
+        return found
 
     def line(self, end: str) -> Json:
         """The next period's first line, by the journals; or by copies, which are sealed here and then deleted."""
@@ -78,24 +87,24 @@ class Books:
         while (now := self.all("stop")) and all(said["is"] == "stopped" for said in now):  # (else this is done)
             if all(said == now[0] for said in now):
                 return print("The books can be closed:", json.dumps(self.line(".copy")["accounts"]))
-            if time.monotonic() > self.until:
-                sys.exit(f"close: the sites haven't applied the same: {now}")
-            time.sleep(PAUSE)
+            self.wait(f"the sites haven't applied the same: {now}")
         return None
+
+    def open(self) -> None:
+        self.until = time.monotonic() + OPENS
+        self.all("open")
 
     def close(self) -> None:
         try:
             self.rest()
         except SystemExit:
-            self.until = time.monotonic() + OPENS
-            self.all("open")
+            self.open()
             raise
         self.until = float("inf")
         self.all("seal")
-        config = self.line("")
-        self.period.other(1).keep("bank", config)
-        self.all("next", config=config)
-        print(f"{self.period.name} is closed, with {sum(cents for _, cents in config['accounts'])} cents.")
+        line = self.all("next", self.line(""))[0]["line"]
+        self.period.other(1).keep("bank", line)
+        print(f"{self.period.name} is closed; the next period begins with {json.dumps(line['accounts'])}.")
 
 
 def main() -> None:
@@ -108,10 +117,7 @@ def main() -> None:
     asked = reader.parse_args()
     os.makedirs(asked.folder, exist_ok=True)
     books = Books(asked)
-    if asked.open:
-        books.all("open")
-    else:
-        books.close()
+    (books.open if asked.open else books.close)()
 
 
 if __name__ == "__main__":

@@ -40,23 +40,27 @@ MUTANTS = {
     "older_copy_is_served": Mutant("site_child.py", "        if entries < known:",
                                    "        known = min(known, entries)\n        if False:", FAULTS),
     "questions_are_entries": Mutant("site_child.py", '"balance", "already"', '"already"', LINES),
-    "messages_count_once_more": Mutant("site_child.py", 'changes + len(answer["then"])', "changes", LINES),
+    "messages_count_once_more": Mutant("site_child.py", ' + len(answer["then"])', "", LINES),
     "missing_journal_is_made": Mutant("site_child.py", '"--resend", "0"]', '"--resend", "0", "--new"]', FAULTS),
-    "behind_isnt_counted_anew": Mutant("desk.py", "        return {other: (clock", """\
+    "behind_isnt_counted_anew": Mutant("site_child.py", "        return {other: (clock", """\
         self.last: dict[int, int] = getattr(self, "last", None) or self.now()
         return self.last
 
     def now(self) -> dict[int, int]:
         return {other: (clock""", TOKEN),
-    "token_stays": Mutant("desk.py", "if wanting and self.words is None", "if False", TOKEN),
-    "token_goes_to_the_first": Mutant("desk.py", "(other - me) % sites", "-other", TOKEN),
-    "token_goes_at_once": Mutant("desk.py", "now >= self.view.since + HOLD", "True", TOKEN),
-    "batches_dont_wait": Mutant("desk.py", '"cause" if reply.get("refused") == 13 else "refused"', '"refused"', TOKEN),
-    "sealed_before_it_stops": Mutant("desk.py", '(step, self.words) != ("open", None):', "self.words is not None:",
+    "token_stays": Mutant("site_child.py", "if wanting and not self.closing", "if False", TOKEN),
+    "token_goes_to_the_first": Mutant("site_child.py", "(other - me) % sites", "-other", TOKEN),
+    "token_goes_at_once": Mutant("site_child.py", "now >= self.view.since + HOLD", "True", TOKEN),
+    "batches_dont_wait": Mutant("site_child.py", '"cause" if reply.get("refused") == 13 else "refused"', '"refused"',
+                                TOKEN),
+    "sealed_before_it_stops": Mutant("site_child.py", 'if step == "seal" and self.closing:', 'if step == "seal":',
                                      CLOSES),
-    "closed_by_other_words": Mutant("desk.py", '(step, self.words) != ("open", None):', "self.words is None:", CLOSES),
-    "ending_is_taken_for_sealed": Mutant("desk.py", ".get(step, site.is_sealed)", ".get(step, not serves)", CLOSES),
-    "stop_isnt_kept": Mutant("desk.py", 'period.keep("closing", asked["words"])', "pass", CLOSES),
+    "closed_by_other_words": Mutant("site_child.py", 'if not os.path.exists(self.path("bank")):', "if True:", CLOSES),
+    "ending_is_taken_for_sealed": Mutant("site_child.py", 'if step != "open" and site.is_sealed:',
+                                         'if step != "open" and (site.is_sealed or site.stopping):', CLOSES),
+    "stop_isnt_kept": Mutant("site_child.py", 'period.keep("closing", self.closing)', "pass", CLOSES),
+    "sealed_without_a_closing": Mutant("site_child.py", 'self.is_sealed and self.period.kept("closing")',
+                                       "self.is_sealed", CLOSES),
     "key_is_dropped": Mutant("service.py", 'event.setdefault("id", key)', 'event.get("id", key)', ASKS),
     "anyone_may": Mutant("service.py", "if not wanted <= may:", "if False:", TOKENS),
     "a_beginning_is_enough": Mutant("service.py", "hmac.compare_digest(row[\"token\"].encode(), given)",
@@ -64,10 +68,10 @@ MUTANTS = {
     "another_page_may": Mutant("service.py", 'request.headers.get("Origin") not in (None, *self.urls) or', "", ASKS),
     "listens_to_all": Mutant("service.py", "if not self.clients and self.host not in", "if False and self.host in",
                              TOKENS),
-    "clients_arent_stopped": Mutant("service.py", "if self.ends.is_set() or self.desk.words is not None:",
+    "clients_arent_stopped": Mutant("service.py", "if self.ends.is_set() or self.desk.closing:",
                                     "if self.ends.is_set():", ASKS),
-    "nobody_is_sent_away": Mutant("service.py", "waiting > MOST_WAITING or self.wires.unconfirmed() > MOST_UNCONFIRMED",
-                                  "False", WAITS),
+    "nobody_is_sent_away": Mutant("service.py", "self.desk.waiters > MOST_WAITING or self.wires.unconfirmed() > MOST",
+                                  "self.desk.waiters < 0 or 0 > MOST", WAITS),
     "when_to_ask_again_is_hidden": Mutant("service.py", '"Access-Control-Expose-Headers"', '"X"', ASKS),
     "a_client_sends_messages": Mutant("service.py", "or not verbs <= MAY.keys()", "", ASKS),
     "not_one_at_a_time": Mutant("wires.py", '"x-single-active-consumer": True', '"x-max-length": 10**9', QUEUES),
@@ -81,8 +85,7 @@ MUTANTS = {
         "wires.py", "min([self.site.entries, *(lines[0][0] for lines in self.out.values() if lines)])",
         "self.site.entries", QUEUES),
     "forgotten_before_confirmed": Mutant("wires.py", "                await channel.default_exchange.publish(", """\
-                for _ in part:
-                    lines.popleft()
+                del lines[:len(part)]
                 part = []
                 await channel.default_exchange.publish(""", KEEPS),
     "confirms_arent_waited_for": Mutant("wires.py", "connection.channel(on_return_raises=True)",

@@ -54,7 +54,7 @@ def states(bank: cluster.Bank) -> list[Json]:
     while True:
         found = [bank.get(site, "/state") for site in range(SITES)]
         alike = [{one["name"] for one in state["operations"]} for state in found]
-        still = not any(sum(state["unread"].values()) + sum(state["unsent"].values()) for state in found)
+        still = not any(sum(state["unsent"].values()) for state in found)
         if still and all(each == alike[0] for each in alike):
             return found
         time.sleep(0.5)

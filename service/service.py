@@ -20,9 +20,7 @@ from typing import Any
 from aiohttp import web
 from aiohttp.typedefs import Handler
 
-from desk import Desk
-from period import Fault, Json, Period, compact, last_period, load, requests_of
-from site_child import Site, until
+from site_child import Desk, Fault, Json, Site, compact, last_period, load, requests_of, until
 from wires import Wires, together
 
 HERE = os.path.dirname(os.path.abspath(__file__))
@@ -31,19 +29,16 @@ MAY = dict.fromkeys(("balance", "statement", "asof"), "read") | {"cancel": "canc
 PATHS = {"": None, "health": None, "events": set[str](), "closing": {"close"}, "journals": {"close"}}  # else `read`
 MOST_WAITING = 20_000  # events that wait for the site, beyond which clients are sent away
 MOST_UNCONFIRMED = 1_000_000  # messages that wait for the broker, the same
-FACTS = ("bank", "behind", "broker", "closing", "entries", "unread", "unsent", "up")  # those that the console is shown
-LABELS = {"behind": "site", "events_total": "event", "http_answers_total": "status",
-          "refusals_total": "number", "unread": "from", "unsent": "to"}  # of the metrics that have parts
+LABELS = {"behind": "site", "events_total": "event", "http_answers_total": "status", "refusals_total": "number",
+          "unsent": "to"}  # of the metrics that have parts
 ANSWER = 30  # seconds in which a client is answered, if only that there is no answer yet
 TOKEN = 10  # seconds that a request may wait for the token
-SHOWN = 200  # operations that the console is shown at first
 PATIENCE = 15  # seconds for each part of an orderly end
 REFUSALS: dict[str, str] = load(os.path.join(HERE, "refusals.json"))
-log = logging.getLogger("service")
 
 
 def says(status: int, value: Any) -> web.Response:
-    return web.json_response(value, status=status, dumps=compact)
+    return web.json_response(value, status=status)
 
 
 def allow(wanted: set[str], may: set[str]) -> None:
@@ -60,38 +55,32 @@ class Service:
         if not self.clients and self.host not in ("127.0.0.1", "localhost"):
             raise Fault(f"without tokens a service listens on 127.0.0.1 alone, and not on {self.host}")
         os.makedirs(self.folder, exist_ok=True)
-        if is_new == (last_period(self.folder, bank["name"]).number > 0):
+        last = last_period(self.folder, bank["name"])
+        if is_new == (last.number > 0):
             raise Fault(f"{self.folder}: {'there is a bank' if is_new else 'no bank; --new begins one'}")
-        if is_new:
-            Period(self.folder, bank["name"], 1).begin(me, bank["config"])
+        self.period = last.other(1) if is_new else last
+        self.earlier = requests_of(self.period.other(-1).journal(me))
+        self.site = Site(bank["program"], self.period, me, self.period.begin(me, bank["config"]))
+        self.view, self.desk = self.site.view, Desk(self.site)
+        self.wires = Wires(self.desk, bank["broker"])
         self.asking = dict[str, asyncio.Task[Json]]()  # requests with ids that are under way, by their lines
         self.statuses, self.ends = Counter[int](), asyncio.Event()
-        self.open_period()
-
-    def open_period(self) -> None:
-        """The last period of the folder, with all that serves it."""
-        self.period = period = last_period(self.folder, self.bank["name"])
-        self.earlier = requests_of(period.other(-1).journal(self.me))
-        self.site = Site(self.bank["program"], period, self.me, load(period.path("bank")))
-        self.view, self.desk = self.site.view, Desk(self.site)
-        self.wires = Wires(self.desk, self.bank["broker"])
-        log.info("%s at %s", period.name, self.urls[self.me])
+        logging.info("%s at %s", self.period.name, self.urls[me])
 
     # ---- events
 
     def ask(self, event: Json) -> asyncio.Future[Json]:
         """Gives the site an event, unless clients have to wait."""
-        if self.ends.is_set() or self.desk.words is not None:
+        if self.ends.is_set() or self.desk.closing:
             raise web.HTTPServiceUnavailable(text="the service ends, or its books are being closed")
-        waiting = len(self.site.asked) + self.desk.waiters
-        if waiting > MOST_WAITING or self.wires.unconfirmed() > MOST_UNCONFIRMED:
+        if len(self.site.asked) + self.desk.waiters > MOST_WAITING or self.wires.unconfirmed() > MOST_UNCONFIRMED:
             raise web.HTTPServiceUnavailable(text="too much waits")
         return self.site.ask(event)
 
     async def answer(self, event: Any, key: str | None, may: set[str]) -> tuple[int, Json]:
         """The status and what the site answers to a client's event, once that is on the disk."""
         try:
-            event = self.checked(event, key, may)
+            self.check(event, key, may)
             answer = self.known(event) or await asyncio.wait_for(asyncio.shield(self.once(event)), ANSWER)
         except web.HTTPException as why:
             return why.status, {"error": why.text}
@@ -102,19 +91,17 @@ class Service:
         if "refused" not in reply:
             return 200, reply
         error = REFUSALS.get(str(reply["refused"]), "refused")
-        return 422 if reply["refused"] == 25 else 409, reply | {"error": error}
+        return {1: 404, 25: 422}.get(reply["refused"], 409), reply | {"error": error}
 
-    def checked(self, event: Any, key: str | None, may: set[str]) -> Json:
-        """The event with its key, if it is one that the client may ask for. The site looks at the rest."""
+    def check(self, event: Any, key: str | None, may: set[str]) -> None:
+        """Gives an event its key, if it is one that the client may ask for. The site looks at the rest."""
         verbs = event.keys() - {"id", "bank"} if isinstance(event, dict) else set()
         if len(verbs) != 1 or not verbs <= MAY.keys():
             raise web.HTTPBadRequest(text="an event is an object with one of " + ", ".join(MAY))
         verb, = verbs
         if key is not None and MAY[verb] != "read" and event.setdefault("id", key) != key:
             raise web.HTTPBadRequest(text="the event has another id than its Idempotency-Key")
-        parts = event[verb] if verb == "batch" and isinstance(event[verb], list) else []
-        allow({MAY[verb], *(MAY["cancel"] for part in parts if isinstance(part, dict) and "cancel" in part)}, may)
-        return dict(event)
+        allow({MAY[verb]} | ({"cancel"} if '"cancel":' in compact(event) else set()), may)  # (it may be in a batch)
 
     def known(self, event: Json) -> Json:
         """The answer to a request that was made in the period before, unless this one is said to be meant; or none."""
@@ -122,9 +109,8 @@ class Service:
         if line is None or event.get("bank") == self.period.name:
             return {}
         entry: Json = json.loads(line)
-        if entry["event"] != {verb: given for verb, given in event.items() if verb not in ("id", "bank")}:
-            return {"reply": {"refused": 25}}
-        return {"reply": entry["reply"] | {"bank": self.period.other(-1).name}}
+        is_same = entry["event"] == {verb: given for verb, given in event.items() if verb not in ("id", "bank")}
+        return {"reply": entry["reply"] | {"bank": self.period.other(-1).name} if is_same else {"refused": 25}}
 
     def once(self, event: Json) -> asyncio.Task[Json]:
         """Asks the site. A request that is under way isn't asked beside itself, since it may be refused yet."""
@@ -137,12 +123,12 @@ class Service:
 
     async def post(self, request: web.Request) -> web.Response:
         key, may = request.headers.get("Idempotency-Key"), request["may"]
-        if request.headers.get("Content-Type", "").partition(";")[0] != "application/json":  # (else a page may send it)
-            raise web.HTTPBadRequest(text="wanted: Content-Type: application/json")
         try:
+            if request.content_type != "application/json":
+                raise ValueError("another one may be sent by anybody's page")
             event = json.loads(await request.read())
-        except (ValueError, RecursionError):
-            raise web.HTTPBadRequest(text="no JSON") from None
+        except (ValueError, RecursionError) as why:
+            raise web.HTTPBadRequest(text=f"wanted: JSON, with Content-Type: application/json ({why})") from None
         if not isinstance(event, list):
             return says(*await self.answer(event, key, may))
         keys = [None if key is None else f"{key}.{number}" for number in range(len(event))]
@@ -151,8 +137,7 @@ class Service:
 
     async def question(self, request: web.Request) -> web.Response:
         asked = {request.match_info["verb"]: request.match_info["account"]}
-        status, reply = await self.answer(asked, None, request["may"])
-        return says(404 if reply.get("refused") == 1 else status, reply)
+        return says(*await self.answer(asked, None, request["may"]))
 
     # ---- the console and machines
 
@@ -161,48 +146,37 @@ class Service:
         site, view, wires, desk = self.site, self.view, self.wires, self.desk
         return {
             "applied": view.clock.total(), "bank": self.period.name, "behind": desk.behind(),
-            "broker": bool(wires.url), "child_restarts_total": max(0, site.starts - 1),
-            "closing": desk.words is not None, "confirmed_entries": wires.confirmed(), "entries": site.entries,
-            "events_total": view.events, "held": len(view.held), "http_answers_total": self.statuses,
-            "journal_bytes": os.path.getsize(self.period.journal(self.me)), "refusals_total": view.refused,
+            "broker": wires.is_connected, "child_restarts_total": max(0, site.starts - 1), "closing": desk.closing,
+            "confirmed_entries": wires.confirmed(), "entries": site.entries, "events_total": view.events,
+            "held": len(view.held), "http_answers_total": self.statuses, "refusals_total": view.refused, "up": site.up,
+            "journal_bytes": os.path.getsize(self.period.journal(self.me)), "waiting": len(site.asked),
             "site": self.me, "token_epoch": view.token["epoch"], "token_here": view.token["here"],
-            "unread": wires.depth, "unsent": {at: len(lines) for at, lines in wires.out.items()}, "up": site.up,
-            "waiting": len(site.asked), "waiting_for_token": desk.waiters}
+            "unsent": {at: len(lines) for at, lines in wires.out.items()}, "waiting_for_token": desk.waiters}
 
-    async def shown(self, place: int) -> Json:
-        """What the console is shown, with the operations behind a place."""
+    async def shown(self) -> Json:
+        """What the console is shown."""
         if self.site.up and self.view.stale:
             await asyncio.wait({asyncio.ensure_future(self.view.refresh(self.site.ask))}, timeout=2)
-        facts = self.facts()
-        return self.view.shown(place) | {name: facts[name] for name in FACTS}
+        return self.facts() | self.view.shown() | {"sites": self.urls}
 
     async def state(self, request: web.Request) -> web.Response:
-        return says(200, await self.shown(self.view.clock.total() - SHOWN))
+        return says(200, await self.shown())
 
     async def live(self, request: web.Request) -> web.StreamResponse:
-        """The state, and then what changes in it, ten times a second at most; less often to one who reads slowly."""
+        """The state, and again whenever it changed, ten times a second at most; less often to one who reads slowly."""
         response = web.StreamResponse(headers={"Content-Type": "text/event-stream", "Cache-Control": "no-store"})
         await response.prepare(request)
-        view, place, before = self.view, self.view.clock.total() - SHOWN, ""
+        before = ""
         with contextlib.suppress(ConnectionError):
             while not self.ends.is_set() and request.transport:
-                if view is not self.view:
-                    view, place = self.view, 0
-                now = await self.shown(place)
-                place = view.clock.total()
-                rest = compact(now | {"operations": []})
-                if now["operations"] or rest != before:
-                    await response.write(f"data: {compact(now)}\n\n".encode())
-                before = rest
+                if (now := json.dumps(await self.shown())) != before:
+                    await response.write(f"data: {now}\n\n".encode())
+                before = now
                 await asyncio.sleep(0.1)
         return response
 
     async def console(self, request: web.Request) -> web.FileResponse:
         return web.FileResponse(os.path.join(HERE, "console.html"))
-
-    async def peers(self, request: web.Request) -> web.Response:
-        return says(200, {"accounts": [*self.view.balances], "bank": self.period.name, "me": self.me,
-                          "sites": self.urls})
 
     async def health(self, request: web.Request) -> web.Response:
         facts = {name: sum(it.values()) if isinstance(it, dict) else it for name, it in self.facts().items()}
@@ -255,60 +229,47 @@ class Service:
         if response.status == 503:
             response.headers["Retry-After"] = "1"
         if request.headers.get("Origin") in self.urls:
-            response.headers.update({
-                "Access-Control-Allow-Origin": request.headers["Origin"], "Vary": "Origin",
-                "Access-Control-Allow-Headers": "Authorization, Content-Type, Idempotency-Key",
-                "Access-Control-Expose-Headers": "Retry-After"})
-
-    def app(self) -> web.Application:
-        app = web.Application(middlewares=[self.guard], client_max_size=1 << 20)
-        app.on_response_prepare.append(self.finish)
-        app.add_routes([
-            web.get("/", self.console), web.get("/{verb:balance|statement}/{account}", self.question),
-            web.post("/events", self.post), web.get("/state", self.state), web.get("/live", self.live),
-            web.get("/health", self.health), web.get("/metrics", self.metrics), web.get("/peers", self.peers),
-            web.post("/closing", self.step), web.static("/journals", self.folder)])
-        return app
-
-    async def child(self) -> None:
-        """The site's children, until the next period has begun."""
-        await self.site.run()
-        if not self.ends.is_set() and self.desk.words is None:
-            raise Fault(f"{self.period.journal(self.me)} is sealed, and its books aren't being closed")
-        await self.desk.next.wait()
+            response.headers.update({"Access-Control-Allow-Origin": request.headers["Origin"], "Vary": "Origin",
+                                     "Access-Control-Allow-Headers": "Authorization, Content-Type, Idempotency-Key",
+                                     "Access-Control-Expose-Headers": "Retry-After"})
 
     async def ending(self) -> None:
         """An orderly end: all that was asked is answered, and what was reported is confirmed."""
         await self.ends.wait()
         await self.site.stop(PATIENCE)
-        await until(lambda: self.site.ended.is_set() and not self.wires.unconfirmed(), PATIENCE)
+        await until(lambda: not self.wires.unconfirmed(), PATIENCE)
         self.period.keep("confirmed", self.wires.confirmed())
 
     async def run(self) -> None:
+        """Serves clients until the service ends, or the next period has begun: then this process starts anew."""
         for number in signal.SIGTERM, signal.SIGINT:
             asyncio.get_running_loop().add_signal_handler(number, self.ends.set)
-        runner = web.AppRunner(self.app(), access_log=None)
+        app = web.Application(middlewares=[self.guard], client_max_size=1 << 20)
+        app.on_response_prepare.append(self.finish)
+        app.add_routes([web.get("/", self.console), web.get("/{verb:balance|statement}/{account}", self.question),
+                        web.post("/events", self.post), web.get("/state", self.state), web.get("/live", self.live),
+                        web.get("/health", self.health), web.get("/metrics", self.metrics),
+                        web.post("/closing", self.step), web.static("/journals", self.folder)])
+        runner = web.AppRunner(app, access_log=None)
         await runner.setup()
         host = self.bank.get("listen", self.host)
         await web.TCPSite(runner, host, int(self.port), shutdown_timeout=1, backlog=1024).start()
-        while not self.ends.is_set():
-            await together(PATIENCE, self.child(), self.wires.run(), self.desk.run(), self.ending())
-            if not self.ends.is_set():
-                self.open_period()
+        await together(PATIENCE, self.site.run(), self.wires.run(), self.desk.run(), self.ending())
         await runner.cleanup()
+        if not self.ends.is_set():
+            os.execv(sys.executable, [sys.executable, *sys.argv[:3]])
 
 
 async def main() -> None:
     words = sys.argv[1:]
     if len(words) not in (2, 3) or not words[1].isdigit() or words[2:] not in ([], ["--new"]):
         sys.exit(__doc__.partition("\n\n")[2].partition("\n")[0])
-    logging.basicConfig(level=logging.INFO, format=f"%(asctime)s site {words[1]} %(name)s: %(message)s")
-    for quiet in ("aiormq", "aio_pika"):
-        logging.getLogger(quiet).setLevel(logging.CRITICAL)
+    logging.basicConfig(level=logging.INFO, format=f"%(asctime)s site {words[1]}: %(message)s")
+    logging.getLogger("aiormq").setLevel(logging.CRITICAL)  # (wires.py says how a connection failed)
     try:
         await Service(load(words[0]), int(words[1]), "--new" in words).run()
     except Fault as why:
-        log.error("%s", why)
+        logging.error("%s", why)
         sys.exit(2)
 
 

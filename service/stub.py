@@ -1,6 +1,6 @@
 """Sites of a bank that answer the console as services do, from states that real ones reported: for browse.py.
 
-Nothing is proved here and nothing is kept: a deposit gets the next name, a cancellation marks its operation, a pass
+Nothing is proved here and nothing is kept: a deposit gets the next name, a cancellation names its operation, a pass
 moves the token, and whatever else is asked gets the reply that the test gave for its line. A site can be taken down,
 made silent, or lose its replies.
 """
@@ -81,7 +81,7 @@ class Handler(http.server.BaseHTTPRequestHandler):
         elif verb in ("balance", "statement"):
             self.answer(*site.bank.question(site, verb, account))
         else:
-            self.answer(site.bank.peers(site) if verb == "peers" else {"up": True})
+            self.answer(site.state | {"sites": site.bank.addresses} if verb == "state" else {"up": True})
 
     def live(self, site: Site) -> None:
         self.send_response(200)
@@ -167,11 +167,10 @@ class Site:
         """Waits while the site is silent: its connections stay, and nothing is answered."""
         self.speaks.wait()
 
-    def tell(self, names: list[str]) -> None:
-        """Those who listen get what changed."""
-        changed = [one for one in self.state["operations"] if one["name"] in names]
+    def tell(self) -> None:
+        """Those who listen get the state, since it changed."""
         for waiting in list(self.listeners) if self.speaks.is_set() else []:
-            waiting.put(copy.deepcopy(self.state) | {"operations": copy.deepcopy(changed)})
+            waiting.put(copy.deepcopy(self.state))
 
 
 class Bank:
@@ -186,10 +185,6 @@ class Bank:
         self.addresses: list[str] = []
         self.sites = [Site(self, number, copy.deepcopy(state)) for number, state in enumerate(states)]
         self.addresses += [f"http://127.0.0.1:{site.port}" for site in self.sites]
-
-    def peers(self, site: Site) -> Json:
-        accounts = list(site.state["balances"])
-        return {"accounts": accounts, "bank": self.name, "me": site.number, "sites": self.addresses}
 
     def question(self, site: Site, verb: str, account: str) -> tuple[Json, int]:
         balance = site.state["balances"].get(account)
@@ -208,7 +203,7 @@ class Bank:
         if "pass" in event:
             for each in self.up():
                 each.state["token"] = {"epoch": 9, "here": each.number == event["pass"], "to": event["pass"]}
-                each.tell([])
+                each.tell()
             return {"passed": 9}
         return self.replies.get(json.dumps(event), {"refused": 8, "error": "the site hasn't the token"})
 
@@ -224,14 +219,14 @@ class Bank:
             clock = each.state["applied"]
             clock[0] = [*(dict(clock[0]) | {site.number: max(numbers, default=0) + 1}).items()]
             place = max((one["place"] for one in each.state["operations"]), default=0) + 1
-            each.state["operations"].append(operation | {"name": name, "cancelled": False, "place": place})
+            each.state["operations"].append(operation | {"name": name, "place": place})
         return {"kind": operation["kind"], "name": name}
 
     def deposit(self, site: Site, account: str, amount: int) -> Json:
         reply = self.made(site, {"account": account, "amount": amount, "kind": "deposit"})
         for each in self.up():
             each.state["balances"][account] += amount
-            each.tell([reply["name"]])
+            each.tell()
         return reply
 
     def cancel(self, site: Site, target: str) -> Json:
@@ -240,9 +235,7 @@ class Bank:
             return {"refused": 4}
         reply = self.made(site, {"account": known[target]["account"], "amount": 0, "kind": "cancel", "target": target})
         for each in self.up():
-            for one in each.state["operations"]:
-                one["cancelled"] |= one["name"] == target
-            each.tell([reply["name"], target])
+            each.tell()
         return reply
 
     def stop(self) -> None:

@@ -11,25 +11,21 @@ import contextlib
 import itertools
 import json
 import logging
-from collections import Counter, deque
 from collections.abc import Coroutine
 from typing import Any
 
 import aio_pika
 from aio_pika.abc import AbstractChannel, AbstractConnection, AbstractIncomingMessage, AbstractQueue
 
-from desk import Desk
-from period import Json, compact
-from site_child import until
+from site_child import Desk, Json, compact, until
 
 MOST_LINES = 500  # of one message of the broker
 PREFETCH = 4  # deliveries of each queue that wait here
 PATIENCE = 20  # seconds for a confirm, or whatever else is asked of the broker
-LONG = 60  # seconds that a queue may wait for an operation that others bring
-SAY = 1.0  # seconds between two times that a service says where it is
+LONG = 60  # seconds that a queue may be silent, or wait for an operation that others bring
+SAY = 0.1  # seconds between two times that a service says where it is
 FULL = (16, 23)  # refusals of a message that isn't lost by them: its queue waits
 FAULTS = (aio_pika.exceptions.AMQPError, OSError, asyncio.TimeoutError, RuntimeError)
-log = logging.getLogger("wires")
 
 
 async def together(again: float, *parts: Coroutine[Any, Any, Any]) -> None:
@@ -38,8 +34,7 @@ async def together(again: float, *parts: Coroutine[Any, Any, Any]) -> None:
     tasks = {asyncio.create_task(part) for part in parts}
     try:
         done, _ = await asyncio.wait(tasks, return_when=asyncio.FIRST_COMPLETED)
-        for task in done:
-            task.result()
+        done.pop().result()
     finally:
         while left := [task for task in tasks if not task.done()]:
             for task in left:
@@ -58,11 +53,10 @@ def message_of(line: bytes) -> Json:
 
 class Wires:
     def __init__(self, desk: Desk, urls: list[str]) -> None:
-        self.site, self.period, self.desk, self.urls, self.url = desk.site, desk.period, desk, urls, ""
+        self.site, self.period, self.desk, self.urls, self.is_connected = desk.site, desk.site.period, desk, urls, False
         self.others = [other for other in range(self.site.config["sites"]) if other != self.site.me]
-        self.out: dict[int, deque[tuple[int, str]]] = {other: deque() for other in self.others}  # entries and lines
+        self.out: dict[int, list[tuple[int, str]]] = {other: [] for other in self.others}  # entries, and their lines
         self.more = {other: asyncio.Event() for other in self.others}
-        self.depth = dict[int, int]()  # by other site, how many deliveries wait in its queue to this one
         self.site.send = self.send
 
     def send(self, entry: int, messages: list[Json]) -> None:
@@ -80,31 +74,24 @@ class Wires:
         return min([self.site.entries, *(lines[0][0] for lines in self.out.values() if lines)])
 
     async def run(self) -> None:
-        """Goes from node to node of the broker, until one takes us."""
+        """Goes from node to node of the broker, until one takes us, and to the next once the connection fails."""
         before = ""
         for url in itertools.cycle(self.urls):
             try:
                 connection = await aio_pika.connect(url, timeout=PATIENCE)
+                parts = [part(connection, site) for part in (self.publish, self.receive) for site in self.others]
                 try:
-                    await self.session(url, connection)
+                    self.is_connected = True
+                    await together(1, self.talk(connection), *parts)
                 finally:
-                    self.url = ""
+                    self.is_connected = False
                     with contextlib.suppress(*FAULTS):
                         await asyncio.wait_for(connection.close(), PATIENCE)
             except FAULTS as fault:
                 if (why := repr(fault)[:200]) != before:
-                    log.warning("%s: %s", url.rpartition("@")[2], why)
+                    logging.warning("%s: %s", url.rpartition("@")[2], why)
                 before = why
             await asyncio.sleep(0.2)
-
-    async def session(self, url: str, connection: AbstractConnection) -> None:
-        """What is done while a connection lasts."""
-        gone = asyncio.Event()
-        connection.close_callbacks.add(lambda *_: gone.set())
-        self.url = url
-        parts = [part(connection, site) for part in (self.publish, self.receive) for site in self.others]
-        await together(1, gone.wait(), self.look(connection), self.talk(connection), *parts)
-        raise ConnectionError("the connection ended")
 
     async def queue(self, channel: AbstractChannel, sender: int, receiver: int) -> AbstractQueue:
         """The queue of a pair. Both ends make it, so nothing is published if there is none."""
@@ -117,23 +104,23 @@ class Wires:
         channel, lines = await connection.channel(on_return_raises=True), self.out[site]
         queue = await self.queue(channel, self.site.me, site)
         while True:
-            while part := [line for _, line in itertools.islice(lines, MOST_LINES)]:
+            while part := [line for _, line in lines[:MOST_LINES]]:
                 message = aio_pika.Message("\n".join(part).encode(), delivery_mode=aio_pika.DeliveryMode.PERSISTENT)
                 await channel.default_exchange.publish(message, queue.name, timeout=PATIENCE)
-                for _ in part:
-                    lines.popleft()
+                del lines[:len(part)]
             self.more[site].clear()
             await self.more[site].wait()
 
     async def receive(self, connection: AbstractConnection, site: int) -> None:
         """Gives the site what another one sent, and acknowledges what it answered. The consumer isn't cancelled, but it
-        ends with its channel: else the next one would be given later messages before those that are in hand here."""
+        ends with its channel: else the next one would be given later messages before those that are in hand here. A
+        node's death may end a channel without a word, so after a long silence a new session is tried."""
         channel, came = await connection.channel(), asyncio.Queue()  # type: Any, asyncio.Queue[AbstractIncomingMessage]
         await channel.queue_delete(f"{self.period.other(-1).name}.{site}.{self.site.me}", timeout=PATIENCE)
         await channel.set_qos(prefetch_count=PREFETCH, timeout=PATIENCE)
         await (await self.queue(channel, site, self.site.me)).consume(came.put, timeout=PATIENCE)
         while True:
-            delivery = await came.get()
+            delivery = await asyncio.wait_for(came.get(), LONG)
             await self.take(delivery.body)
             await delivery.ack()
 
@@ -149,37 +136,18 @@ class Wires:
                     raise ConnectionError(f"nothing was applied for {LONG} s, and a queue waits")
                 seen, future = view.clock.total(), self.site.ask(message_of(line))
             if "refused" in answer.get("reply", {"refused"}):
-                log.error("the site doesn't take %r: %s", line[:500], compact(answer)[:200])
-
-    async def look(self, connection: AbstractConnection) -> None:
-        """How many messages wait in the queues to this site; and writes down what is confirmed."""
-        channel, alone = await connection.channel(), Counter()  # type: AbstractChannel, Counter[int]
-        while True:
-            await asyncio.sleep(1)
-            for site in self.others:
-                found = (await self.queue(channel, site, self.site.me)).declaration_result
-                self.depth[site] = found.message_count or 0
-                alone[site] = 0 if found.consumer_count else alone[site] + 1
-                if alone[site] > PATIENCE:
-                    raise ConnectionError("a queue has no consumer: its channel is gone")
-            self.period.keep("confirmed", self.confirmed(), lasting=False)
+                logging.error("the site doesn't take %r: %s", line[:500], compact(answer)[:200])
 
     async def talk(self, connection: AbstractConnection) -> None:
-        """Says where this service is once a second, and at once if there is news, and hears the others."""
+        """Says again and again where this service is, hears the others, and writes down what is confirmed."""
         channel = await connection.channel()
         exchange = await channel.declare_exchange(f"{self.period.name}.services", aio_pika.ExchangeType.FANOUT,
                                                   auto_delete=True, timeout=PATIENCE)
         queue = await channel.declare_queue(exclusive=True, timeout=PATIENCE)
         await queue.bind(exchange, timeout=PATIENCE)
-        await queue.consume(self.heard, no_ack=True, timeout=PATIENCE)
+        await queue.consume(self.desk.hears, no_ack=True, timeout=PATIENCE)
         while True:
             said = aio_pika.Message(compact(self.desk.says()).encode())
             await exchange.publish(said, "", mandatory=False, timeout=PATIENCE)
-            await asyncio.sleep(0.02)
-            with contextlib.suppress(asyncio.TimeoutError):
-                await asyncio.wait_for(self.desk.news.wait(), SAY)
-            self.desk.news.clear()
-
-    async def heard(self, message: AbstractIncomingMessage) -> None:
-        with contextlib.suppress(ValueError, KeyError, TypeError):
-            self.desk.hears(json.loads(message.body))
+            self.period.keep("confirmed", self.confirmed(), lasting=False)
+            await asyncio.sleep(SAY)
