@@ -131,11 +131,12 @@ class Run:
         """A request by its key, at times twice at a time."""
         self.told[key] = told = Told(site, event)
         if self.pick.random() < 0.05:
-            replies = list(await asyncio.gather(*(self.asks(site, event, key) for _ in range(2))))
-            self.same(key, *replies)
+            replies = await asyncio.gather(*(self.asks(site, event, key) for _ in range(2)))
+            told.reply, other = sorted(replies, key=lambda reply: not names_of(reply))
+            if names_of(other):  # (else one was refused before the other one was made)
+                self.same(key, told.reply, other)
         else:
-            replies = [await self.asks(site, event, key)]
-        told.reply = replies[0]
+            told.reply = await self.asks(site, event, key)
         return told.reply
 
     def same(self, key: str, first: Json, second: Json) -> None:

@@ -565,7 +565,7 @@ async def ordered(folder: str, broker: cluster.Cluster) -> None:
     same("confirmed before there is a broker", sender.confirmed(), 0)
     tasks = [asyncio.create_task(first.run())]
     await until("connected", lambda: bool(first.is_connected))
-    module.MOST_LINES = 1  # a message of the broker for each
+    module.MOST_LINES, module.SILENCE = 1, 0.5  # a message of the broker for each; consumers are made anew often
     tasks.append(asyncio.create_task(sender.run()))
     await until("the first is asked", lambda: bool(slow.asked))
     await until("all is confirmed", lambda: sender.confirmed() == 7 and not sender.unconfirmed())

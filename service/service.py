@@ -144,14 +144,13 @@ class Service:
     def facts(self) -> Json:
         """Where the service is, and what it counts."""
         site, view, wires, desk = self.site, self.view, self.wires, self.desk
-        return {
-            "applied": view.clock.total(), "bank": self.period.name, "behind": desk.behind(),
-            "broker": wires.is_connected, "child_restarts_total": max(0, site.starts - 1), "closing": desk.closing,
-            "confirmed_entries": wires.confirmed(), "entries": site.entries, "events_total": view.events,
-            "held": len(view.held), "http_answers_total": self.statuses, "refusals_total": view.refused, "up": site.up,
-            "journal_bytes": os.path.getsize(self.period.journal(self.me)), "waiting": len(site.asked),
-            "site": self.me, "token_epoch": view.token["epoch"], "token_here": view.token["here"],
-            "unsent": {at: len(lines) for at, lines in wires.out.items()}, "waiting_for_token": desk.waiters}
+        return {"applied": view.clock.total(), "bank": self.period.name, "behind": desk.behind(), "up": site.up,
+                "broker": wires.is_connected, "child_restarts_total": max(0, site.starts - 1), "entries": site.entries,
+                "closing": desk.closing, "confirmed_entries": wires.confirmed(), "events_total": view.events,
+                "held": len(view.held), "http_answers_total": self.statuses, "refusals_total": view.refused,
+                "journal_bytes": os.path.getsize(self.period.journal(self.me)), "waiting": len(site.asked),
+                "site": self.me, "token_epoch": view.token["epoch"], "token_here": view.token["here"],
+                "unsent": {at: len(lines) for at, lines in wires.out.items()}, "waiting_for_token": desk.waiters}
 
     async def shown(self) -> Json:
         """What the console is shown."""

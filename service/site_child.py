@@ -32,7 +32,6 @@ from view import KEPT, Json as Json, View
 
 REQUESTS = {"deposit", "withdraw", "interest", "transfer", "cancel", "batch"}  # what has an id
 LEAVE_NO_ENTRY = {"refused", "balance", "already", "stale", "about", "resent"}
-LACKS_TOKEN = (8, 9)  # refusals for want of the token, or of the red operations before
 HOLD = 0.1  # seconds that a site keeps the token for its own clients
 HEARD = 3.0  # seconds for which a site is taken to want the token after it said so
 TAIL = 4 << 20  # bytes of the journal that are read as a child starts
@@ -247,8 +246,9 @@ class Site:
 
 
 def lacks(reply: Json) -> bool:
-    """Whether a request, alone or in a batch, was refused for want of the token."""
-    return reply.get("cause" if reply.get("refused") == 13 else "refused") in LACKS_TOKEN
+    """Whether a request, alone or in a batch (13), was refused for want of the token (8), or of the red operations that
+    were made where it was before (9)."""
+    return reply.get("cause" if reply.get("refused") == 13 else "refused") in (8, 9)
 
 
 class Desk:

@@ -15,14 +15,15 @@ from collections.abc import Coroutine
 from typing import Any
 
 import aio_pika
-from aio_pika.abc import AbstractChannel, AbstractConnection, AbstractIncomingMessage, AbstractQueue
+from aio_pika.abc import AbstractChannel, AbstractConnection, AbstractQueue
 
 from site_child import Desk, Json, compact, until
 
 MOST_LINES = 500  # of one message of the broker
 PREFETCH = 4  # deliveries of each queue that wait here
 PATIENCE = 20  # seconds for a confirm, or whatever else is asked of the broker
-LONG = 60  # seconds that a queue may be silent, or wait for an operation that others bring
+SILENCE = 20  # seconds after which a queue is given another consumer
+LONG = 60  # seconds that a queue may wait for an operation that others bring
 SAY = 0.1  # seconds between two times that a service says where it is
 FULL = (16, 23)  # refusals of a message that isn't lost by them: its queue waits
 FAULTS = (aio_pika.exceptions.AMQPError, OSError, asyncio.TimeoutError, RuntimeError)
@@ -114,15 +115,17 @@ class Wires:
     async def receive(self, connection: AbstractConnection, site: int) -> None:
         """Gives the site what another one sent, and acknowledges what it answered. The consumer isn't cancelled, but it
         ends with its channel: else the next one would be given later messages before those that are in hand here. A
-        node's death may end a channel without a word, so after a long silence a new session is tried."""
-        channel, came = await connection.channel(), asyncio.Queue()  # type: Any, asyncio.Queue[AbstractIncomingMessage]
-        await channel.queue_delete(f"{self.period.other(-1).name}.{site}.{self.site.me}", timeout=PATIENCE)
-        await channel.set_qos(prefetch_count=PREFETCH, timeout=PATIENCE)
-        await (await self.queue(channel, site, self.site.me)).consume(came.put, timeout=PATIENCE)
+        node's death may end a consumer without a word, so after a silence there is another one."""
         while True:
-            delivery = await asyncio.wait_for(came.get(), LONG)
-            await self.take(delivery.body)
-            await delivery.ack()
+            channel, came = await connection.channel(), asyncio.Queue()  # type: Any, asyncio.Queue[Any]
+            await channel.queue_delete(f"{self.period.other(-1).name}.{site}.{self.site.me}", timeout=PATIENCE)
+            await channel.set_qos(prefetch_count=PREFETCH, timeout=PATIENCE)
+            await (await self.queue(channel, site, self.site.me)).consume(came.put, timeout=PATIENCE)
+            with contextlib.suppress(asyncio.TimeoutError):
+                while delivery := await asyncio.wait_for(came.get(), SILENCE):
+                    await self.take(delivery.body)
+                    await delivery.ack()
+            await channel.close()
 
     async def take(self, body: bytes) -> None:
         """Has the site answer each message of a delivery. One that finds no place is given again, until it does: it may
