@@ -546,7 +546,7 @@ async def keeps(folder: str) -> None:
 
 
 async def queues(folder: str) -> None:
-    """A queue gives what it has in order, to one at a time; and what it has confirmed is counted."""
+    """A queue gives what it has in order, to one at a time, and what it has confirmed is counted; it may be lost."""
     broker = cluster.Cluster(folder, PATIENCE)
     try:
         broker.start(0)
@@ -583,6 +583,9 @@ async def ordered(folder: str, broker: cluster.Cluster) -> None:
     late.up.set()
     await until("the second has all", lambda: len(late.asked) >= len(names))
     same("in order", late.asked, names)
+    await asyncio.to_thread(broker.ctl, 0, "delete_queue", f"{NAME}.0.1")  # its consumer ends without a word
+    sender.send(41, [{"shadow": {"name": "B0.42"}}])
+    await until("a consumer that was lost is there again", lambda: late.asked[-1] == "B0.42")
     for task in tasks:
         task.cancel()
     await asyncio.gather(*tasks, return_exceptions=True)

@@ -75,12 +75,13 @@ MUTANTS = {
     "when_to_ask_again_is_hidden": Mutant("service.py", '"Access-Control-Expose-Headers"', '"X"', ASKS),
     "a_client_sends_messages": Mutant("service.py", "or not verbs <= MAY.keys()", "", ASKS),
     "not_one_at_a_time": Mutant("wires.py", '"x-single-active-consumer": True', '"x-max-length": 10**9', QUEUES),
-    "acknowledged_before_answered": Mutant("wires.py", '''            await self.take(delivery.body)
-            await delivery.ack()
-''', '''            await delivery.ack()
-            await asyncio.sleep(0.005)
-            await self.take(delivery.body)
+    "acknowledged_before_answered": Mutant("wires.py", '''await self.take(delivery.body)
+                    await delivery.ack()
+''', '''await delivery.ack()
+                    await asyncio.sleep(0.005)
+                    await self.take(delivery.body)
 ''', QUEUES),
+    "silence_is_borne": Mutant("wires.py", "await asyncio.wait_for(came.get(), SILENCE)", "await came.get()", QUEUES),
     "confirmed_before_the_broker": Mutant(
         "wires.py", "min([self.site.entries, *(lines[0][0] for lines in self.out.values() if lines)])",
         "self.site.entries", QUEUES),

@@ -180,8 +180,7 @@ class Site:
             is_expected = self.is_sealed and self.period.kept("closing") or "journal is in use" in errors
             if status == 2 and not is_expected:
                 raise Fault(errors)
-            if status:
-                logging.warning("the child ended in %s: %s", status, errors)
+            logging.info("the child ended in %s: %s", status, errors)
             await asyncio.sleep(1 if status > 2 else 0.1)  # (above 2 the disk is full, or there is no memory)
         await self.next.wait()
 

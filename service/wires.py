@@ -122,7 +122,8 @@ class Wires:
             await channel.set_qos(prefetch_count=PREFETCH, timeout=PATIENCE)
             await (await self.queue(channel, site, self.site.me)).consume(came.put, timeout=PATIENCE)
             with contextlib.suppress(asyncio.TimeoutError):
-                while delivery := await asyncio.wait_for(came.get(), SILENCE):
+                while True:
+                    delivery = await asyncio.wait_for(came.get(), SILENCE)
                     await self.take(delivery.body)
                     await delivery.ack()
             await channel.close()
