@@ -1,4 +1,4 @@
-.PHONY: help demo try play play-test build install install-libs test gate-library gate-cases toolchain check \
+.PHONY: help demo try play play-test build install install-libs test gate-cases toolchain check \
 	examples bench bindings refuse wrong-bodies crash disk wires broker service service-setup service-test service-page \
 	service-mutants
 
@@ -136,12 +136,10 @@ test: toolchain
 	tests/plain_words.py --check
 	bindings/declarations.py --check
 	rt ci
-	@$(MAKE) --no-print-directory -j2 gate-library gate-cases
+	@bindings/build.py --of-gate & library=$$!; $(MAKE) --no-print-directory gate-cases; cases=$$?; \
+		wait $$library && exit $$cases
 
-# What the gate does with what it proved: the library for C is built of it, and its program is put to all cases.
-gate-library:
-	@bindings/build.py --of-gate
-
+# What the gate does with the program that it proved, while the library for C is built beside it.
 gate-cases:
 	@tests/refuse.py --gate crates/rb_tests/out/rb_tests_tests crates/rb_tests_runs/out/rb_tests_runs_tests
 	@examples/tools/bank.py --record crates/rbbank/out/rbbank
