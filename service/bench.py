@@ -273,7 +273,7 @@ def main() -> None:
     signal.signal(signal.SIGTERM, signal.default_int_handler)  # what was started is ended
     stops: list[Callable[[], None]] = []
     found: dict[str, list[float]] = {}
-    with tempfile.TemporaryDirectory(prefix="bench-", dir=asked.disk) as folder:
+    with tempfile.TemporaryDirectory(prefix="bench-", dir=os.path.abspath(asked.disk)) as folder:
         os.chmod(folder, 0o755)
         try:
             all_of_them = list(measures(asked, folder, stops))
