@@ -7,7 +7,7 @@ help:
 	@echo '  make demo          the stored run, drawn, each command beside its reply; a minute'
 	@echo '  make try FILE=examples/scripts/stale_token.jsonl'
 	@echo '                     a script, histories or a migration (NAME.migration.jsonl), by the built program; if none'
-	@echo '                     is built from these sources, with no proof, and it builds for a minute each time'
+	@echo '                     is built from these sources, with no proof: the first file waits a minute for it'
 	@echo
 	@echo 'With time (on four processors; on two it takes about twice as long):'
 	@echo '  make build         proves and builds the program; less than an hour the first time'
