@@ -30,9 +30,9 @@ def ask(bank: cluster.Bank, site: int, event: Json) -> Json:
                                      {"Content-Type": "application/json"})
     try:
         with urllib.request.urlopen(request, timeout=60) as reply:
-            return json.load(reply)
+            return dict(json.load(reply))
     except urllib.error.HTTPError as fault:
-        return json.load(fault)
+        return dict(json.load(fault))
 
 
 def work(bank: cluster.Bank) -> None:

@@ -22,7 +22,7 @@ from site_child import Desk, Json, compact, until
 MOST_LINES = 500  # of one message of the broker
 PREFETCH = 4  # deliveries of each queue that wait here
 PATIENCE = 20  # seconds for a confirm, or whatever else is asked of the broker
-SILENCE = 20  # seconds after which a queue is given another consumer
+SILENCE = 20.0  # seconds after which a queue is given another consumer
 LONG = 60  # seconds that a queue may wait for an operation that others bring
 SAY = 0.1  # seconds between two times that a service says where it is
 FULL = (16, 23)  # refusals of a message that isn't lost by them: its queue waits
