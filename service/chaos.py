@@ -105,10 +105,12 @@ class Run:
             return {"batch": [{"deposit": [account, self.number]}, {"withdraw": [account, self.number - 1]}]}
         return {verb if verb != "cancel" else "deposit": [account, self.number]}
 
-    async def asks(self, site: int, event: Any, key: str | None) -> Any:
-        """Asks until there is a reply: after a lost one at once, or after a moment."""
+    async def asks(self, site: int, event: Any, key: str | None, tries: list[float] | None = None) -> Any:
+        """Asks until there is a reply: after a lost one at once, or after a moment. `tries` gets when each began."""
         begun, headers = time.monotonic(), {} if key is None else {"Idempotency-Key": key}
         while True:
+            if tries is not None:
+                tries.append(time.monotonic())
             try:
                 async with self.session.post(f"http://{self.bank.http[site]}/events", json=event,
                                              headers=headers) as got:
@@ -128,15 +130,24 @@ class Run:
             await asyncio.sleep(self.pick.choice([0, 0, 0.1]))
 
     async def once(self, site: int, event: Json, key: str) -> Json:
-        """A request by its key, at times twice at a time."""
+        """A request by its key, at times twice at a time: one may be refused before the other one is made."""
         self.told[key] = told = Told(site, event)
-        if self.pick.random() < 0.05:
-            replies = await asyncio.gather(*(self.asks(site, event, key) for _ in range(2)))
-            told.reply, other = sorted(replies, key=lambda reply: not names_of(reply))
-            if names_of(other):  # (else one was refused before the other one was made)
-                self.same(key, told.reply, other)
-        else:
+        if self.pick.random() >= 0.05:
             told.reply = await self.asks(site, event, key)
+            return told.reply
+
+        async def one() -> tuple[Json, float, float]:
+            tries: list[float] = []
+            return await self.asks(site, event, key, tries), tries[-1], time.monotonic()
+
+        both = await asyncio.gather(one(), one())
+        (told.reply, _, came), (other, begun, _) = sorted(both, key=lambda each: not names_of(each[0]))
+        if names_of(other):
+            self.same(key, told.reply, other)
+        elif names_of(told.reply):
+            if begun > came:
+                raise Wrong(f"{key}: {event} was answered {told.reply}, and asked after that {other}")
+            await self.again(key)
         return told.reply
 
     def same(self, key: str, first: Json, second: Json) -> None:
