@@ -1,5 +1,5 @@
 .PHONY: help demo try play play-test build install install-libs test gate-cases toolchain check \
-	examples bench bindings refuse wrong-bodies crash disk wires broker service service-setup service-test service-page \
+	examples bench bindings refuse mutants crash disk wires broker service service-setup service-test service-page \
 	service-mutants
 
 help:
@@ -26,8 +26,8 @@ help:
 	@echo
 	@echo 'While you change something:'
 	@echo '  make check         proves every crate, over what earlier checks kept'
-	@echo '  make wrong-bodies CRATE=rb_ledger'
-	@echo '                     the mutants of a crate that the gate leaves out; without CRATE all of them, some hours'
+	@echo '  make mutants CRATE=rb_ledger'
+	@echo '                     the mutants of a crate that the gate leaves out; without CRATE all of them, some two hours'
 	@echo '  make refuse        each allocation of the program and of five tests refused in turn; wants a C compiler, cc'
 	@echo '  make bench         the measurements of bench/README.md, some ten minutes'
 	@echo '  make crash         sites ended at random moments, over and over, and started again; books closed between, and'
@@ -131,8 +131,7 @@ bindings:
 test: toolchain
 	examples/tools/from_rows.py --check
 	tests/closure.py --check
-	tests/sizes.py
-	tests/wrong_bodies.py --check
+	tests/mutants.py --check
 	tests/plain_words.py --check
 	bindings/declarations.py --check
 	rt ci
@@ -226,5 +225,5 @@ refuse: build
 		crates/rb_tests_runs/out/rb_tests_runs_tests
 
 # The mutants that the gate leaves out for its time.
-wrong-bodies:
-	@tests/wrong_bodies.py $(or $(CRATE),--all)
+mutants:
+	@tests/mutants.py $(or $(CRATE),--all)

@@ -1,17 +1,22 @@
 #!/usr/bin/env python3
-"""Tries the mutants that the gate leaves out for its time: those of tests/wrong_bodies/*.edits. The prover must refuse
-each.
+"""Tries the mutants that the gate leaves out for its time: those of tests/mutants/*.edits. The prover must refuse each,
+by the function that it changes.
 
-usage: wrong_bodies.py CRATE..      tries the mutants of these crates
-       wrong_bodies.py --all        tries those of every crate, some hours of processor time
-       wrong_bodies.py --check      proves nothing: whether each mutant still applies, and docs/PROVED.md has the names
-                                    of those of must-fail/
+usage: mutants.py [--jobs N] CRATE..   tries the mutants of these crates, and notes the run in their files
+       mutants.py [--jobs N] --all     tries those of every crate, an hour or more
+       mutants.py --check              proves nothing: whether each mutant still applies, whether docs/PROVED.md names
+                                       those of must-fail/, and whether each file was tried since its crate changed
 
-A file tests/wrong_bodies/CRATE.edits has the crate's mutants, each under its name in brackets, in the form of a
-must-fail edit: a line 'file: src/..', and pairs of lines 'old: TEXT' and 'new: TEXT'. It applies where each old text is
-in its file exactly once. Mutants are tried on a copy of the repository, over what earlier checks kept.
+A file tests/mutants/CRATE.edits begins with a line that says when all of it was last tried, and at which commit. Then
+it has the crate's mutants, each after its name in brackets, in the form of a must-fail edit: a line 'file: src/..', and
+pairs of lines 'old: TEXT' and 'new: TEXT'. A mutant applies where each old text is in its file exactly once.
+
+Mutants of functions that don't call each other are tried in one check, on a copy of the repository, over what earlier
+checks kept: the prover says of each function whether it is proved. Where it says that one isn't proved because of
+another, or where a mutant changes no function, the mutant is tried once more, alone.
 """
 import collections
+import datetime
 import glob
 import os
 import re
@@ -21,104 +26,312 @@ import sys
 import tempfile
 
 ROOT = os.path.dirname(os.path.dirname(os.path.abspath(__file__)))
-MUTANTS = os.path.join(ROOT, "tests", "wrong_bodies")
+MUTANTS = os.path.join(ROOT, "tests", "mutants")
 CRATES = os.path.join(ROOT, "crates")
-# how many mutants there are in all, so that none is lost with a change: raise it with each that is added
-MUTANTS_IN_ALL = 764
+# how many mutants there are, those of must-fail/ among them, so that none is lost with a change
+MUTANTS_IN_ALL = 862
+# a file has to be tried again when its crate's last change is this many commits after its last run
+MOST_COMMITS = 10
+RUN = re.compile(r"Last tried as a whole: (\d{4}-\d\d-\d\d) at ([0-9a-f]{8}), (\d+) refused\n")
+NEVER = "Last tried as a whole: never\n"
+# what the prover says of a function
+SAID = re.compile(r"^fn (\S+): (proved|not proved|no proof.*)$", re.M)
+# an error that only says that a proof names what the mutant took away
+ONLY_A_NAME = re.compile(r"has no field|is not in scope|has no `|was not admitted")
+
+Edit = collections.namedtuple("Edit", "path old new")
+# where a function is: its file, its first and last line (from 0), its name and its text
+Function = collections.namedtuple("Function", "path first last name text")
+
+
+def read(path):
+    """The text of a file."""
+    with open(path, encoding="utf-8") as file:
+        return file.read()
+
+
+def file_of(crate):
+    """The file of the crate's mutants."""
+    return os.path.join(MUTANTS, crate + ".edits")
 
 
 def mutants_of(crate):
-    """The crate's mutants by name, each the text of a must-fail edit."""
-    with open(os.path.join(MUTANTS, crate + ".edits"), encoding="utf-8") as file:
-        parts = re.split(r"^\[(\w+)\]\n", file.read(), flags=re.M)
-    names, texts = parts[1::2], parts[2::2]
-    if parts[0].strip() or len(set(names)) < len(names):
-        sys.exit(f"wrong_bodies: {crate}.edits: a text before the first name, or a name that is there twice")
-    return dict(zip(names, texts))
+    """The crate's mutants by name, each as its edits."""
+    parts = re.split(r"^\[(\w+)\]\n", read(file_of(crate)), flags=re.M)
+    names = parts[1::2]
+    if not (RUN.match(parts[0]) or parts[0].startswith(NEVER)) or len(set(names)) < len(names):
+        sys.exit(f"mutants: {crate}.edits: no line about its last run, or a name that is there twice")
+    return {name: edits_of(crate, name, text) for name, text in zip(names, parts[2::2])}
 
 
-def why_not(crate, text):
-    """Why the mutant doesn't apply to the crate as it is, or None where it does."""
-    texts, path, old = {}, None, None
+def edits_of(crate, name, text):
+    """The edits of a mutant, in order."""
+    found, path, old = [], None, None
     for line in text.splitlines():
         key, _, said = line.partition(": ")
         if key == "file":
             path = said
         elif key == "old":
             old = said
-        elif key == "new" and path and old:
-            file = os.path.join(CRATES, crate, path)
-            if path not in texts:
-                with open(file, encoding="utf-8") as it:
-                    texts[path] = it.read()
-            if texts[path].count(old) != 1:
-                return f"an old text is in {path} {texts[path].count(old)} times"
-            texts[path] = texts[path].replace(old, said)
+        elif key == "new" and path and old is not None:
+            found.append(Edit(path, old, said))
         elif line:
-            return f"a line that is neither file, old nor new: {line}"
-    return None if texts else "it changes nothing"
+            sys.exit(f"mutants: {crate} {name}: a line that is neither file, old nor new: {line}")
+    return found
 
 
-def check():
-    """Says what doesn't apply. The number of mutants that do."""
-    count = faults = 0
-    for file in sorted(glob.glob(os.path.join(MUTANTS, "*.edits"))):
-        crate = os.path.basename(file)[: -len(".edits")]
-        for name, text in mutants_of(crate).items():
-            twice = os.path.exists(os.path.join(CRATES, crate, "must-fail", name + ".edit"))
-            why = "must-fail/ has one of that name" if twice else why_not(crate, text)
-            count += 1
-            if why:
-                faults += 1
-                print(f"wrong_bodies: {crate} {name}: {why}")
-    if count != MUTANTS_IN_ALL:
-        faults += 1
-        print(f"wrong_bodies: there are {count} mutants, and not {MUTANTS_IN_ALL}")
-    if not named() or faults:
-        sys.exit(1)
-    return count
+def applied(folder, edits):
+    """The texts of the files of the crate's folder with the edits, or why they don't apply."""
+    texts = {}
+    for path, old, new in edits:
+        text = texts.get(path) or read(os.path.join(folder, path))
+        if text.count(old) != 1:
+            return None, f"an old text is in {path} {text.count(old)} times"
+        texts[path] = text.replace(old, new)
+    return texts, None if texts else "it changes nothing"
 
 
-def named():
-    """Whether the table of promises in docs/PROVED.md names each mutant of the gate once; says which it doesn't."""
-    with open(os.path.join(ROOT, "docs", "PROVED.md"), encoding="utf-8") as file:
-        rows = re.findall(r"^\|.*\| \d+ \|([^|]*)\|[^|]*\|$", file.read(), flags=re.M)
-    said = collections.Counter(name for cell in rows for name in re.findall(r"`(\w+)`", cell))
-    edits = glob.glob(os.path.join(CRATES, "*", "must-fail", "*.edit"))
-    there = collections.Counter(os.path.basename(it)[: -len(".edit")] for it in edits)
-    for name in sorted((there - said) | (said - there)):
-        times = f"docs/PROVED.md names it {said[name]} times, and must-fail/ has it {there[name]} times"
-        print(f"wrong_bodies: {name}: {times}")
-    return said == there
+def functions_of(path, text):
+    """The functions of a source, in the layout that `rt fmt` gives it."""
+    lines, found = text.split("\n"), []
+    for first, line in enumerate(lines):
+        head = re.match(r"( *)(?:pub(?:\([^)]*\))? )?(?:const |unsafe |extern \"C\" )*fn (\w+)", line)
+        if head:
+            ends = (at for at in range(first, len(lines)) if lines[at] == head[1] + "}")
+            last = next(ends, first)
+            found.append(Function(path, first, last, head[2], "\n".join(lines[first:last + 1])))
+    return found
 
 
-def copy_of(crates, top):
-    """Copies the repository to the folder, with the crates' mutants in place of their must-fail edits."""
-    shutil.copytree(CRATES, os.path.join(top, "crates"), symlinks=True)
-    for name in ("crates.txt", "HANDLES"):
-        shutil.copyfile(os.path.join(ROOT, name), os.path.join(top, name))
-    for crate in crates:
-        folder = os.path.join(top, "crates", crate, "must-fail")
-        shutil.rmtree(folder, ignore_errors=True)
-        os.mkdir(folder)
-        for name, text in mutants_of(crate).items():
-            with open(os.path.join(folder, name + ".edit"), "w", encoding="utf-8") as file:
+def changed_by(folder, edits):
+    """The functions in whose text the edits are; None where one is outside every function."""
+    found = []
+    for path, old, _ in edits:
+        text = read(os.path.join(folder, path))
+        if text.count(old) != 1:
+            # (it stands in what an earlier edit wrote)
+            continue
+        first = text[: text.index(old) + len(old) - len(old.lstrip())].count("\n")
+        around = [it for it in functions_of(path, text) if it.first <= first <= it.last]
+        if not around:
+            return None
+        # (the innermost)
+        found.append(around[-1])
+    return found
+
+
+def calls(one, other):
+    """Whether a function's text names another's call."""
+    return re.search(rf"\b{other.name}\b\s*(::<[^>]*>)?\(", one.text) is not None
+
+
+def batch_of(waiting, where):
+    """The mutants to try in one check: each changes functions of its own, none of which calls another's."""
+    batch, taken = [], []
+    for name in waiting:
+        own = where[name]
+        if own is None:
+            if not batch:
+                return [name]
+            continue
+        met = any(it[:2] == that[:2] or it.name == that.name or calls(it, that) or calls(that, it)
+                  for it in own for that in taken)
+        if not met:
+            batch.append(name)
+            taken += own
+    return batch
+
+
+def module_of(crate, path):
+    """The module that a source is."""
+    inside = path.removeprefix("src/").removesuffix(".rt").replace("/", "::")
+    return crate if inside in ("lib", "main") else f"{crate}::{inside}"
+
+
+def verdict_of(crate, functions, said, errors):
+    """What a check says of a mutant's functions: refused, name (only by a name), missed or unclear."""
+    states = []
+    for it in functions:
+        module = module_of(crate, it.path)
+        states += [state for name, state in said.items()
+                   if name.startswith(module + "::") and name.rpartition("::")[2] == it.name]
+    failed = [it for it in states if it != "proved"]
+    if not states or failed and all("it calls" in it for it in failed):
+        return "unclear"
+    if not failed:
+        return "missed"
+    own = [it for it in errors for that in functions if f"/{that.name}/" in it]
+    return "name" if own and all(map(ONLY_A_NAME.search, own)) and "not proved" in failed else "refused"
+
+
+def check_of(crate, folder, texts, jobs):
+    """What `rt check` prints of the crate with these texts, which are put back then."""
+    before = {path: read(os.path.join(folder, path)) for path in texts}
+    try:
+        for path, text in texts.items():
+            with open(os.path.join(folder, path), "w", encoding="utf-8") as file:
+                file.write(text)
+        words = ["rt", "check", "--jobs", str(jobs)]
+        return subprocess.run(words, cwd=folder, stdout=subprocess.PIPE, stderr=subprocess.STDOUT, text=True,
+                              errors="replace").stdout
+    finally:
+        for path, text in before.items():
+            with open(os.path.join(folder, path), "w", encoding="utf-8") as file:
                 file.write(text)
 
 
-def main():
-    words = sys.argv[1:]
+def try_batch(crate, folder, batch, mutants, where, jobs):
+    """What a check with all mutants of the batch says of each."""
+    texts, why = applied(folder, [it for name in batch for it in mutants[name]])
+    if why:
+        return halves(crate, folder, batch, mutants, where, jobs, why)
+    printed = check_of(crate, folder, texts, jobs)
+    said = dict(SAID.findall(printed))
+    if not said:
+        first = next((it for it in printed.splitlines() if "error" in it), "nothing was said of a function")
+        return halves(crate, folder, batch, mutants, where, jobs, first)
+    errors = re.findall(r"(?m)^\./proofs/.*: error: .*$", printed)
+    if len(batch) > 1:
+        return {name: verdict_of(crate, where[name], said, errors) for name in batch}
+    found = verdict_of(crate, where[batch[0]] or [], said, errors)
+    if found == "unclear":
+        found = "refused" if "logic=not-proved" in printed else "missed"
+    return {batch[0]: found}
+
+
+def halves(crate, folder, batch, mutants, where, jobs, why):
+    """What is said of a batch that as a whole can't be tried, by its halves."""
+    if len(batch) == 1:
+        return {batch[0]: f"can't be tried: {why[:200]}"}
+    half, found = len(batch) // 2, {}
+    for part in (batch[:half], batch[half:]):
+        found.update(try_batch(crate, folder, part, mutants, where, jobs))
+    return found
+
+
+def try_crate(crate, folder, jobs):
+    """Tries all mutants of a crate, says what each came to, and returns whether all are refused."""
+    mutants = mutants_of(crate)
+    where = {name: changed_by(folder, edits) or None for name, edits in mutants.items()}
+    waiting, faults, counts = list(mutants), 0, collections.Counter()
+    while waiting:
+        batch = batch_of(waiting, where)
+        for name, found in try_batch(crate, folder, batch, mutants, where, jobs).items():
+            if found == "unclear" and len(batch) > 1:
+                # (alone, and last)
+                where[name] = None
+                waiting.remove(name)
+                waiting.append(name)
+                continue
+            waiting.remove(name)
+            counts[found] += 1
+            if found not in ("refused", "name"):
+                faults += 1
+                print(f"{crate} {name}: {'NOT REFUSED' if found == 'missed' else found}", flush=True)
+        print(f"{crate}: {len(mutants) - len(waiting)} of {len(mutants)} tried", flush=True)
+    refused = counts["refused"] + counts["name"]
+    print(f"{crate}: {refused} of {len(mutants)} refused, {counts['name']} of them by a name that a proof cites")
+    return refused if not faults else None
+
+
+def git(*words):
+    """What git prints, or None where it fails."""
+    run = subprocess.run(["git", *words], cwd=ROOT, capture_output=True, text=True)
+    return run.stdout.strip() if run.returncode == 0 else None
+
+
+def sources_of(crate):
+    """What the verdict on a crate's mutants rests on, as git knows it."""
+    return [f"crates/{crate}/{part}" for part in ("src", "specs", "proofs")]
+
+
+def note(crate, refused):
+    """Writes into the crate's file that all of it was tried at this commit; not where its sources aren't committed."""
+    if git("status", "--porcelain", "--", *sources_of(crate)) != "":
+        print(f"{crate}: its sources aren't committed, so the run isn't noted")
+        return
+    day, commit = datetime.date.today().isoformat(), git("rev-parse", "--short=8", "HEAD")
+    text = read(file_of(crate))
+    with open(file_of(crate), "w", encoding="utf-8") as file:
+        file.write(f"Last tried as a whole: {day} at {commit}, {refused} refused\n" + text.partition("\n")[2])
+
+
+def age_of(crate):
+    """Why the crate's file has to be tried again, or None."""
+    run = RUN.match(read(file_of(crate)))
+    if not run:
+        return "it was never tried as a whole"
+    if git("rev-parse", "--is-shallow-repository") != "false":
+        # (no history to compare with)
+        return None
+    changed = git("log", "-1", "--format=%H", "--", *sources_of(crate))
+    count = git("rev-list", "--count", f"{run[2]}..{changed}")
+    if count is None:
+        return f"its commit {run[2]} isn't in the history"
+    if int(count) >= MOST_COMMITS:
+        return f"its crate changed {count} commits after {run[2]}, where it was last tried"
+    return None
+
+
+def check(crates):
+    """Says what doesn't apply, isn't named or is too old; whether nothing is."""
+    count, faults = len(glob.glob(os.path.join(CRATES, "*", "must-fail", "*.edit"))), []
+    for crate in crates:
+        for name, edits in mutants_of(crate).items():
+            twice = os.path.exists(os.path.join(CRATES, crate, "must-fail", name + ".edit"))
+            why = "must-fail/ has one of that name" if twice else applied(os.path.join(CRATES, crate), edits)[1]
+            faults += [f"{crate} {name}: {why}"] if why else []
+            count += 1
+        faults += [f"{crate}: {why}: make mutants CRATE={crate}" for why in [age_of(crate)] if why]
+    if count != MUTANTS_IN_ALL:
+        faults.append(f"there are {count} mutants, and not {MUTANTS_IN_ALL}")
+    faults += named(crates)
+    for it in faults:
+        print(f"mutants: {it}")
+    return not faults
+
+
+def named(crates):
+    """What is wrong with the mutants that the table of promises in docs/PROVED.md names."""
+    rows = re.findall(r"^\|.*\| \d+ \|([^|]*)\|[^|]*\|$", read(os.path.join(ROOT, "docs", "PROVED.md")), flags=re.M)
+    said = collections.Counter(name for cell in rows for name in re.findall(r"`(\w+)`", cell))
+    edits = glob.glob(os.path.join(CRATES, "*", "must-fail", "*.edit"))
+    gate = {os.path.basename(it)[: -len(".edit")] for it in edits}
+    there = gate.union(*map(mutants_of, crates))
+    faults = [f"docs/PROVED.md doesn't name {it}, of must-fail/" for it in sorted(gate - set(said))]
+    faults += [f"docs/PROVED.md names {it}, and there is no such mutant" for it in sorted(set(said) - there)]
+    return faults + [f"docs/PROVED.md names {it} twice" for it, times in sorted(said.items()) if times > 1]
+
+
+def try_all(crates, jobs):
+    """Tries the mutants of the crates on a copy; whether all are refused."""
+    well = True
+    with tempfile.TemporaryDirectory() as top:
+        shutil.copytree(CRATES, os.path.join(top, "crates"), ignore=shutil.ignore_patterns("out"))
+        for name in ("crates.txt", "HANDLES"):
+            shutil.copyfile(os.path.join(ROOT, name), os.path.join(top, name))
+        for crate in crates:
+            refused = try_crate(crate, os.path.join(top, "crates", crate), jobs)
+            if refused is not None:
+                note(crate, refused)
+            well = well and refused is not None
+            # what a crate's checks keep is large
+            shutil.rmtree(os.path.join(top, "crates", crate, "out", "incremental"), ignore_errors=True)
+    return well
+
+
+def main(words):
     every = sorted(os.path.basename(it)[: -len(".edits")] for it in glob.glob(os.path.join(MUTANTS, "*.edits")))
     if words == ["--check"]:
-        check()
-        return
+        return 0 if check(every) else 1
+    jobs = 1
+    if words[:1] == ["--jobs"] and len(words) > 1 and words[1].isdigit():
+        jobs, words = int(words[1]), words[2:]
     crates = every if words == ["--all"] else words
     if not crates or not set(crates) <= set(every):
         sys.exit(__doc__)
-    check()
-    with tempfile.TemporaryDirectory() as top:
-        copy_of(crates, top)
-        sys.exit(subprocess.run(["rt", "must-fail", *crates], cwd=top).returncode)
+    return 0 if try_all(crates, jobs) else 1
 
 
-main()
+if __name__ == "__main__":
+    sys.exit(main(sys.argv[1:]))

@@ -80,7 +80,7 @@ static struct text read_all(FILE *file) {
     return all;
 }
 
-/* Replays the entries of a journal, each sent again, and gives how long its whole lines are: they begin with a brace. */
+/* Replays the entries of a journal, each sent again. Gives how long its whole lines are: they begin with a brace. */
 static size_t replay(struct rbbank_site *site, struct text journal) {
     struct text head = whole(rbbank_site_entries, site);
     if (journal.length >= 2 && memcmp(journal.bytes + journal.length - 2, "\n\t", 2) == 0)
