@@ -1,8 +1,8 @@
 //! The command line that the program takes.
-ghost use Rattle.std.specs.Prelude.{◌≡◌, ◌≤◌, [], false, true, IfOk, codes};
+ghost use Rattle.std.specs.Prelude.{◌≡◌, ◌≤◌, ◌++◌, [], ◌∷◌, false, true, IfOk, MatchResult, OnOk, codes};
 ghost use Rattle.clap.specs.Words.{app_of, new_app, rule_of, with_rule, with_subcommand};
 ghost use Rattle.clap.specs.declared.builder.command.Command.TheViews.{out-Command};
-ghost use Rattle.rb_cli.specs.Words.{IsCommandLine, IsSiteLine, close_line, files_line, plain_line, task_line};
+ghost use Rattle.rb_cli.specs.Words.{IsCommandLine, IsSiteLine, close_line, files_line, task_line};
 ghost use Rattle.rb_cli.specs.Words.{threads_line, top_line};
 ghost use Rattle.rb_cli.specs.declared.task.Task.TheVariants.{Audit, Histories, Migrate, Script};
 
@@ -180,17 +180,25 @@ fn migrate<'a>(alloc: Global) -> Result<Command<'a>, AllocError>
     )
 }
 
+/// Adds a command to the others, unless there was no memory for it.
+fn add<'a>(parts: &mut Vec<Command<'a>>, part: Result<Command<'a>, AllocError>) -> Result<(), AllocError>
+    ensures { OnOk result (MatchResult part.entry (λ it. parts.new.items ≡ parts.old.items ++ it ∷ []) (λ _. ⊥)) }
+{
+    parts.push(part?)?;
+    Ok(())
+}
+
 /// The command line that the program takes.
 pub fn command_line<'a>(alloc: Global) -> Result<Command<'a>, AllocError>
     ensures { IfOk result (λ command. IsCommandLine (app_of command)) }
 {
-    let script = script(alloc)?;
-    let histories = histories(alloc)?;
-    let audit = audit(alloc)?;
-    let migrate = migrate(alloc)?;
-    let threads = threads(alloc)?;
-    let site = site(alloc)?;
-    let close = close(alloc)?;
-    let parts = vec![in alloc; script, histories, audit, migrate, threads, site, close]?;
+    let mut parts = Vec::new(alloc);
+    add(&mut parts, script(alloc))?;
+    add(&mut parts, histories(alloc))?;
+    add(&mut parts, audit(alloc))?;
+    add(&mut parts, migrate(alloc))?;
+    add(&mut parts, threads(alloc))?;
+    add(&mut parts, site(alloc))?;
+    add(&mut parts, close(alloc))?;
     top(alloc).subcommands(parts)
 }
