@@ -181,7 +181,10 @@ fn migrate<'a>(alloc: Global) -> Result<Command<'a>, AllocError>
 }
 
 /// Adds a command to the others, unless there was no memory for it.
-fn add<'a>(parts: &mut Vec<Command<'a>>, part: Result<Command<'a>, AllocError>) -> Result<(), AllocError>
+fn add<'a>(
+    parts: &mut Vec<Command<'a>>,
+    part: Result<Command<'a>, AllocError>,
+) -> Result<(), AllocError>
     ensures { OnOk result (MatchResult part.entry (λ it. parts.new.items ≡ parts.old.items ++ it ∷ []) (λ _. ⊥)) }
 {
     parts.push(part?)?;

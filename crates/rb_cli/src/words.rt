@@ -1,11 +1,11 @@
 //! The request of a command line.
-ghost use Rattle.std.specs.Prelude.{◌≡◌, codes, map, option_map, IfErr, IfOk, IfSome};
+ghost use Rattle.std.specs.Prelude.{◌≡◌, codes, map, option_map, IfErr, IfOk, IfSome, Some};
 ghost use Rattle.clap.specs.Words.{FailsBy, found_of, kind_of, rows_of, subcommand_rows_of};
 ghost use Rattle.clap.specs.declared.error.kind.ErrorKind.TheVariants.{ArgumentConflict, OutOfMemory};
 ghost use Rattle.rb_cli.specs.Words.{AreFit, AreReadAs, Ask, FailsByWords, FitsWithin, HasSwitchWord, IsAsUsual};
 ghost use Rattle.rb_cli.specs.Words.{IsInRange, as_asked, choice_at, close_asked, conflict_of, names_bank_to_seal};
 ghost use Rattle.rb_cli.specs.Words.{number_at, of_input, record_of, seals_bank, site_asked, switch_at, task_asked};
-ghost use Rattle.rb_cli.specs.Words.{texts_at, threads_asked, words_of_matches};
+ghost use Rattle.rb_cli.specs.Words.{texts_at, threads_asked, words_of_command, words_of_matches};
 
 use crate::command_line::{command_line, site as site_line};
 use crate::{Record, Task, texts};
@@ -129,15 +129,15 @@ fn over_lines<'a>(
     alloc: Global,
     given: &ArgMatches<'a>,
     task: Task,
-) -> Result<Words<'a>, AllocError>
-    ensures { IfOk result
-        (λ words. as_asked words ≡ task_asked task (texts_at (codes "files") (rows_of (found_of given.now)))) }
+) -> Result<Option<Words<'a>>, AllocError>
+    ensures { IfOk result (λ words. option_map as_asked words
+        ≡ Some (task_asked task (texts_at (codes "files") (rows_of (found_of given.now))))) }
 {
     let files = texts(alloc, given, "files")?;
     if files.is_empty() {
-        Ok(of_input(task))
+        Ok(Some(of_input(task)))
     } else {
-        Ok(Words::Files { task, files })
+        Ok(Some(Words::Files { task, files }))
     }
 }
 
@@ -184,18 +184,19 @@ fn site<'a>(given: &ArgMatches<'a>) -> Option<Words<'a>>
 }
 
 /// The books to close that the options and the words behind them ask for.
-fn close<'a>(alloc: Global, given: &ArgMatches<'a>) -> Result<Words<'a>, AllocError>
+fn close<'a>(alloc: Global, given: &ArgMatches<'a>) -> Result<Option<Words<'a>>, AllocError>
     requires { AreFit (codes "close") (rows_of (found_of given.now)) }
-    ensures { IfOk result (λ words. as_asked words ≡ close_asked (rows_of (found_of given.now))) }
+    ensures { IfOk result
+        (λ words. option_map as_asked words ≡ Some (close_asked (rows_of (found_of given.now)))) }
 {
     let sites = number(given, "sites").map(|n| n as u8);
     let accounts = texts(alloc, given, "account")?;
     let journals = texts(alloc, given, "journals")?;
-    Ok(Words::Close {
+    Ok(Some(Words::Close {
         sites,
         accounts,
         journals,
-    })
+    }))
 }
 
 /// Whether the options of `site` name a bank to a seal.
@@ -231,6 +232,28 @@ fn conflict(alloc: Global) -> Result<Error, AllocError>
     site.error(ErrorKind::ArgumentConflict, texts::CONFLICT)
 }
 
+/// The request of the command of this name, with its options. `None` if there is no such command.
+fn asked_of<'a>(
+    alloc: Global,
+    name: &str,
+    given: &ArgMatches<'a>,
+) -> Result<Option<Words<'a>>, AllocError>
+    requires { AreFit name.now (rows_of (found_of given.now)) }
+    ensures { IfOk result
+        (λ asked. option_map as_asked asked ≡ words_of_command name.now (rows_of (found_of given.now))) }
+{
+    match name {
+        "script" => over_lines(alloc, given, Task::Script),
+        "histories" => over_lines(alloc, given, Task::Histories),
+        "audit" => over_lines(alloc, given, Task::Audit),
+        "migrate" => over_lines(alloc, given, Task::Migrate),
+        "threads" => Ok(threads(given)),
+        "site" => Ok(site(given)),
+        "close" => close(alloc, given),
+        _ => Ok(None),
+    }
+}
+
 /// The request of the command that was met, with its options. It is refused if it names a bank to a seal.
 fn asked_by<'a>(alloc: Global, matches: &ArgMatches<'a>) -> Result<Option<Words<'a>>, Error>
     requires { IfSome (subcommand_rows_of matches.now) (λ met. AreFit met.0 met.1) }
@@ -244,16 +267,7 @@ fn asked_by<'a>(alloc: Global, matches: &ArgMatches<'a>) -> Result<Option<Words<
     let Some((name, given)) = matches.subcommand() else {
         return Ok(None);
     };
-    let asked = match name {
-        "script" => Some(over_lines(alloc, given, Task::Script)?),
-        "histories" => Some(over_lines(alloc, given, Task::Histories)?),
-        "audit" => Some(over_lines(alloc, given, Task::Audit)?),
-        "migrate" => Some(over_lines(alloc, given, Task::Migrate)?),
-        "threads" => threads(given),
-        "site" => site(given),
-        "close" => Some(close(alloc, given)?),
-        _ => None,
-    };
+    let asked = asked_of(alloc, name, given)?;
     Ok(asked)
 }
 
