@@ -105,18 +105,16 @@ def functions_of(path, text):
 
 def changed_by(folder, edits):
     """The functions in whose text the edits are; None where one is outside every function."""
-    found = []
-    for path, old, _ in edits:
-        text = read(os.path.join(folder, path))
-        if text.count(old) != 1:
-            # (it stands in what an earlier edit wrote)
-            continue
+    found, texts = [], {}
+    for path, old, new in edits:
+        text = texts.get(path) or read(os.path.join(folder, path))
         first = text[: text.index(old) + len(old) - len(old.lstrip())].count("\n")
         around = [it for it in functions_of(path, text) if it.first <= first <= it.last]
         if not around:
             return None
         # (the innermost)
         found.append(around[-1])
+        texts[path] = text.replace(old, new)
     return found
 
 

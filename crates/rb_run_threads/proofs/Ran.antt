@@ -10,7 +10,7 @@ use Rattle.rb_site.specs.declared.report.SiteReport.{SiteReport}
 use Rattle.rb_site.specs.Seen.{IsReplayed}
 use Rattle.rb_site.proofs.Public.Lists.{map_back}
 use Rattle.rb_branch.specs.Gathered.{IsClosedReport}
-use Rattle.rb_branch.specs.Tellers.{TellersAt}
+use Rattle.rb_run_threads.specs.Tellers.{TellersAt}
 use Rattle.rb_lines.specs.Buffers.{Sends}
 use Rattle.rb_lines.specs.Writes.{AppendsFront}
 use Rattle.rb_run_threads.specs.Bank.{bank_of}

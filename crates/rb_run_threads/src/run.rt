@@ -6,14 +6,15 @@ ghost use Rattle.rb_money.specs.declared.limits.TheConstants.{MOST_SITES};
 ghost use Rattle.rb_run_threads.specs.Runs.{ThreadsEndAs};
 
 use crate::opening::bank;
-use rb_branch::{Gate, TellersFault, run_bank};
+use crate::running::run_bank;
+use rb_branch::{Gate, TellersFault};
 use rb_lines::{ScriptFault, Sink};
 use rb_runs::{Unwritten, write_text};
 use std::alloc::Global;
 use std::sync::Wait;
 use std::thread::Threads;
 
-/// Runs tellers at the sites of a bank, each in a thread of its own for `rb_branch::CALLS` calls, and writes the
+/// Runs tellers at the sites of a bank, each in a thread of its own for `CALLS` calls, and writes the
 /// bank's configuration and the sites' histories, which an audit reads.
 ///
 /// Teller `t`, from 0, is at site `t % sites`; its calls come from its own numbers, the first of which is `seed + t`.
