@@ -140,7 +140,8 @@ test: toolchain
 
 # What the gate does with the program that it proved, while the library for C is built beside it.
 gate-cases:
-	@tests/refuse.py --gate crates/rb_tests/out/rb_tests_tests crates/rb_tests_runs/out/rb_tests_runs_tests
+	@tests/refuse.py --gate crates/rbbank/out/rbbank crates/rb_tests/out/rb_tests_tests \
+		crates/rb_tests_runs/out/rb_tests_runs_tests
 	@examples/tools/bank.py --record crates/rbbank/out/rbbank
 	@examples/tools/check.py --quiet crates/rbbank/out/rbbank
 	@examples/tools/check_drawings.py --quiet crates/rbbank/out/rbbank

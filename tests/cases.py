@@ -6,21 +6,29 @@ usage: cases.py [--quiet] PROGRAM      (--quiet prints only what is different)
 A case begins with its name in brackets. Its lines:
   $ WORDS   the words after the program's name
   < TEXT    a line of standard input; <\\ TEXT: bytes as Python escapes them, with no line feed of their own
-  > TEXT    a line of standard output; >~ TEXT: lines that it has somewhere, in this order, the first maybe in part
+  <!        the read behind the input fails
+  > TEXT    a line of standard output; >~ TEXT: lines that it has somewhere, in this order, the first maybe in part;
+            >\\ TEXT: a text with no line feed of its own
   <> TEXT   a line of input that is a line of the output too; the case runs again with a space before each of them
   ? TEXT    a line of input behind the others: the case runs once with each such line
   ! TEXT    a line of standard error; !~ TEXT: a part of it
   = N       the exit status, if it isn't 0
   & FILE    the file that standard output goes to
+  @ BYTES   standard output is a file that takes this many bytes, and then fails
   % BYTES   the addresses that the program may have
 """
 import codecs
 import glob
+import itertools
 import os
 import re
 import resource
+import socket
 import subprocess
 import sys
+import tempfile
+import threading
+import tty
 from typing import NamedTuple, Optional
 
 import one_teller
@@ -31,7 +39,12 @@ sys.path.insert(0, os.path.join(EXAMPLES, "tools"))
 import from_rows  # noqa: E402
 
 BANK = '{"accounts":[["ann",0]],"sites":2,"version":1}'
+BANK_IN_FULL = (
+    '{"accounts":[["ann",0]],"blue":1000000,"epoch":4000000000,"history":100000000,"inbox":4096,"red":1000000,'
+    '"sites":2,"version":2}\n'
+)
 BALANCE = '{"balance":"ann","site":0}'
+SECONDS = 60  # after which a run is given up
 STUCK = '{"fault":"stuck","next":[1,1]}\n'
 HELP = re.compile(r'pub const (\w+)_HELP: &str =\s*r#"(.*?)"#;', re.DOTALL)
 LINE_LIMIT = 1_048_576  # bytes of a line without its line feed (docs/FORMAT.md)
@@ -61,12 +74,14 @@ class Case(NamedTuple):
     status: int = 0
     output: Optional[str] = None
     addresses: Optional[int] = None
+    room: Optional[int] = None
+    fails: bool = False
     end_of_out: str = ""
 
 
 def parsed(name, text):
     """The runs of a case."""
-    words, given, both, each, status, output, addresses = [], b"", [], [], 0, None, None
+    words, given, both, each, status, output, addresses, room, fails = [], b"", [], [], 0, None, None, None, False
     wanted = {">": "", ">~": "", "!": "", "!~": ""}
     for line in text.splitlines():
         mark, _, rest = line.partition(" ")
@@ -80,6 +95,10 @@ def parsed(name, text):
             both.append(rest)
         elif mark == "?":
             each.append(rest)
+        elif mark == "<!":
+            fails = True
+        elif mark == ">\\":
+            wanted[">"] += rest
         elif mark in wanted:
             wanted[mark] += rest + "\n"
         elif mark == "=":
@@ -88,6 +107,8 @@ def parsed(name, text):
             output = rest
         elif mark == "%":
             addresses = int(rest)
+        elif mark == "@":
+            room = int(rest)
         elif line and not line.startswith("#"):
             sys.exit(f"cases: no such line: {line}")
     wanted[">"] += "".join(line + "\n" for line in both)
@@ -95,7 +116,8 @@ def parsed(name, text):
         lines = "".join(space + line + "\n" for line in both)
         for last in each or [""]:
             known = f"{name} {last}".rstrip()
-            yield Case(known, words, given + (lines + last).encode(), *wanted.values(), status, output, addresses)
+            more = (status, output, addresses, room, fails)
+            yield Case(known, words, given + (lines + last).encode(), *wanted.values(), *more)
 
 
 def written_down():
@@ -120,6 +142,38 @@ def two_hundred_backwards():
     lines = [BANK, *commands, '{"balance":"ann","site":1}']
     out = "\n".join([*replies, '{"balance":200}', ""])
     return Case("two_hundred_backwards", ["script"], "\n".join(lines).encode(), out)
+
+
+def forty_deposits():
+    """Each balance as of each position is the sum of what came before: three deposits to ann and then one to bob in
+    turn, the n-th of n cents."""
+    cents = {"ann": [0], "bob": [0]}
+    commands, replies = [], []
+    for n in range(1, 41):
+        account = "ann" if n % 4 else "bob"
+        commands.append(f'{{"deposit":["{account}",{n}],"site":0}}')
+        replies.append(f'{{"kind":"deposit","name":"B0.{n}"}}')
+        for name, sums in cents.items():
+            sums.append(sums[-1] + n * (name == account))
+    for account, sums in cents.items():
+        commands += [f'{{"asof":["{account}",{n}],"site":0}}' for n in range(41)]
+        replies += [f'{{"balance":{cents}}}' for cents in sums]
+    bank = '{"accounts":[["ann",0],["bob",0]],"sites":2,"version":1}'
+    return Case("forty deposits", ["script"], "\n".join([bank, *commands]).encode(), "\n".join([*replies, ""]))
+
+
+def forged_messages():
+    """Site 1 records messages that no site sent. No reply is wrong, and nobody sent the message that came first."""
+    for name, lines in from_rows.forged().items():
+        yield Case(f"forged: {name}", ["audit"], "\n".join(lines).encode(), STUCK, status=1)
+
+
+def ids_in_each_order():
+    """An entry with an id is read in each order of its keys, and written in one."""
+    members = ['"event":{"deposit":["ann",500]}', '"id":"a-1"', '"reply":{"kind":"deposit","name":"B0.1"}', '"site":1']
+    lines = ["{" + ",".join(order) + "}" for order in itertools.permutations(members)]
+    written = BANK_IN_FULL + ("{" + ",".join(members) + "}\n") * len(lines)
+    return Case("ids in each order", ["migrate"], "\n".join([BANK, *lines]).encode(), written)
 
 
 def long_lines(program, alone, out="", err="", status=0):
@@ -152,10 +206,10 @@ def many_accounts(count, **wanted):
 def made_here():
     for name, (given, replies) in from_rows.rows().items():
         yield Case(f"row: {name}", ["script"], given.encode(), replies)
-    for name, lines in from_rows.forged().items():
-        # No reply is wrong, and nobody sent the message that site 1 received first.
-        yield Case(f"forged: {name}", ["audit"], "\n".join(lines).encode(), STUCK, status=1)
+    yield from forged_messages()
     yield two_hundred_backwards()
+    yield forty_deposits()
+    yield ids_in_each_order()
     yield many_accounts(1000, out='{"balance":999}\n')
     yield many_accounts(1001, err="rbbank: line 1: bad configuration\n", status=2)
     yield from long_lines("script", "", out='{"balance":0}\n')
@@ -180,10 +234,36 @@ def is_wanted(written, whole, part, end=""):
     return part.removesuffix("\n") in written if part else written == whole
 
 
+def failing(given):
+    """A terminal that gives these bytes, and then an error, since nobody is at its other end."""
+    here, there = os.openpty()
+    tty.setraw(there)
+    os.write(there, given)
+    os.close(there)
+    return here
+
+
+def into_room(words, case):
+    """A run whose output is a file that takes a number of bytes. What is ignored here is ignored there: the signal."""
+    def bound():
+        resource.setrlimit(resource.RLIMIT_FSIZE, (case.room, case.room))
+    with tempfile.TemporaryFile() as file:
+        run = subprocess.run(words, input=case.given, stdout=file, stderr=subprocess.PIPE, preexec_fn=bound,
+                             restore_signals=False)
+        file.seek(0)
+        run.stdout = file.read()
+    return run
+
+
 def run_of(program, case):
     """A run of the program on a case."""
     limit = case.addresses and (lambda: resource.setrlimit(resource.RLIMIT_AS, (case.addresses,) * 2))
     words = [program, *case.words]
+    if case.room is not None:
+        return into_room(words, case)
+    if case.fails:
+        with os.fdopen(failing(case.given), "rb") as given:
+            return subprocess.run(words, stdin=given, capture_output=True)
     if case.output is None:
         return subprocess.run(words, input=case.given, capture_output=True, preexec_fn=limit)
     with open(case.output, "wb") as output:
@@ -223,6 +303,63 @@ def tellers_run(program, sites, tellers, version):
     return right and answered and catches_up(entries, sites)
 
 
+class Records:
+    """A script whose calls are told apart: each piece that is sent is one read, and each that comes is one write."""
+
+    def __init__(self, program):
+        self.given, given = socket.socketpair(socket.AF_UNIX, socket.SOCK_SEQPACKET)
+        self.out, out = socket.socketpair(socket.AF_UNIX, socket.SOCK_SEQPACKET)
+        self.given.settimeout(SECONDS)
+        self.out.settimeout(SECONDS)
+        self.run = subprocess.Popen([program, "script"], stdin=given, stdout=out, stderr=subprocess.DEVNULL)
+        given.close()
+        out.close()
+
+    def send(self, pieces):
+        for piece in pieces:
+            self.given.send(piece)
+        self.given.shutdown(socket.SHUT_WR)
+
+    def rest(self):
+        """Each write up to the end, and the status."""
+        writes = list(iter(lambda: self.out.recv(LINE_LIMIT), b""))
+        self.given.close()
+        return writes, self.run.wait(SECONDS)
+
+
+def pieces_of(text, size):
+    return [text[at:at + size] for at in range(0, len(text), size)]
+
+
+def read_and_written(program):
+    """A script is answered the same in pieces of each size. Its replies go out before the next read, and nothing is
+    read behind a bad line. Many lines take few writes."""
+    text, out = (from_rows.rows()["deposit_reaches_the_other_site"][n].encode() for n in (0, 1))
+    for size in (1, 2, 5, 4096):
+        records = Records(program)
+        records.send(pieces_of(text, size))
+        writes, status = records.rest()
+        yield f"pieces of {size} bytes", (b"".join(writes), status) == (out, 0)
+    # The first piece ends in the third command.
+    records = Records(program)
+    records.given.send(text[:110])
+    two, four = records.out.recv(LINE_LIMIT), out.split(b"\n", 2)[2]
+    records.send([text[110:]])
+    yield "replies go out before the next read", two + four == out and records.rest() == ([four], 0)
+    records = Records(program)
+    first, reply = b"\n".join(text.splitlines()[:2]), out.splitlines(keepends=True)[0]
+    records.given.send(first + b"\ndeposit\n")
+    yield "nothing is read behind a bad line", records.rest() == ([reply], 2)
+    pieces = pieces_of("\n".join([BANK, *[BALANCE] * 10_000]).encode(), 4096)
+    records = Records(program)
+    sending = threading.Thread(target=records.send, args=[pieces])
+    sending.start()
+    writes, status = records.rest()
+    sending.join()
+    same = b"".join(writes) == b'{"balance":0}\n' * 10_000 and status == 0
+    yield "many lines take few writes", same and len(writes) <= len(pieces) + 3
+
+
 def is_example():
     """Whether the run of examples/ is the one of the same sites and seed that is made here."""
     with open(os.path.join(EXAMPLES, "histories", "tellers.histories.jsonl"), encoding="utf-8") as file:
@@ -236,6 +373,7 @@ def main():
     results = [(case.name, passes(words[0], case)) for case in [*written_down(), *made_here()]]
     for sites, tellers, version in [(3, 4, 1), (8, 2, 1), (9, 2, 2), (16, 64, 2)]:
         results.append((f"{tellers} tellers at {sites} sites", tellers_run(words[0], sites, tellers, version)))
+    results += read_and_written(words[0])
     results.append(("example of one teller", is_example()))
     for name, same in results:
         if not same or "--quiet" not in sys.argv:

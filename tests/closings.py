@@ -18,6 +18,8 @@ BANK = {"accounts": [["ann", 0], ["bob", 7]], "sites": 2, "version": 1}
 FULL = {"accounts": [["ann", 99_999_999_999]], "sites": 2, "version": 1}
 LIMITS = {"blue": 1_000_000, "epoch": 4_000_000_000, "history": 100_000_000, "inbox": 4096, "red": 1_000_000}
 
+NO_VALUE = "  column 1: the line ends here, and a value is missing\n  \n  ^\n"  # of a blank line
+
 
 def compact(value: Any) -> str:
     return json.dumps(value, separators=(",", ":"))
@@ -48,9 +50,22 @@ CASES = [
     Case("cancelled.0 cancelled.1", next_bank([["ann", 0], ["bob", 7]])),
     Case("wrong.0 received.1", '{"event":1,"fault":"reply","site":0}\n', status=1),
     Case("none.0 received.1", '{"fault":"stuck","next":[1,1]}\n', status=1),
+    Case("passed.0 none.1", next_bank([["ann", 0], ["bob", 7]])),
+    Case("asked.0 received.1", next_bank([["ann", 500], ["bob", 7]])),
+    Case("twice.0 twice.1", next_bank([["ann", 0], ["bob", 7]])),
+    Case("few.0 few.1", next_bank([["ann", 0]]).replace('"inbox":4096', '"inbox":3')),
     Case("full.0 full.1", next_bank([["ann", 100_000_000_000]])),
     Case("above.0 above.1", '{"account":"ann","fault":"limit"}\n', status=1),
     Case("made.0 open.1", err="rbbank: open.1: not sealed\n", status=2),
+    Case("unended.0 none.1", err="rbbank: unended.0: not sealed\n", status=2),
+    Case("made.0 two_seals.1", err="rbbank: two_seals.1: not sealed\n", status=2),
+    Case("blank.0 open.1", err="rbbank: blank.0: line 3: bad line\n" + NO_VALUE, status=2),
+    Case("short.0 none.1", err="rbbank: short.0: another bank's journal\n"
+         "  its first line has another spelling\n", status=2),
+    Case("headless.0 open.1", err="rbbank: headless.0: another bank's journal\n" + NO_VALUE, status=2),
+    Case("three.0 three.1", err="rbbank: 2 journals for 3 sites\n", status=2),
+    Case("three.0 none.1", err="rbbank: 2 journals for 3 sites\n", status=2),
+    Case("unended_three.0 three.1", err="rbbank: unended_three.0: not sealed\n", status=2),
     Case("made.0 full.1", err="rbbank: full.1: another bank's journal\n"
          "  its first line has another list of accounts\n", status=2),
     Case("nothing.0 none.1", err="""\
@@ -72,6 +87,11 @@ balance, asof, statement, shadow, token
     Case("made.0", err="rbbank: 1 journals for 2 sites\n", status=2),
     Case("made.0 none.1 none.1", err="rbbank: 3 journals for 2 sites\n", status=2),
     Case("--account Zed made.0 none.1", err="rbbank: account Zed: no name\n", status=2),
+    Case("--account= made.0 no.1", err="rbbank: account : no name\n", status=2),
+    Case("--account=-x made.0 received.1", next_bank([["ann", 500], ["bob", 7], ["-x", 0]])),
+    Case("--account zed --account bob made.0 no.1", err="rbbank: account bob: there is one already\n", status=2),
+    Case("--account zed --account Zed no.0", err="rbbank: account Zed: no name\n", status=2),
+    Case("--sites=+9 made.0 -- --sites", err="rbbank: --sites: No such file or directory (os error 2)\n", status=3),
     Case("--account zed --account zed no.0", err="rbbank: account zed: there is one already\n", status=2),
     Case("--account bob made.0 no.1", err="rbbank: account bob: there is one already\n", status=2),
     Case(" ".join(f"--account a{n}" for n in range(999)) + " made.0 no.1", err="rbbank: too many accounts\n", status=2),
@@ -112,12 +132,28 @@ class Folder:
         self.site("held.1", BANK, red[1:])
         undone = self.site("cancelled.0", BANK, [deposit, {"cancel": "B0.1"}])
         self.site("cancelled.1", BANK, undone)
+        self.site("passed.0", BANK, [{"pass": 1}])
+        self.site("asked.0", BANK, [deposit | {"id": "a"}])
+        red, cancel = [{"withdraw": ["bob", 3]}, {"cancel": "R1"}], {"cancel": "R1"}
+        taken, given_back = self.site("once.0", BANK, red)
+        again = self.site("twice.1", BANK, [taken, cancel, given_back])
+        self.site("twice.0", BANK, [*red, *again])
+        for name, bank in (("few", {"accounts": [["ann", 0]], "inbox": 3, "sites": 2, "version": 1}),
+                           ("three", BANK | {"sites": 3})):
+            for site in (0, 1):
+                self.site(f"{name}.{site}", bank, [])
         for name, cents in (("full", 1), ("above", 2)):
             sent = self.site(f"{name}.0", FULL, [{"deposit": ["ann", cents]}])
             self.site(f"{name}.1", FULL, sent)
         self.spoil("wrong.0", "made.0", '"name":"B0.1"', '"name":"B0.2"')
         self.spoil("bad.0", "made.0", '{"deposit"', '{"gift"')
         self.spoil("nothing.0", "none.0", "accounts", "account")
+        self.spoil("unended.0", "made.0", "\t", "")
+        self.spoil("unended_three.0", "three.0", "\t", "")
+        self.spoil("two_seals.1", "none.1", "\t", "\t\t")
+        self.spoil("blank.0", "made.0", "\t", "\n\t")
+        self.spoil("short.0", "made.0", compact(LIMITS)[1:-1] + ",", "")
+        self.spoil("headless.0", "made.0", '{"accounts"', '\n{"accounts"')
 
     def answers(self, case: Case) -> Case:
         words = [self.program, "close", *case.words.split()]

@@ -1,22 +1,24 @@
 #!/usr/bin/env python3
-"""Refuses each allocation in turn: of the program on four scripts, a migration and a run of one teller, and of six
-tests.
+"""Refuses each allocation in turn: of the program on four scripts, a migration, three sites and a run of one teller,
+and of five tests.
 
-usage: refuse.py PROGRAM TESTS RUNS     (what `rt run` built in crates/rbbank/out, and `rt test` in crates/rb_tests/out
-                                         and crates/rb_tests_runs/out)
-       refuse.py --gate TESTS RUNS      (as `rt ci` leaves them there: five of the tests alone, and nothing is printed
-                                         if all is well)
+usage: refuse.py PROGRAM TESTS RUNS             (what `rt run` built in crates/rbbank/out, and `rt test` in
+                                                 crates/rb_tests/out and crates/rb_tests_runs/out)
+       refuse.py --gate PROGRAM TESTS RUNS      (as `rt ci` leaves them there: the sites and four of the tests alone,
+                                                 and nothing is printed if all is well)
 
 A test can't have an allocator of its own, so a small library (refuse_nth.c) is loaded before the C library. A process
 is run with its first allocation refused, another with its second, and so on until a run meets no refusal. The program
-has to write a prefix of what is expected and end in status 4, or all of it in status 0. A test has to pass, and may say
+has to write a prefix of what is expected and end in status 4, or all of it in status 0. A site is started again then
+on its journal, with the lines that weren't answered: each is answered as if it were asked for the first time, or again
+if its entry was in the journal, and the journal is what it would have been. A test has to pass, and may say
 that it was stopped only if an allocation was refused; its last run shows that nothing else stops it. Ends in status 1
 if a run does otherwise, and if no run of an input was stopped on the way, or none inside a batch.
 
 A run of one teller writes nothing before it ends in status 4. Its threads take memory in an order that differs from
 run to run. If it was a link that was refused memory, one message is lost, and the other site goes on without it.
 
-The tests (crates/rb_tests/src/refused.rt, money.rt; crates/rb_tests_runs/src/scripts.rt, seats.rt, asked.rt):
+The tests (crates/rb_tests/src/refused.rt, money.rt; crates/rb_tests_runs/src/scripts.rt, seats.rt):
   refuse_each                 four rows by World::run: the world is that of the events before, and answers the rest as
                               the row says; some refusals fall inside a batch
   refuse_script               a row by run_script: what is written is a prefix of the row's replies
@@ -26,8 +28,6 @@ The tests (crates/rb_tests/src/refused.rt, money.rt; crates/rb_tests_runs/src/sc
                               made, or answered by out of memory
   refuse_seats                a row through seats: after a refusal the seat has no receipt more, and the same call is
                               answered as if it were the first
-  refuse_asked                rows of a site that is asked by lines: after a refusal it is opened again with the entries
-                              by then, and the line is answered as if it were asked for the first time
 """
 import itertools
 import os
@@ -49,6 +49,8 @@ ROWS = [
 ]
 # what the program is run on, and by which command
 RUNS = [(f"scripts/{name}", "script") for name in ROWS] + [("migrations/migrated_history.migration", "migrate")]
+# sites that are asked by ids, of examples/sites: what is kept of an id is in each answer
+SITES = ["asked_twice", "full_with_ids", "refused_then_made"]
 ONE_TELLER = (2, 0)  # the sites and the seed of a run of one teller
 SECONDS = 60
 
@@ -109,6 +111,51 @@ def program_on(refuser, program, name, command):
     return refusals
 
 
+def stored(name):
+    """A file of examples/sites."""
+    with open(os.path.join(EXAMPLES, "sites", name), "rb") as file:
+        return file.read()
+
+
+def without_again(answers):
+    """Answers that don't say which of them were given before."""
+    return answers.replace(b'"again":true,', b"")
+
+
+def goes_on(words, lines, run):
+    """What a site that was stopped answered, with what it answers to the other lines once it is started again."""
+    done = run.stdout.count(b"\n")
+    begun = os.path.exists(words[words.index("--journal") + 1])
+    words = [word for word in words if word != "--new" or not begun]
+    again = subprocess.run(words, input=b"".join(lines[:1] + lines[1 + done:]), capture_output=True)
+    return run.stdout + again.stdout, again.returncode
+
+
+def site_on(refuser, say, program, name):
+    """A site of the program. The number of refusals."""
+    words, lines = stored(f"{name}.site.words").decode().split(), stored(f"{name}.site.jsonl").splitlines(keepends=True)
+    whole, entries = stored(f"{name}.site.expected"), stored(f"{name}.site.journal")
+    journal = os.path.join(os.path.dirname(refuser.mark), "journal")
+    words = [program, "site", *words, "--journal", journal, "--resend", "0"]
+    refusals = stopped = 0
+    for nth, run, refused in refuser.runs(words, b"".join(lines)):
+        answers, status, gave_up = run.stdout, run.returncode, run.stderr == b"rbbank: out of memory\n"
+        if refused and gave_up and status == 4:
+            answers, status = goes_on(words, lines, run)
+        with open(journal, "rb") as file:
+            kept = file.read()
+        os.remove(journal)
+        same = answers == whole or gave_up and without_again(answers) == without_again(whole)
+        if not same or status != 0 or kept != entries:
+            fail(name, nth, run)
+        refusals += refused
+        stopped += gave_up
+    say(f"{name}: {refusals} refusals, {stopped} runs stopped")
+    if stopped == 0:
+        sys.exit(f"refuse: no line of {name} was stopped")
+    return refusals
+
+
 def one_teller_on(refuser, program):
     """The program for a run of one teller. The number of refusals."""
     sites, seed = map(str, ONE_TELLER)
@@ -146,8 +193,9 @@ def test(refuser, say, tests, name):
     return refusals, stops
 
 
-def gate_tests(refuser, say, tests, runs):
-    """The tests of the gate. The number of refusals."""
+def of_the_gate(refuser, say, program, tests, runs):
+    """The sites and the tests of the gate. The number of refusals."""
+    sites = sum(site_on(refuser, say, program, "site_" + name) for name in SITES)
     each, stops = test(refuser, say, tests, "refused::refuse_each")
     for name in ROWS:
         count = sum(row == name for row, _ in stops)
@@ -166,25 +214,22 @@ def gate_tests(refuser, say, tests, runs):
     calls, stops = test(refuser, say, runs, "seats::refuse_seats")
     if not stops:
         sys.exit("refuse: no call of a seat was refused")
-    asked, stops = test(refuser, say, runs, "asked::refuse_asked")
-    if not stops:
-        sys.exit("refuse: no line of a site was stopped")
-    return each + text + room + calls + asked
+    return sites + each + text + room + calls
 
 
 def main():
-    if len(sys.argv) != 4:
+    in_gate, paths = sys.argv[1:2] == ["--gate"], [word for word in sys.argv[1:] if word != "--gate"]
+    if len(paths) != 3:
         sys.exit(__doc__)
-    program, tests, runs = sys.argv[1], *map(os.path.abspath, sys.argv[2:])
+    program, tests, runs = map(os.path.abspath, paths)
     with tempfile.TemporaryDirectory() as folder:
         refuser = Refuser(folder)
-        if program == "--gate":
-            gate_tests(refuser, lambda _: None, tests, runs)
+        if in_gate:
+            of_the_gate(refuser, lambda _: None, program, tests, runs)
             return
-        program = os.path.abspath(program)
         refusals = sum(program_on(refuser, program, name, command) for name, command in RUNS)
         refusals += one_teller_on(refuser, program)
-        refusals += gate_tests(refuser, print, tests, runs)
+        refusals += of_the_gate(refuser, print, program, tests, runs)
         # It is never stopped: it looks at faults alone.
         refusals += test(refuser, print, tests, "money::memory_is_looked_at_last")[0]
     print(f"{refusals} refusals tried, and all is as it has to be")

@@ -6,8 +6,9 @@ usage: sites.py [--quiet] PROGRAM      (--quiet prints only what is different)
 Which of the operations that are ready at once is applied first; a journal cut at each byte, and with any bytes behind
 its space; a restart after each line; lines one at a time and all at once; many large answers in little memory; a new
 journal where one is there, and none where it has to be; another bank's journal; a damaged one; a folder, a device and a
-full disk as journal; a second process; output that can't be written; lines that are no events, or too long; wrong
-words; a sealed journal; where strace is there, the order of writes and syncs; the pipes that docs/RUNNING.md shows.
+full disk as journal; a second process; output that can't be written; lines that are no events, or too long; ids in
+each order, and what is none; options in each order, and wrong words; a sealed journal; where strace is there, the order
+of writes and syncs; the pipes that docs/RUNNING.md shows.
 """
 import errno
 import itertools
@@ -535,6 +536,67 @@ rbbank: line 2: bad configuration
     yield "a configuration too long", sites.run(b"\n" + BANK[:-1].ljust(LINE_LIMIT + 1) + b"\n", journal) == long
 
 
+# The members of events that may have an id, each of which is made or refused alike whenever it is asked for.
+ASKED = [b'"deposit":["ann",500]', b'"withdraw":["bob",1]', b'"interest":["ann",4294967295]', b'"cancel":"R1"',
+         b'"transfer":["bob","ann",70]', b'"batch":[{"deposit":["ann",500]},{"cancel":"B1.1"}]']
+IDS = [b"a", b"AZaz09._:-", b"0", b"x" * 64]
+# Lines of events whose id is none, or that may have none.
+NO_IDS = """{"deposit":["ann",1],"id":""}
+{"deposit":["ann",1],"id":"%s"}
+{"deposit":["ann",1],"id":"a b"}
+{"deposit":["ann",1],"id":"é"}
+{"deposit":["ann",1],"id":"a/b"}
+{"deposit":["ann",1],"id":7}
+{"deposit":["ann",1],"id":null}
+{"deposit":["ann",1],"id":["a"]}
+{"deposit":["ann",1],"id":"a","site":0}
+{"batch":[{"deposit":["ann",1],"id":"a"}]}
+{"id":"a"}
+{"apply":"B1.1","id":"a"}
+{"asof":["ann",0],"id":"a"}
+{"balance":"ann","id":"a"}
+{"id":"a","pass":1}
+{"id":"a","shadow":{"account":"ann","amount":5,"deps":[[0,0,0,0,0,0,0,0],0],"home":0,"kind":"deposit","name":"B0.1"}}
+{"id":"a","statement":"ann"}
+{"id":"a","token":[1,0,0]}
+""" % ("x" * 65)
+
+
+def ids(sites):
+    """An id is in front of its event, behind it or with spaces: a made one is answered again, and a refused one alike.
+    What is no id is no event."""
+    bank = b'{"accounts":[["ann",0],["bob",700]],"sites":2,"version":1}\n'
+    for event, name in itertools.product(ASKED, IDS):
+        spellings = [b'{%s,"id":"%s"}\n', b'{"id":"%s",%s}\n', b' { "id" : "%s" , %s } \n']
+        given = b"".join(line % ((event, name) if n == 0 else (name, event)) for n, line in enumerate(spellings))
+        out, errors, status, _journal = sites.run(bank + given)
+        lines = out.splitlines()
+        fine = (errors, status, len(lines)) == ("", 0, 3) and lines[0].startswith(b'{"id":"%s","reply":' % name)
+        again = lines[0] if b'"refused"' in lines[0] else b'{"again":true,' + lines[0][1:]
+        yield f"id {name.decode()} of {event.decode()}", fine and lines[1:] == [again, again]
+    lines = NO_IDS.encode().splitlines(keepends=True)
+    out, errors, status, journal = sites.run(BANK + b"".join(lines))
+    bad = b"".join(b'{"bad":"line","line":%d}\n' % (2 + n) for n in range(len(lines)))
+    yield "what is no id", (out, errors, status) == (bad, "", 0) and entries(journal) == b""
+
+
+def options(sites):
+    """The file is that of the option's text, whatever it begins with, and changes alone are recorded unless all events
+    are asked for."""
+    bank = b'{"accounts":[["ann",0]],"sites":16,"version":2}\n'
+    for words, journal, recorded in [
+            ("--me 15 --journal j --new", "j", 0), ("--resend=0 --new --journal=-j --me=15", "-j", 0),
+            ("--new --me=15 --journal=new --record changes", "new", 0),
+            ("--record=all --me=15 --journal j --new", "j", 1),
+            ("--journal - --resend 100000000 --new --me 15 --record all", "-", 1)]:
+        with tempfile.TemporaryDirectory() as folder:
+            run = subprocess.run([sites.program, "site", *words.split()], input=bank + BALANCE, capture_output=True,
+                                 cwd=folder)
+            fine = (run.stderr, run.returncode, os.listdir(folder)) == (b"", 0, [journal])
+            lines = entries(read(os.path.join(folder, journal))).count(b"\n") if fine else None
+        yield f"options: {words}", lines == recorded
+
+
 def words_at_fault(sites):
     """Words that aren't those of a site: a text on standard error, status 2, and no file."""
     wanted = [[], ["--me", "0"], ["--journal", "j"], ["--me", "16", "--journal", "j"], ["--me", "-1", "--journal", "j"],
@@ -584,14 +646,15 @@ def large_answers(sites):
         yield "... and their entries", fine and after.endswith(b"\n ")
 
 
-def calls_of(sites, given, before):
+def calls_of(sites, given, before, record="all"):
     """The calls of a site on its journal and its output, in order, each with what is behind its file: writes, cuts,
     syncs and output. None where strace can't see them."""
     with tempfile.TemporaryDirectory() as folder:
         journal, trace = os.path.join(folder, "journal"), os.path.join(folder, "trace")
         write(journal, before)
         watched = "trace=pwrite64,write,writev,fdatasync,fsync,ftruncate"
-        words = ["strace", "-f", "-s", "8", "-e", watched, "-o", trace, *sites.words(journal, resend=0)]
+        words = ["strace", "-f", "-s", "8", "-e", watched, "-o", trace]
+        words += sites.words(journal, resend=0, record=record)
         run = subprocess.run(words, input=given, capture_output=True, timeout=60)
         lines = read(trace).decode() if run.returncode == 0 else ""
     found = re.findall(r"(pwrite64|write|fdatasync|fsync|ftruncate)v?\((\d+)(.*)\) += \d+", lines)
@@ -608,6 +671,12 @@ def in_order(sites):
         calls = calls_of(sites, BANK + b'{"deposit":["ann",500]}\n' + BALANCE, before)
         if calls:
             yield f"calls on {name}", is_in_order(calls)
+    none, asked, made = (calls_of(sites, BANK + lines, journal, record=None) for lines in (
+        b"", BALANCE * 3, b'{"deposit":["ann",500]}\n' * 2))
+    if none:
+        yield "lines that add nothing wait for no disk", asked[:-1] == none and asked[-1][0] == "write"
+        more = [call for call, _rest in made[len(none):]]
+        yield "a batch waits for the disk twice", made[:len(none)] == none and more.count("fdatasync") == 2
 
 
 def is_in_order(calls):
@@ -642,8 +711,8 @@ def of_the_page(sites):
 
 
 PARTS = [same_however_read, ready_at_once, torn, kept, audited, asked_for, refused_journals, named, not_ready, sealed,
-         used_twice, failed, unwritten, no_events, words_at_fault, many_sites, large_batch, large_answers, in_order,
-         of_the_page]
+         used_twice, failed, unwritten, no_events, ids, options, words_at_fault, many_sites, large_batch,
+         large_answers, in_order, of_the_page]
 
 
 def results(program):

@@ -1,13 +1,12 @@
 #!/usr/bin/env python3
-"""Makes tables of the tests and computed runs from the scripts of examples/, each with its replies.
+"""Makes a table of the tests and computed runs from the scripts of examples/, each with its replies.
 
 usage: from_rows.py [--check]
 
 The source is each scripts/NAME.jsonl that is answered whole, with NAME.expected, and scripts/more.rows, and for
 messages that no site sent histories/forged.rows. Made are
-  crates/rb_tests/src/row_texts.rt, forged_texts.rt   the same texts, whole files
-  crates/rb_world/proofs/WorkedRows.antt, ForgedRows.antt
-                                                      the replies as terms, computed, behind the line "-- Made: .."
+  crates/rb_tests/src/row_texts.rt                         the scripts with their replies, a whole file
+  crates/rb_world/proofs/WorkedRows.antt, ForgedRows.antt  the replies as terms, computed, behind the line "-- Made: .."
 Run rt fmt in crates/rb_world after it. With --check nothing is written: it ends in 1 if one isn't what would be
 made.
 """
@@ -255,9 +254,6 @@ def made():
     scripts = [f"{name}\n{script}replies:\n{replies}".rstrip("\n") for name, (script, replies) in rows().items()]
     says = "The worked rows: each script's name, its lines, and its replies."
     yield os.path.join(TABLES, "row_texts.rt"), table(says, "ROWS", scripts)
-    runs = ["\n".join([name, *lines]) for name, lines in forged().items()]
-    says = "Messages that no site sent: a name, a configuration, and what site 1 records."
-    yield os.path.join(TABLES, "forged_texts.rt"), table(says, "RUNS", runs)
     yield worked, with_runs(worked, worked_runs)
     yield sent, with_runs(sent, forged_runs)
 

@@ -1,13 +1,10 @@
-//! Tests of configurations and numbers. Amounts and versions at their limits are in tests/cases and the worked rows.
+//! Tests of configurations. Amounts, rates and versions at their limits are in tests/cases and the worked rows.
 use crate::checks::{equal, holds};
-use crate::common::{accounts_of, config_of};
 use rb_money::{
-    Cause, Cents, Config, ConfigFault, Limits, MOST_ACCOUNTS, MOST_BLUE, MOST_CENTS, MOST_EPOCH,
-    MOST_HISTORY, MOST_INBOX, MOST_RATE, MOST_RED, MOST_SITES, Place, Rate, Refusal, interest_of,
-    read_number,
+    Config, ConfigFault, Limits, MOST_ACCOUNTS, MOST_BLUE, MOST_CENTS, MOST_EPOCH, MOST_HISTORY,
+    MOST_INBOX, MOST_RED, MOST_SITES,
 };
-use std::alloc::Global;
-use std::process::Abort;
+use std::alloc::{AllocError, Global};
 use std::test::Fail;
 
 /// Names of accounts, with what each starts with.
@@ -26,8 +23,6 @@ const TWICE: Accounts = &[("ann", 0), ("ann", 0)];
 const RICH: Accounts = &[("ann", MOST_CENTS + 1)];
 
 const TWO: Accounts = &[("ann", 0), ("bob", 0)];
-
-const LOOKED_UP: Accounts = &[("ann", 1000), ("bob-2_x.y", 0)];
 
 const MOST: Limits = Limits {
     blue: MOST_BLUE,
@@ -63,6 +58,15 @@ const FAULTS: [(u8, Accounts, Limits, ConfigFault); 12] = [
     (2, ANN, NO_BLUE, ConfigFault::Limit),
     (2, ANN, LATE_EPOCH, ConfigFault::Limit),
 ];
+
+/// Accounts, each with the cents that it starts with.
+fn accounts_of(alloc: Global, accounts: &[(&str, u64)]) -> Result<Vec<(String, u64)>, AllocError> {
+    let mut all = Vec::new(alloc);
+    for (name, start) in accounts {
+        all.push((String::from_str(alloc, name)?, *start))?;
+    }
+    Ok(all)
+}
 
 fn fault_of(
     alloc: Global,
@@ -103,51 +107,6 @@ fn config_faults(rt: HostRuntime) -> Result<(), Fail> {
     Ok(())
 }
 
-/// Numbers of sites, each with the version that a configuration of it has. Each can be had in version 2.
-#[test]
-fn versions(rt: HostRuntime) -> Result<(), Fail> {
-    for (sites, version) in [(2, 1), (8, 1), (9, 2), (16, 2)] {
-        let config = config_of(rt.alloc(), sites, LOOKED_UP, MOST)?;
-        equal(&rt, config.version(), version);
-        let second = config.to_version2();
-        let start = second.accounts().start(Place(0));
-        equal(
-            &rt,
-            (second.version(), second.sites(), start),
-            (2, sites, Some(Cents(1000))),
-        );
-        equal(&rt, second.limits(), MOST);
-    }
-    Ok(())
-}
-
-const PLACES: [(&str, Option<Place>); 3] = [
-    ("ann", Some(Place(0))),
-    ("bob-2_x.y", Some(Place(1))),
-    ("zed", None),
-];
-
-fn look_up(rt: &impl Abort, config: &Config) {
-    let accounts = config.accounts();
-    let seen = (config.sites(), config.limits(), accounts.len());
-    equal(rt, seen, (3, Limits::largest(), 2));
-    for (name, place) in PLACES {
-        equal(rt, accounts.place(name), place);
-    }
-    let starts = (accounts.start(Place(0)), accounts.start(Place(2)));
-    equal(rt, starts, (Some(Cents(1000)), None));
-    let names = (accounts.name(Place(1)), accounts.name(Place::NOWHERE));
-    equal(rt, names, (Some("bob-2_x.y"), None));
-}
-
-#[test]
-fn look_ups(rt: HostRuntime) -> Result<(), Fail> {
-    let config = config_of(rt.alloc(), 3, LOOKED_UP, Limits::largest())?;
-    look_up(&rt, &config);
-    look_up(&rt, &config.try_copy()?);
-    Ok(())
-}
-
 // Run with each allocation failing in turn, too: what is wrong is answered whether or not memory is left.
 #[test]
 fn memory_is_looked_at_last(rt: HostRuntime) {
@@ -161,48 +120,6 @@ fn memory_is_looked_at_last(rt: HostRuntime) {
     }
 }
 
-/// The basis points of the rate made of this number of them, and the interest in cents.
-fn interest_at(balance: u64, basis_points: u32) -> Result<(u32, Result<Cents, Refusal>), Refusal> {
-    let rate = Rate::new(basis_points)?;
-    Ok((rate.basis_points(), interest_of(Cents(balance), rate)))
-}
-
-#[test]
-fn rates_and_interest(rt: HostRuntime) {
-    let too_large = Err(Refusal::DeltaTooLarge);
-    for (balance, basis_points, interest) in [
-        (0, MOST_RATE + 1, Err(Refusal::BadRate)),
-        (999, 150, Ok((150, Ok(Cents(14))))),
-        (1_000, 100, Ok((100, Ok(Cents(10))))),
-        (MOST_CENTS + 1, 0, Ok((0, Ok(Cents(0))))),
-        (
-            MOST_CENTS,
-            MOST_RATE,
-            Ok((MOST_RATE, Ok(Cents(MOST_CENTS)))),
-        ),
-        (MOST_CENTS + 1, MOST_RATE, Ok((MOST_RATE, too_large))),
-    ] {
-        equal(&rt, interest_at(balance, basis_points), interest);
-    }
-}
-
-#[test]
-fn refusals_by_number(rt: HostRuntime) {
-    let cause = Cause::Declined;
-    for (refusal, number) in [
-        (Refusal::OutOfMemory, 0),
-        (Refusal::UnknownAccount, 1),
-        (Refusal::AlreadyCancelled { position: 3 }, 6),
-        (Refusal::DeltaTooLarge, 11),
-        (Refusal::BatchRefused { index: 1, cause }, 13),
-        (Refusal::Conflict, 18),
-        (Refusal::HistoryFull, 23),
-        (Refusal::SameAccount, 24),
-    ] {
-        equal(&rt, refusal.number(), number);
-    }
-}
-
 #[test]
 fn a_fault_in_words(rt: HostRuntime) -> Result<(), Fail> {
     let words = ConfigFault::Twice(7).to_string(rt.alloc())?;
@@ -212,21 +129,4 @@ fn a_fault_in_words(rt: HostRuntime) -> Result<(), Fail> {
         "account 7 has the name of an earlier one",
     );
     Ok(())
-}
-
-#[test]
-fn numbers_from_digits(rt: HostRuntime) {
-    for (text, number) in [
-        ("0", Some(0)),
-        ("70", Some(70)),
-        ("4294967295", Some(u32::MAX)),
-        ("4294967296", None),
-        ("007", None),
-        ("+7", None),
-        ("-7", None),
-        ("7 ", None),
-        ("", None),
-    ] {
-        equal(&rt, read_number(text), number);
-    }
 }

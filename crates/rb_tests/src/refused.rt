@@ -1,6 +1,6 @@
 //! Tests of running out of memory. `refuse_each` and `reserved` pass whether or not an allocation is refused, and at
-//! most one of their process is: tests/refuse.py runs them with each refused in turn. `whole_run` and `other_runs`
-//! pass only if none is refused, and no world stops.
+//! most one of their process is: tests/refuse.py runs them with each refused in turn. `whole_run` passes only if none
+//! is refused, and no world stops.
 ghost use Rattle.std.specs.Prelude.{◌≡◌, [], All, IfOk};
 ghost use Rattle.rb_ledger.specs.Records.{records_of};
 ghost use Rattle.rb_site.specs.Worlds.{IsCommand};
@@ -37,7 +37,7 @@ fn same_held(site: &Site, other: &Site, world: &World) -> bool {
     for message in world.messages() {
         if let Message::Shadow(shadow) = message {
             let name = &shadow.name;
-            same = same && site.inbox().held(name) == other.inbox().held(name);
+            same = same & (site.inbox().held(name) == other.inbox().held(name));
         }
     }
     same
@@ -46,28 +46,28 @@ fn same_held(site: &Site, other: &Site, world: &World) -> bool {
 /// Whether two sites are equal in their operations, balances, counts, clocks, tokens and histories.
 fn same_sites(site: &Site, other: &Site) -> bool {
     let mut same = same_answers(site.ledger(), other.ledger())
-        && site.token().view() == other.token().view()
-        && site.token().epoch() == other.token().epoch()
-        && site.history().len() == other.history().len();
+        & (site.token().view() == other.token().view())
+        & (site.token().epoch() == other.token().epoch())
+        & (site.history().len() == other.history().len());
     for (entry, it) in site.history().iter().zip(other.history()) {
-        same = same && entry.same(it);
+        same = same & entry.same(it);
     }
     same
 }
 
 /// Whether two worlds are equal in their sites, the messages that were sent and the events.
 fn same_worlds(world: &World, other: &World) -> bool {
-    let mut same = world.messages() == other.messages()
-        && world.events().len() == other.events().len();
+    let mut same = (world.messages() == other.messages())
+        & (world.events().len() == other.events().len());
     for (event, it) in world.events().iter().zip(other.events()) {
-        same = same && event.same(it);
+        same = same & event.same(it);
     }
     for place in 0..world.config().sites() {
-        same = same
-            && match (world.site(place), other.site(place)) {
-                (Some(site), Some(it)) => same_sites(site, it) && same_held(site, it, world),
-                _ => false,
-            };
+        if let (Some(site), Some(it)) = (world.site(place), other.site(place)) {
+            same = same & same_sites(site, it) & same_held(site, it, world);
+        } else {
+            same = false;
+        }
     }
     same
 }
@@ -143,44 +143,12 @@ fn refuse_each(rt: HostRuntime) -> Result<(), Fail> {
     Ok(())
 }
 
-/// The rows of one subject each: deposits and withdrawals, the token, deliveries, cancellations, interest, batches,
-/// limits.
-const WHOLE: [&str; 16] = [
-    "deposit_reaches_the_other_site",
-    "uncovered_withdrawal_is_declined",
-    "batch_without_token",
-    "token_waits_for_reds",
-    "stale_token",
-    "out_of_order_delivery",
-    "repeated_delivery",
-    "two_cancels_of_one_withdrawal",
-    "cancelled_deposit_would_overdraw",
-    "cancelled_deposit_later",
-    "what_cannot_be_cancelled",
-    "interest_stays",
-    "batch_all_or_nothing",
-    "as_of_each_position",
-    "amounts_at_the_limits",
-    "numbers_exhausted",
-];
-
-/// Each of these rows is one whole run, which nothing stops.
+/// Each worked row is one whole run, which nothing stops.
 #[test]
 fn whole_run(rt: HostRuntime) -> Result<(), Fail> {
-    for name in WHOLE {
-        equal_at(&rt, name, stopped_at(&rt, &row_named(name)?)?, None);
-    }
-    Ok(())
-}
-
-/// So is each of the others.
-#[test]
-fn other_runs(rt: HostRuntime) -> Result<(), Fail> {
     for lines in ROWS.split("\n\n") {
         let row = row_of(lines).ok_or("no row")?;
-        if !WHOLE.contains(&row.name) {
-            equal_at(&rt, row.name, stopped_at(&rt, &row)?, None);
-        }
+        equal_at(&rt, row.name, stopped_at(&rt, &row)?, None);
     }
     Ok(())
 }

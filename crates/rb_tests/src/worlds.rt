@@ -1,5 +1,5 @@
-//! Tests of worlds, and of undoing a tail of operations. `whole_run` and `other_runs` (refused.rt) run each worked row
-//! whole by `World::run`, and tests/cases.py by the program.
+//! Tests of worlds, and of undoing a tail of operations. `whole_run` (refused.rt) runs each worked row by `World::run`,
+//! and tests/cases.py by the program.
 ghost use Rattle.std.specs.Prelude.{◌≡◌, ◌<◌, All, IfOk, IsTrue, OnOk, length};
 ghost use Rattle.rb_ledger.specs.Records.{records_of};
 ghost use Rattle.rb_site.specs.Worlds.{IsCommand};
@@ -11,7 +11,7 @@ use rb_ledger::Ledger;
 use rb_money::{Config, Place};
 use rb_shadow::Shadow;
 use rb_site::{Event, Reply, SiteReport, WorldEvent};
-use rb_undo::UndoLog;
+use rb_undo::{UndoLog, UndoParts};
 use rb_world::World;
 use std::alloc::{AllocError, Global};
 use std::process::Abort;
@@ -65,121 +65,73 @@ pub fn text_of(alloc: Global, replies: &[Reply]) -> Result<String, AllocError> {
     Ok(text)
 }
 
-#[test]
-fn nothing_is_recorded_where_no_site_or_message_is(rt: HostRuntime) -> Result<(), Fail> {
-    let alloc = rt.alloc();
-    let config = read_config(alloc, r#"{"accounts":[["ann",0]],"sites":2,"version":1}"#)?;
-    let mut world = World::open(alloc, config)?;
-    let event = WorldEvent::Deliver(0, 1);
-    let _reply = world.step(event).expect(&rt, "answered");
-    holds(&rt, "no event", world.events().is_empty());
-    holds(&rt, "no message", world.messages().is_empty());
-    for place in 0..2u8 {
-        let site = world.site(place).expect(&rt, "a site");
-        holds(&rt, "no entry", site.history().is_empty());
-    }
-    holds(&rt, "no site 2", world.site(2).is_none());
-    let _reports = world.close();
-    Ok(())
-}
-
-/// A world's events, and the entries of site 0.
-fn recorded(alloc: Global, world: &World) -> Result<String, AllocError> {
-    let mut text = format!(in alloc; "{:?}", world.events())?;
-    if let Some(site) = world.site(0) {
-        for entry in site.history() {
-            let shown = format!(in alloc; " {:?} {:?}", entry.event, entry.reply)?;
-            text.push_str(shown.as_str())?;
-        }
-    }
-    Ok(text)
-}
-
-/// An event that a world answers is its only one, and site 0's only entry has it with its reply.
+/// An event that a world answers is its only one, and its site has an entry of it.
 #[test]
 fn one_event_is_recorded(rt: HostRuntime) -> Result<(), Fail> {
-    let alloc = rt.alloc();
-    let config = read_config(alloc, r#"{"accounts":[["ann",5]],"sites":2,"version":1}"#)?;
-    let mut world = World::open(alloc, config)?;
+    let config = read_config(
+        rt.alloc(),
+        r#"{"accounts":[["ann",5]],"sites":2,"version":1}"#,
+    )?;
+    let mut world = World::open(rt.alloc(), config)?;
     let reply = world.step(WorldEvent::At(0, Event::Balance(Place(0))));
-    let text = recorded(alloc, &world);
-    let _reports = world.close();
+    let events = world.events().len();
+    let reports = world.close();
     holds(
         &rt,
         "a balance of 5",
         reply.is_ok_and(|reply| reply.same(&Reply::Balance(5))),
     );
-    equal(
-        &rt,
-        text?.as_str(),
-        "[At(0, Balance(Place(0)))] Balance(Place(0)) Balance(5)",
-    );
+    for (report, entries) in reports.iter().zip([1, 0]) {
+        equal(&rt, (events, report.history.len()), (1, entries));
+    }
     Ok(())
 }
 
-/// A site's report of the withdrawal that two sites cancelled.
-fn reports(rt: &impl Abort, place: usize, report: &SiteReport) {
-    let numbers = [
-        report.me as usize,
-        report.entries.len(),
-        report.waiting as usize,
-    ];
-    equal(rt, numbers, [place, 3, 0]);
-    equal(rt, report.balances.as_slice(), [1000].as_slice());
-    equal(rt, report.counts.as_slice(), [2, 0, 0].as_slice());
-    let reds = (report.clock.deps().red, report.token.view().held);
-    equal(rt, reds, (1, place == 0));
+/// The entry at a position, its record, how often it is cancelled, and the first that cancels it.
+type Answers = (Option<Shadow>, Option<UndoParts>, Option<u32>, Option<u32>);
+
+fn answers_at(ledger: &Ledger, position: u32) -> Answers {
+    (
+        ledger.entry(position),
+        ledger.record(position),
+        ledger.count(position),
+        ledger.first_cancel(position),
+    )
 }
 
-#[test]
-fn reports_of_sites(rt: HostRuntime) -> Result<(), Fail> {
-    let alloc = rt.alloc();
-    let script = row_named("two_cancels_of_one_withdrawal")?.script;
-    for (place, report) in reports_of(alloc, script)?.iter().enumerate() {
-        reports(&rt, place, report);
-    }
-    let script = row_named("history_full")?.script;
-    for (report, recorded) in reports_of(alloc, script)?.iter().zip([2, 1]) {
-        equal(&rt, report.history.len(), recorded);
-    }
-    Ok(())
+/// The balance as of a position, if there is one, and the cents that its operation moved.
+fn balance_at(ledger: &Ledger, position: u32, place: Place) -> (Option<u64>, Option<i64>) {
+    let then = if position <= ledger.len() {
+        ledger.balance_after(position, place)
+    } else {
+        None
+    };
+    (then, ledger.moved(position, place))
 }
 
 /// Whether two ledgers answer each look-up of a position alike.
 fn same_at(ledger: &Ledger, other: &Ledger, position: u32) -> bool {
-    let mut same = ledger.entry(position) == other.entry(position)
-        && ledger.record(position) == other.record(position)
-        && ledger.count(position) == other.count(position)
-        && ledger.first_cancel(position) == other.first_cancel(position);
-    for place in 0..3u16 {
-        let place = Place(place);
-        same = same && ledger.moved(position, place) == other.moved(position, place);
-        if position <= ledger.len() && position <= other.len() {
-            let then = ledger.balance_after(position, place);
-            same = same && then == other.balance_after(position, place);
-        }
+    let mut same = answers_at(ledger, position) == answers_at(other, position);
+    for number in 0..3u16 {
+        let place = Place(number);
+        same = same & (balance_at(ledger, position, place) == balance_at(other, position, place));
     }
     same
 }
 
 /// Whether two ledgers answer each look-up alike.
 pub fn same_answers(ledger: &Ledger, other: &Ledger) -> bool {
-    let mut same = ledger.len() == other.len()
-        && ledger.clock().deps() == other.clock().deps()
-        && ledger.red_row() == other.red_row();
+    let mut same = (ledger.len() == other.len())
+        & (ledger.clock().deps() == other.clock().deps())
+        & (ledger.red_row() == other.red_row());
     for number in 0..3u8 {
         let place = Place(u16::from(number));
         same = same
-            && ledger.balance(place) == other.balance(place)
-            && ledger.blue_row(number) == other.blue_row(number);
+            & (ledger.balance(place) == other.balance(place))
+            & (ledger.blue_row(number) == other.blue_row(number));
     }
     for position in 0..ledger.len() + 2 {
-        same = same && same_at(ledger, other, position);
-    }
-    for position in 1..=ledger.len() {
-        if let Some(shadow) = ledger.entry(position) {
-            same = same && ledger.find(&shadow.name) == other.find(&shadow.name);
-        }
+        same = same & same_at(ledger, other, position);
     }
     same
 }
@@ -321,6 +273,31 @@ fn tail_back(rt: HostRuntime) -> Result<(), Fail> {
             there_and_back(alloc, &config, applied.as_slice())?,
         );
         holds(&rt, name, !applied.is_empty());
+    }
+    Ok(())
+}
+
+/// A position of the withdrawal that two sites cancelled: the balance as of it, the cents that its operation moved, how
+/// often that is cancelled, and the first that cancels it.
+type Found = (Option<u64>, Option<i64>, Option<u32>, Option<u32>);
+
+const FOUND: [Found; 4] = [
+    (Some(1000), None, None, None),
+    (Some(700), Some(-300), Some(2), Some(2)),
+    (Some(1000), Some(300), Some(0), None),
+    (Some(1000), Some(0), Some(0), None),
+];
+
+#[test]
+fn looks_up(rt: HostRuntime) -> Result<(), Fail> {
+    let alloc = rt.alloc();
+    let script = row_named("two_cancels_of_one_withdrawal")?.script;
+    let applied = applied_at_first(alloc, script)?;
+    let ledger = ledger_of(alloc, &config_of(alloc, script)?, applied.as_slice())?;
+    for (found, position) in FOUND.iter().zip(0..4) {
+        let (balance, moved) = balance_at(&ledger, position, Place(0));
+        let (_, _, count, first) = answers_at(&ledger, position);
+        equal(&rt, (balance, moved, count, first), *found);
     }
     Ok(())
 }

@@ -189,40 +189,6 @@ fn read_back(rt: HostRuntime) -> Result<(), Fail> {
     Ok(())
 }
 
-/// A deposit at site 0, and a server at site 1.
-struct OneServed;
-
-impl Case for OneServed {
-    fn calls<E: Entries, R: Ledger, G: Gate + Drop, W: Wait + Abort + Print>(
-        &self,
-        rt: &W,
-        alloc: Global,
-        branch: &Branch<E, R, G>,
-    ) -> Result<Vec<Seat<E, R>>, Fail> {
-        let (outbox, inlet) = to_the_second(alloc)?;
-        let copy = outbox.try_copy(alloc)?;
-        let mut teller = branch.seat(rt, 0)?;
-        let mut server = branch.seat(rt, 1)?;
-        let _number = deposited(rt, branch, &mut teller, &copy, 5)?;
-        drop(outbox);
-        drop(copy);
-        equal(rt, served_by(rt, branch, &mut server, inlet).ok(), Some(2));
-        let _number = balance_is(rt, branch, &mut server, 5)?;
-        equal(rt, teller.receipt(1).map(|receipt| receipt.unsent), Some(0));
-        Ok(vec![in alloc; teller, server]?)
-    }
-}
-
-#[test]
-fn served(rt: HostRuntime) -> Result<(), Fail> {
-    let config = some_sites(rt.alloc(), 2, Limits::largest())?;
-    let reports = gathered(&rt, rt.alloc(), config, NoGate, &OneServed)??;
-    for report in &reports {
-        equal(&rt, report.balances.first().copied(), Some(5));
-    }
-    Ok(())
-}
-
 /// A seat at a site that doesn't exist, and one seat more than a branch gives.
 struct Seats;
 

@@ -1,60 +1,56 @@
-//! Copies of what can be copied, lines that are read and written back, and a site that is made from its history.
+//! Copies of what can be copied, and a site that is made from its history.
 ghost use Rattle.std.specs.Prelude.{◌<◌};
 
-use crate::checks::{equal, equal_at, holds};
-use crate::lines::lines;
+use crate::checks::{equal, holds};
 use rb_branch::links;
-use rb_history::{read_command, read_config, read_line, write_config, write_line};
+use rb_history::{read_command, read_config, read_line};
 use rb_money::Config;
-use rb_site::{Entry, Event, Message, Site};
+use rb_site::{Entry, Message, Site};
 use rb_tests::rows::row_named;
 use rb_token::TokenMessage;
-use std::alloc::Global;
+use std::alloc::{AllocError, Global};
 use std::process::Abort;
 use std::sync::Wait;
 use std::test::Fail;
 
-/// A configuration with all of its keys.
-const CONFIGURATION: &str = lines!(bank_1);
+/// The entries of site 0 as it makes a deposit.
+pub const AT_HOME: &str =
+    r#"{"event":{"deposit":["ann",500]},"reply":{"kind":"deposit","name":"B0.1"},"site":0}
+{"event":{"balance":"ann"},"reply":{"balance":500},"site":0}"#;
 
-/// The entries of two sites for a deposit that reaches the other site.
-const HISTORIES: &str = lines!(
-    r#"{"event":{"deposit":["ann",500]},"reply":{"kind":"deposit","name":"B0.1"},"site":0}"#,
-    r#"{"event":{"balance":"ann"},"reply":{"balance":500},"site":0}"#,
-    r#"{"event":{"balance":"ann"},"reply":{"balance":0},"site":1}"#,
-    deposit_comes,
-    r#"{"event":{"apply":"B0.1"},"reply":{"applied":"B0.1"},"site":1}"#,
-    r#"{"event":{"balance":"ann"},"reply":{"balance":500},"site":1}"#,
-);
+/// The entries of site 1 as the deposit comes and is applied.
+pub const AWAY: &str = r#"{"event":{"balance":"ann"},"reply":{"balance":0},"site":1}
+{"event":{"shadow":{"account":"ann","amount":500,"deps":[[0,0,0,0,0,0,0,0],0],"home":0,"kind":"deposit","name":"B0.1"}},"reply":{"held":"B0.1"},"site":1}
+{"event":{"apply":"B0.1"},"reply":{"applied":"B0.1"},"site":1}
+{"event":{"balance":"ann"},"reply":{"balance":500},"site":1}"#;
 
 /// Entries whose events or replies have lists.
 const LISTS: &str =
     r#"{"event":{"batch":[{"deposit":["ann",50]},{"withdraw":["ann",57]}]},"reply":{"names":["B0.2","R1"]},"site":0}
 {"event":{"statement":"ann"},"reply":{"balance":7,"rows":[[1,"B0.1","deposit",7,false,7]],"start":0},"site":0}"#;
 
-/// The entry on a line of a site. It, its event and its reply are the same as their copies, and the line that is
-/// written for the copy is the line.
-fn copied(
-    rt: &impl Abort,
-    alloc: Global,
-    config: &Config,
-    line: &str,
-) -> Result<(u8, Entry), Fail> {
-    let (site, entry) = read_line(alloc, config, line)?;
+/// The entries on these lines.
+pub fn entries_of(alloc: Global, config: &Config, lines: &str) -> Result<Vec<Entry>, Fail> {
+    let mut entries = Vec::new(alloc);
+    for line in lines.lines() {
+        let (_site, entry) = read_line(alloc, config, line)?;
+        entries.push(entry)?;
+    }
+    Ok(entries)
+}
+
+/// Whether an entry, its event and its reply are the same as their copies.
+fn is_copied(alloc: Global, entry: &Entry) -> Result<bool, AllocError> {
     let copy = entry.try_copy(alloc)?;
     let event = entry.event.try_copy(alloc)?;
     let reply = entry.reply.try_copy(alloc)?;
-    let same = entry.same(&copy) && entry.event.same(&event) && entry.reply.same(&reply);
-    holds(rt, line, same);
-    equal(rt, write_line(alloc, config, site, &copy)?.as_str(), line);
-    Ok((site, copy))
+    Ok(entry.same(&copy) & entry.event.same(&event) & entry.reply.same(&reply))
 }
 
-/// The command on a line is the same as its copy.
-fn command_copied(rt: &impl Abort, alloc: Global, config: &Config, line: &str) -> Result<(), Fail> {
+/// Whether the command on a line is the same as its copy.
+fn is_command_copied(alloc: Global, config: &Config, line: &str) -> Result<bool, Fail> {
     let command = read_command(alloc, config, line)?;
-    holds(rt, line, command.same(&command.try_copy(alloc)?));
-    Ok(())
+    Ok(command.same(&command.try_copy(alloc)?))
 }
 
 /// A message that is sent by a copy of an outbox comes to the site that it is for.
@@ -73,37 +69,20 @@ fn outbox_copied<W: Wait + Abort>(rt: &W, alloc: Global) -> Result<(), Fail> {
     Ok(())
 }
 
-/// The history of site 1 after these events, a line for each entry.
-fn replayed(alloc: Global, config: &Config, events: &[Event]) -> Result<String, Fail> {
+/// Whether a site 1 that is made from the events of these entries has them as its history.
+fn is_replayed(alloc: Global, config: &Config, entries: &[Entry]) -> Result<bool, AllocError> {
     let sites = config.sites();
     prove!(1 < sites);
-    let site = Site::replay(alloc, config, 1, events)?;
-    let report = site.close();
-    let mut text = String::new(alloc);
-    for entry in &report.history {
-        text.push_str(write_line(alloc, config, 1, entry)?.as_str())?;
-        text.push('\n')?;
-    }
-    Ok(text)
-}
-
-/// The lines of site 1's entries, and its events.
-fn recorded_at_1(
-    rt: &impl Abort,
-    alloc: Global,
-    config: &Config,
-) -> Result<(String, Vec<Event>), Fail> {
-    let mut text = String::new(alloc);
     let mut events = Vec::new(alloc);
-    for line in HISTORIES.lines() {
-        let (site, entry) = copied(rt, alloc, config, line)?;
-        if site == 1 {
-            events.push(entry.event)?;
-            text.push_str(line)?;
-            text.push('\n')?;
-        }
+    for entry in entries {
+        events.push(entry.event.try_copy(alloc)?)?;
     }
-    Ok((text, events))
+    let report = Site::replay(alloc, config, 1, events.as_slice())?.close();
+    let mut same = report.history.len() == entries.len();
+    for (found, entry) in report.history.iter().zip(entries) {
+        same = same & found.same(entry);
+    }
+    Ok(same)
 }
 
 #[test]
@@ -112,16 +91,15 @@ fn copies(rt: HostRuntime) -> Result<(), Fail> {
     let script = row_named("deposit_reaches_the_other_site")?.script;
     let mut lines = script.lines();
     let config = read_config(alloc, lines.next().ok_or("no configuration")?)?.try_copy()?;
-    equal(&rt, write_config(alloc, &config)?.as_str(), CONFIGURATION);
     for line in lines {
-        command_copied(&rt, alloc, &config, line)?;
+        holds(&rt, line, is_command_copied(alloc, &config, line)?);
     }
-    for line in LISTS.lines() {
-        let (site, _entry) = copied(&rt, alloc, &config, line)?;
-        equal_at(&rt, line, site, 0);
+    for lines in [AT_HOME, AWAY, LISTS] {
+        for entry in &entries_of(alloc, &config, lines)? {
+            holds(&rt, lines, is_copied(alloc, entry)?);
+        }
     }
-    let (wanted, events) = recorded_at_1(&rt, alloc, &config)?;
-    let found = replayed(alloc, &config, events.as_slice())?;
-    equal(&rt, found.as_str(), wanted.as_str());
+    let away = entries_of(alloc, &config, AWAY)?;
+    holds(&rt, AWAY, is_replayed(alloc, &config, away.as_slice())?);
     outbox_copied(&rt, alloc)
 }

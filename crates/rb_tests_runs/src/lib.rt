@@ -3,45 +3,21 @@
 #![tactic(auto)]
 
 #[cfg(test)]
-mod alone;
-#[cfg(test)]
-mod asked;
-#[cfg(test)]
-mod asked_rows;
-#[cfg(test)]
 mod audited;
 #[cfg(test)]
 mod auditor;
-#[cfg(test)]
-mod audits;
-#[cfg(test)]
-mod books;
 #[cfg(test)]
 mod branch;
 #[cfg(test)]
 mod checks;
 #[cfg(test)]
-mod commands;
-#[cfg(test)]
 mod copies;
-#[cfg(test)]
-mod entries;
 #[cfg(test)]
 mod flags;
 #[cfg(test)]
 mod gates;
 #[cfg(test)]
-mod histories;
-#[cfg(test)]
-mod ids;
-#[cfg(test)]
-mod lines;
-#[cfg(test)]
 mod links;
-#[cfg(test)]
-mod migrations;
-#[cfg(test)]
-mod replies;
 #[cfg(test)]
 mod scripts;
 #[cfg(test)]
@@ -52,5 +28,3 @@ mod served;
 mod tellers;
 #[cfg(test)]
 mod threads;
-#[cfg(test)]
-mod words;

@@ -1,8 +1,5 @@
-//! The messages that go by the links between sites, and those of them that are served.
-
-use crate::branch::{
-    Case, balance_is, deposit, deposited, gathered, served_by, some_sites, to_the_second,
-};
+//! The messages that go by the links between sites.
+use crate::branch::{Case, deposit, deposited, gathered, some_sites};
 use crate::checks::equal;
 use rb_branch::{Branch, Entries, Gate, Inlet, NoGate, Outbox, Seat, links};
 use rb_kit::List;
@@ -122,39 +119,5 @@ fn sent_by_links(rt: HostRuntime) -> Result<(), Fail> {
         let reports = gathered(&rt, rt.alloc(), config, NoGate, case)??;
         equal(&rt, reports.len(), 3);
     }
-    Ok(())
-}
-
-/// Two deposits at site 0, which come to site 1 in turned order: none is ready after the first, and both are after the
-/// second.
-struct Turned;
-
-impl Case for Turned {
-    fn calls<E: Entries, R: Ledger, G: Gate + Drop, W: Wait + Abort + Print>(
-        &self,
-        rt: &W,
-        alloc: Global,
-        branch: &Branch<E, R, G>,
-    ) -> Result<Vec<Seat<E, R>>, Fail> {
-        let (outbox, mut inlet) = to_the_second(alloc)?;
-        let mut teller = branch.seat(rt, 0)?;
-        let mut server = branch.seat(rt, 1)?;
-        let _first = deposited(rt, branch, &mut teller, &outbox, 1)?;
-        let _second = deposited(rt, branch, &mut teller, &outbox, 2)?;
-        let first = inlet.next(rt).ok_or("nothing came")?;
-        let second = inlet.next(rt).ok_or("one came")?;
-        equal(rt, outbox.post(rt, 0, 2, [second, first].as_slice()), 0);
-        drop(outbox);
-        equal(rt, served_by(rt, branch, &mut server, inlet).ok(), Some(4));
-        let _number = balance_is(rt, branch, &mut server, 3)?;
-        Ok(vec![in alloc; teller, server]?)
-    }
-}
-
-#[test]
-fn served_in_turned_order(rt: HostRuntime) -> Result<(), Fail> {
-    let config = some_sites(rt.alloc(), 2, Limits::largest())?;
-    let reports = gathered(&rt, rt.alloc(), config, NoGate, &Turned)??;
-    equal(&rt, reports.len(), 2);
     Ok(())
 }

@@ -1,10 +1,9 @@
-//! A server for which many messages wait, and the gate of its site.
-
-use crate::branch::{Case, gathered, served_by, some_sites, to_the_second};
+//! A server for which many messages wait, and the gate of its site; and one to which they come in turned order.
+use crate::branch::{Case, balance_is, deposited, gathered, served_by, some_sites, to_the_second};
 use crate::checks::equal;
 use crate::flags::Count;
 use crate::threads::{DEPOSITS, many_deposits};
-use rb_branch::{Branch, Entries, Gate, Seat};
+use rb_branch::{Branch, Entries, Gate, NoGate, Seat};
 use rb_money::Limits;
 use std::alloc::Global;
 use std::process::Abort;
@@ -58,7 +57,7 @@ impl Case for ManyServed {
 /// A message takes two steps, one to be taken and one to be received and applied. So 100 messages and a last look take
 /// 201 steps, for which the site's lock is taken four times.
 #[test]
-fn served_many(rt: HostRuntime) -> Result<(), Fail> {
+fn served(rt: HostRuntime) -> Result<(), Fail> {
     let (entered, left) = (Count::new(), Count::new());
     let gate = Counting {
         rt: &rt,
@@ -71,5 +70,39 @@ fn served_many(rt: HostRuntime) -> Result<(), Fail> {
         equal(&rt, report.balances.first().copied(), Some(DEPOSITS));
     }
     equal(&rt, (entered.get(&rt), left.get(&rt)), (4, 4));
+    Ok(())
+}
+
+/// Two deposits at site 0, which come to site 1 in turned order: none is ready after the first, and both are after the
+/// second.
+struct Turned;
+
+impl Case for Turned {
+    fn calls<E: Entries, R: Ledger, G: Gate + Drop, W: Wait + Abort + Print>(
+        &self,
+        rt: &W,
+        alloc: Global,
+        branch: &Branch<E, R, G>,
+    ) -> Result<Vec<Seat<E, R>>, Fail> {
+        let (outbox, mut inlet) = to_the_second(alloc)?;
+        let mut teller = branch.seat(rt, 0)?;
+        let mut server = branch.seat(rt, 1)?;
+        let _first = deposited(rt, branch, &mut teller, &outbox, 1)?;
+        let _second = deposited(rt, branch, &mut teller, &outbox, 2)?;
+        let first = inlet.next(rt).ok_or("nothing came")?;
+        let second = inlet.next(rt).ok_or("one came")?;
+        equal(rt, outbox.post(rt, 0, 2, [second, first].as_slice()), 0);
+        drop(outbox);
+        equal(rt, served_by(rt, branch, &mut server, inlet).ok(), Some(4));
+        let _number = balance_is(rt, branch, &mut server, 3)?;
+        Ok(vec![in alloc; teller, server]?)
+    }
+}
+
+#[test]
+fn served_in_turned_order(rt: HostRuntime) -> Result<(), Fail> {
+    let config = some_sites(rt.alloc(), 2, Limits::largest())?;
+    let reports = gathered(&rt, rt.alloc(), config, NoGate, &Turned)??;
+    equal(&rt, reports.len(), 2);
     Ok(())
 }
