@@ -5,9 +5,10 @@ usage: gate_times.py [--every SECONDS] [COMMAND..]      (COMMAND: `rt ci` if non
        gate_times.py --write-table FILE                 puts what such a run printed into docs/CHANGING.md
 
 While the command runs, the prover's processes are looked at twice a second. The table that is printed at the end has,
-for each crate, the minutes of processor time of its proof, of its tests and of its mutants. The line behind it has the
-commit, the sums of the prover and of all processes, and the longest lane, a crate whose tasks wait for one another.
-What a process took in its last half second is missing.
+for each crate, the minutes of processor time of its proof, of its tests and of its mutants. After it come the commit,
+the sums of the prover and of all processes, the prover's in proofs of UNIT, which is nearly the same on another machine
+and beside other work, and the longest lane, a crate whose tasks wait for one another. What a process took in its last
+half second is missing.
 """
 import os
 import re
@@ -20,6 +21,8 @@ PAGE = os.path.join(os.path.dirname(os.path.dirname(os.path.abspath(__file__))),
 # a table as it is printed, and the line behind it
 TABLE = re.compile(r"(?m)^\| Crate \| proof \| tests \| mutants \|\n(?:\|.*\n)+\nAt commit (?:.+\n)+")
 PROVER = "rattle"
+# the crate whose proof is the unit
+UNIT = "rb_ledger"
 TICKS = os.sysconf("SC_CLK_TCK")
 KINDS = ("proof", "tests", "mutants")
 
@@ -67,7 +70,8 @@ def look(session, seen):
 
 
 def table_of(seen):
-    """The rows of the table, the minutes of all, and those of the longest lane with its crate."""
+    """The rows of the table, the minutes of all, how many proofs of UNIT these are, and the longest lane's minutes with
+    its crate."""
     minutes = {}
     for crate, kind, seconds in seen.values():
         minutes.setdefault(crate, dict.fromkeys(KINDS, 0.0))[kind] += seconds / 60
@@ -76,7 +80,9 @@ def table_of(seen):
              for crate, of in sorted(minutes.items())]
     sums = [sum(of[it] for of in minutes.values()) for it in KINDS]
     lane = max(((sum(of.values()), crate) for crate, of in minutes.items()), default=(0.0, "none"))
-    return [*rows, "| together | " + " | ".join(f"{it:.1f}" for it in sums) + " |"], sum(sums), lane
+    unit = minutes.get(UNIT, {}).get("proof")
+    units = f"{sum(sums) / unit:.1f}" if unit else "?"
+    return [*rows, "| together | " + " | ".join(f"{it:.1f}" for it in sums) + " |"], sum(sums), units, lane
 
 
 def commit():
@@ -114,13 +120,13 @@ def main(words):
     while running.poll() is None:
         look(running.pid, seen)
         time.sleep(every)
-    rows, minutes, lane = table_of(seen)
+    rows, minutes, units, lane = table_of(seen)
     used = resource.getrusage(resource.RUSAGE_CHILDREN)
     total, wall = (used.ru_utime + used.ru_stime) / 60, (time.time() - begun) / 60
     print("\n".join(rows) + "\n")
     print(f"At commit {commit()} the prover took {minutes:.1f}, all processes {total:.1f} minutes of processor time,\n"
-          f"in {wall:.1f} minutes on {len(os.sched_getaffinity(0))} processors. The longest lane is that of {lane[1]}, "
-          f"{lane[0]:.1f}.")
+          f"in {wall:.1f} minutes on {len(os.sched_getaffinity(0))} processors. The prover's are {units} times "
+          f"those of {UNIT}'s proof.\nThe longest lane is that of {lane[1]}, {lane[0]:.1f}.")
     return running.returncode
 
 
