@@ -13,7 +13,7 @@ pairs of lines 'old: TEXT' and 'new: TEXT'. A mutant applies where each old text
 
 Mutants of functions that don't call each other are tried in one check, on a copy of the repository, over what earlier
 checks kept: the prover says of each function whether it is proved. Where it says that one isn't proved because of
-another, or where a mutant changes no function, the mutant is tried once more, alone.
+another, its mutant is tried again with others of that kind. A mutant that changes no function is tried alone.
 """
 import collections
 import datetime
@@ -211,25 +211,27 @@ def try_crate(crate, folder, jobs):
     """Tries all mutants of a crate, says what each came to, and returns whether all are refused."""
     mutants = mutants_of(crate)
     where = {name: changed_by(folder, edits) or None for name, edits in mutants.items()}
-    waiting, faults, counts = list(mutants), 0, collections.Counter()
-    while waiting:
-        batch = batch_of(waiting, where)
+    waiting, unclear, counts = list(mutants), [], collections.Counter()
+    while waiting or unclear:
+        if not waiting:
+            # (among each other, of which the lowest in the calls are clear)
+            waiting, unclear = unclear, []
+        batch, settled = batch_of(waiting, where), False
         for name, found in try_batch(crate, folder, batch, mutants, where, jobs).items():
-            if found == "unclear" and len(batch) > 1:
-                # (alone, and last)
-                where[name] = None
-                waiting.remove(name)
-                waiting.append(name)
-                continue
             waiting.remove(name)
+            if found == "unclear" and len(batch) > 1:
+                unclear.append(name)
+                continue
+            settled = True
             counts[found] += 1
             if found not in ("refused", "name"):
-                faults += 1
                 print(f"{crate} {name}: {'NOT REFUSED' if found == 'missed' else found}", flush=True)
-        print(f"{crate}: {len(mutants) - len(waiting)} of {len(mutants)} tried", flush=True)
+        if not settled:
+            where[batch[0]] = None
     refused = counts["refused"] + counts["name"]
-    print(f"{crate}: {refused} of {len(mutants)} refused, {counts['name']} of them by a name that a proof cites")
-    return refused if not faults else None
+    print(f"{crate}: {refused} of {len(mutants)} refused, {counts['name']} of them by a name that a proof cites",
+          flush=True)
+    return refused if refused == len(mutants) else None
 
 
 def git(*words):
