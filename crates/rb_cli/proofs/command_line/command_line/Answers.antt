@@ -26,9 +26,9 @@ pub returns : goal.returns
 returns c =
     let Adds = AddsInTurn AddsSubcommand c.top.result in
     let script = behind c.script.result _ _ _ [] _ c.new-parts.ensures.items
-        c.in_ok-add.ensures c.script.ensures.shape c.script.ensures.local in
+    c.in_ok-add.ensures c.script.ensures.shape c.script.ensures.local in
     let histories = behind c.histories.result _ _ _ _ _ script.1
-        c.in_ok-add-2.ensures c.histories.ensures.shape c.histories.ensures.local in
+    c.in_ok-add-2.ensures c.histories.ensures.shape c.histories.ensures.local in
     let audit = behind c.audit.result _ _ _ _ _ histories.1 c.in_ok-add-3.ensures c.audit.ensures.shape c.audit.ensures.local in
     let migrate = behind c.migrate.result _ _ _ _ _ audit.1 c.in_ok-add-4.ensures c.migrate.ensures.shape c.migrate.ensures.local in
     let threads = behind c.threads.result _ _ _ _ _ migrate.1 c.in_ok-add-5.ensures c.threads.ensures.shape c.threads.ensures.local in
