@@ -55,6 +55,14 @@ fn same_sites(site: &Site, other: &Site) -> bool {
     same
 }
 
+/// Whether two worlds have a site of this number, and are equal in it.
+fn same_at_place(world: &World, other: &World, place: u8) -> bool {
+    match (world.site(place), other.site(place)) {
+        (Some(site), Some(it)) => same_sites(site, it) & same_held(site, it, world),
+        _ => false,
+    }
+}
+
 /// Whether two worlds are equal in their sites, the messages that were sent and the events.
 fn same_worlds(world: &World, other: &World) -> bool {
     let mut same = (world.messages() == other.messages())
@@ -63,11 +71,7 @@ fn same_worlds(world: &World, other: &World) -> bool {
         same = same & event.same(it);
     }
     for place in 0..world.config().sites() {
-        if let (Some(site), Some(it)) = (world.site(place), other.site(place)) {
-            same = same & same_sites(site, it) & same_held(site, it, world);
-        } else {
-            same = false;
-        }
+        same = same & same_at_place(world, other, place);
     }
     same
 }
@@ -153,15 +157,22 @@ fn whole_run(rt: HostRuntime) -> Result<(), Fail> {
     Ok(())
 }
 
-/// A ledger and a log without operations, with capacity for `count`.
-fn roomy(alloc: Global, config: &Config, count: usize) -> Result<(Ledger, UndoLog), AllocError>
-    ensures { IfOk result (λ it. (it.0.entries ≡ []) × (it.1.parts ≡ [])) }
+/// A ledger without operations, with capacity for `count`.
+fn roomy_ledger(alloc: Global, config: &Config, count: usize) -> Result<Ledger, AllocError>
+    ensures { IfOk result (λ ledger. ledger.entries ≡ []) }
 {
     let mut ledger = Ledger::open(alloc, config)?;
     ledger.reserve(count)?;
+    Ok(ledger)
+}
+
+/// A log without records, with capacity for `count`.
+fn roomy_log(alloc: Global, count: usize) -> Result<UndoLog, AllocError>
+    ensures { IfOk result (λ log. log.parts ≡ []) }
+{
     let mut log = UndoLog::new(alloc);
     match log.reserve(count) {
-        Ok(()) => Ok((ledger, log)),
+        Ok(()) => Ok(log),
         Err(refused) => {
             log.close();
             Err(refused)
@@ -223,7 +234,8 @@ fn reserved(rt: HostRuntime) -> Result<(), Fail> {
         return Err(Fail::from("not three operations"));
     };
     let config = twice!(config_of(alloc, script));
-    let (mut ledger, mut log) = twice!(roomy(alloc, &config, 3));
+    let mut ledger = twice!(roomy_ledger(alloc, &config, 3));
+    let mut log = twice!(roomy_log(alloc, 3));
     climb(&rt, &mut ledger, &mut log, withdrawal, 700);
     climb(&rt, &mut ledger, &mut log, cancel, 1000);
     climb(&rt, &mut ledger, &mut log, again, 1000);

@@ -288,19 +288,35 @@ const FOUND: [Found; 4] = [
     (Some(1000), Some(0), Some(0), None),
 ];
 
+fn found_at(ledger: &Ledger, position: u32) -> Found {
+    let (balance, moved) = balance_at(ledger, position, Place(0));
+    (
+        balance,
+        moved,
+        ledger.count(position),
+        ledger.first_cancel(position),
+    )
+}
+
+/// The ledger of site 0 after a script.
+fn ledger_after(alloc: Global, script: &str) -> Result<Ledger, Fail> {
+    let applied = applied_at_first(alloc, script)?;
+    let config = config_of(alloc, script)?;
+    ledger_of(alloc, &config, applied.as_slice())
+}
+
 #[test]
 fn looks_up(rt: HostRuntime) -> Result<(), Fail> {
-    let alloc = rt.alloc();
-    let script = row_named("two_cancels_of_one_withdrawal")?.script;
-    let applied = applied_at_first(alloc, script)?;
-    let ledger = ledger_of(alloc, &config_of(alloc, script)?, applied.as_slice())?;
+    let row = row_named("two_cancels_of_one_withdrawal")?;
+    let ledger = ledger_after(rt.alloc(), row.script)?;
     for (found, position) in FOUND.iter().zip(0..4) {
-        let (balance, moved) = balance_at(&ledger, position, Place(0));
-        let (_, _, count, first) = answers_at(&ledger, position);
-        equal(&rt, (balance, moved, count, first), *found);
+        equal(&rt, found_at(&ledger, position), *found);
     }
     Ok(())
 }
+
+/// The first account's balance and how often the first operation is cancelled, three times.
+type Undone = [(Option<u64>, Option<u32>); 3];
 
 /// The first account's balance, and how often the first operation is cancelled.
 fn first_of(ledger: &Ledger) -> (Option<u64>, Option<u32>) {
@@ -308,11 +324,7 @@ fn first_of(ledger: &Ledger) -> (Option<u64>, Option<u32>) {
 }
 
 /// The same after these operations, once the last is undone, and once the one before it is.
-fn two_undone(
-    ledger: &mut Ledger,
-    log: &mut UndoLog,
-    shadows: &[Shadow],
-) -> Result<[(Option<u64>, Option<u32>); 3], Fail>
+fn two_undone(ledger: &mut Ledger, log: &mut UndoLog, shadows: &[Shadow]) -> Result<Undone, Fail>
     requires { log.old.parts ≡ records_of ledger.old.settings ledger.old.entries }
 {
     apply_all(ledger, log, shadows)?;
@@ -323,21 +335,27 @@ fn two_undone(
     Ok([all, but_one, first_of(ledger)])
 }
 
+/// The same of a new ledger.
+fn two_undone_of(alloc: Global, config: &Config, shadows: &[Shadow]) -> Result<Undone, Fail> {
+    let mut ledger = Ledger::open(alloc, config)?;
+    let mut log = UndoLog::new(alloc);
+    let seen = two_undone(&mut ledger, &mut log, shadows);
+    log.close();
+    seen
+}
+
 /// Of two cancellations of one withdrawal only the first moves money, so only its undoing takes it back.
 #[test]
 fn undo_two(rt: HostRuntime) -> Result<(), Fail> {
-    let alloc = rt.alloc();
     let script = row_named("two_cancels_of_one_withdrawal")?.script;
-    let applied = applied_at_first(alloc, script)?;
-    let mut ledger = Ledger::open(alloc, &config_of(alloc, script)?)?;
-    let mut log = UndoLog::new(alloc);
-    let seen = two_undone(&mut ledger, &mut log, applied.as_slice());
-    log.close();
+    let config = config_of(rt.alloc(), script)?;
+    let applied = applied_at_first(rt.alloc(), script)?;
+    let seen = two_undone_of(rt.alloc(), &config, applied.as_slice())?;
     let wanted = [
         (Some(1000), Some(2)),
         (Some(1000), Some(1)),
         (Some(700), Some(0)),
     ];
-    equal(&rt, seen?, wanted);
+    equal(&rt, seen, wanted);
     Ok(())
 }
