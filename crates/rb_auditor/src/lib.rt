@@ -1,5 +1,5 @@
 //! Audits of histories: whether sites that share nothing but messages could have recorded them.
-//! Tests: rb_tests_runs, auditor.rt.
+//! Tests: rb_tests_runs, auditor.rt; tests/cases, audits.cases.
 #![tactic(auto)]
 
 mod audit_fault;

@@ -1,5 +1,5 @@
 //! The words of the command line.
-//! Tests: rb_tests_runs, words.rt.
+//! Tests: tests/cases, words.cases; tests/sites.py, tests/closings.py.
 #![tactic(auto)]
 
 mod arguments;

@@ -7,7 +7,7 @@
 //! for the member that comes next, and one of a value for a member by its key, in any order. When the readers of
 //! commands and of histories became one, an application and a statement took 40 % more instructions (bench/README.md).
 //! Refusals that were read once, over a trait of two sources, took as many as before, but 400 lines more, most of them
-//! of proofs. So no more is shared than these words. Tests: rb_tests_runs, commands.rt, replies.rt, entries.rt.
+//! of proofs. So no more is shared than these words. Tests: tests/cases, tests/sites.py.
 #![tactic(auto)]
 
 mod accounts;

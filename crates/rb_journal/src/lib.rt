@@ -9,7 +9,7 @@
 //! is put out that a crash takes back.
 //!
 //! A journal can be sealed ([`is_sealed`]): it is then never written again.
-//! Tests: rb_tests, journal.rt, journal_seal.rt; tests/sites.py, tests/crash.py.
+//! Tests: tests/sites.py, tests/crash.py, tests/disk.py.
 #![tactic(auto)]
 
 mod alone;

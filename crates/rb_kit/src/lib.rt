@@ -1,5 +1,5 @@
 //! Lists that contracts see as lists, and spare capacity, for any crate.
-//! Tests: rb_tests, site.rt, statements.rt.
+//! Tests: rb_tests, worlds.rt.
 #![tactic(auto)]
 
 mod exact;

@@ -1,6 +1,6 @@
 //! Lines between a reader and a writer: the bytes that wait, the bytes that are buffered for the writer, a run over
 //! lines that are answered, and why it stops.
-//! Tests: rb_tests_runs, scripts.rt, audits.rt.
+//! Tests: rb_tests_runs, scripts.rt; tests/cases.py.
 #![tactic(auto)]
 
 mod buffers;

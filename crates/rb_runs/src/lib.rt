@@ -1,5 +1,5 @@
 //! Whole runs between a reader and a writer, a line each: a script, its histories, an audit and a migration.
-//! Tests: rb_tests_runs, scripts.rt, histories.rt, audits.rt, audited.rt, books.rt, migrations.rt.
+//! Tests: rb_tests_runs, scripts.rt, audited.rt; tests/cases.py, tests/closings.py.
 #![tactic(auto)]
 
 mod audit;

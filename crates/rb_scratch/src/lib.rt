@@ -1,5 +1,5 @@
 //! Requests, and what they make.
-//! Tests: rb_tests, requests.rt, batches.rt.
+//! Tests: rb_tests, refused.rt; tests/cases, scripts.cases.
 #![tactic(auto)]
 
 ghost use Rattle.std.specs.Prelude.{◌≡◌};

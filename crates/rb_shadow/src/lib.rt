@@ -1,5 +1,5 @@
 //! Shadow operations: their names, kinds, colours and order.
-//! Tests: rb_tests, shadow.rt.
+//! Tests: tests/cases, bad_lines.cases, migrations.cases.
 #![tactic(auto)]
 
 mod colour;

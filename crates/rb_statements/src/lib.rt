@@ -1,5 +1,5 @@
 //! Statements of accounts.
-//! Tests: rb_tests, statements.rt.
+//! Tests: rb_tests, refused.rt; tests/cases, scripts.cases.
 #![tactic(auto)]
 
 mod account;

@@ -3,7 +3,7 @@
 //! After "Ordering and replicating operations" of the published paper: only the coordinator that has the
 //! unique token may accept a red operation. The token goes from site to site in messages, each
 //! with an epoch of its own, so that a message which comes twice is taken once.
-//! Tests: rb_tests, token.rt.
+//! Tests: rb_tests, refused.rt; tests/cases.py.
 #![tactic(auto)]
 
 mod accepted;

@@ -1,5 +1,5 @@
 //! Records that undo entries of a ledger, and logs of them.
-//! Tests: rb_tests, undo.rt.
+//! Tests: rb_tests, worlds.rt, refused.rt.
 #![tactic(auto)]
 
 mod parts;

@@ -1,5 +1,5 @@
 //! A site's clock: how many blue operations of each site, and how many red ones of all, it applied.
-//! Tests: rb_tests, clock.rt.
+//! Tests: rb_tests, refused.rt.
 #![tactic(auto)]
 
 mod clock;

@@ -1,6 +1,6 @@
 //! `rbbank`: the sites of a bank, driven by a script or by tellers in threads, one site over its journal, audits and
 //! migrations of the sites' histories, and the closing of its books.
-//! Tests: rb_tests_runs, words.rt; the program itself runs in the gate and on examples/.
+//! Tests: tests/cases, words.cases; the program itself runs in the gate and on examples/.
 #![tactic(auto)]
 
 ghost use Rattle.std.specs.Prelude.{◌≡◌, ◌⊎◌, IfOk, List, MatchResult, false, string_bytes, ℕ};
