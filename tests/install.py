@@ -3,8 +3,9 @@
 
 usage: install.py [--quiet] PROGRAM      (--quiet prints only what is different)
 
-The program and each tool run; a tool finds the installed program and what the refusals mean; the manual pages have no
-fault in the eyes of groff, if it is there; and whatever help or a manual page names is there too.
+The program and each tool run; a tool finds the installed program and what the refusals mean; books are closed and a
+lost journal made again by the tools that are there; the manual pages have no fault in the eyes of groff, if it is
+there; and whatever help or a manual page names is there too.
 """
 from __future__ import annotations
 
@@ -17,10 +18,15 @@ import tempfile
 from collections.abc import Iterator
 
 ROOT = os.path.dirname(os.path.dirname(os.path.abspath(__file__)))
-TOOLS = ("draw", "explain", "wire")
+TOOLS = ("draw", "explain", "wire", "close", "rebuild")
+PAGES = ("rbbank(1)", "rbbank(5)", "rbbank-running(7)", "rbbank-periods(7)")
+NAMED = re.compile(r"(?:\bman (\d) |(?:\b|\\fB))(rbbank[a-z-]*)(?:(?:\\fR)?\((\d)\))?")
 CONFIG = '{"accounts":[["ann",0]],"sites":2,"version":1}\n'
 SCRIPT = CONFIG + '{"deposit":["bob",5],"site":0}\n'
 BAD = CONFIG + '{"deposit":["ann"],"site":0}\n'
+DEPOSIT = '{"deposit":["ann",500]}\n'
+SHADOW = ('{"bank":"0001","shadow":{"account":"ann","amount":500,"deps":[[0,0,0,0,0,0,0,0],0],"home":0,'
+          '"kind":"deposit","name":"B0.1"}}\n')
 Results = Iterator[tuple[str, bool]]
 
 
@@ -62,27 +68,54 @@ def tools(there: Installed) -> Results:
         yield "... names no script", f"{tool}.py" not in out
 
 
+def periods(there: Installed) -> Results:
+    """The books of a period are closed, and a lost journal is made again, as rbbank-periods(7) says it."""
+    folder = there.path("bank")
+    os.mkdir(folder)
+    with open(os.path.join(folder, "0001.bank"), "w", encoding="utf-8") as file:
+        file.write(CONFIG)
+    for site, event in enumerate((DEPOSIT, SHADOW)):
+        journal = os.path.join(folder, f"0001.{site}.journal")
+        found = there.ran("rbbank", "site", "--me", str(site), "--journal", journal, "--bank", "0001", "--new",
+                          given=CONFIG + event)
+        yield f"site {site}", found[1:] == ("", 0) and found[0].count("\n") == 1
+    again = os.path.join(folder, "again")
+    found = there.ran("rbbank-rebuild", "0", "--to", again, os.path.join(folder, "0001.1.journal"))
+    yield "rebuild", found[1:] == ("", 0) and os.path.exists(again)
+    out, errors, status = there.ran("rbbank-close", folder, "--account", "bob")
+    yield "close", out.startswith("0001 is closed, with 500 cents.") and (errors, status) == ("", 0)
+
+
+def path_of(there: Installed, name: str, section: str) -> str:
+    return there.path("share", "man", f"man{section}", f"{name}.{section}")
+
+
+def named(text: str) -> set[tuple[str, str]]:
+    """The manual pages that a text names: their names and sections."""
+    found = (match.groups() for match in NAMED.finditer(text.replace("\\-", "-")))
+    return {(name, before or behind) for before, name, behind in found if before or behind}
+
+
 def pages(there: Installed) -> Results:
     """The manual pages are right, and what help and they name is there."""
     texts = {}
-    for section in ("1", "5"):
-        path = there.path("share", "man", f"man{section}", f"rbbank.{section}")
+    for page in PAGES:
+        path = path_of(there, *page.rstrip(")").split("("))
         with open(path, encoding="utf-8") as file:
-            texts[f"rbbank({section})"] = file.read()
+            texts[page] = file.read()
         if shutil.which("groff"):
             run = subprocess.run(["groff", "-man", "-ww", "-Tutf8", path], capture_output=True, text=True)
-            yield f"groff on rbbank({section})", (run.stderr, run.returncode) == ("", 0)
+            yield f"groff on {page}", (run.stderr, run.returncode) == ("", 0)
     top = there.ran("rbbank", "--help")[0]
     commands = re.findall(r"^  ([a-z]+)  ", top.split("\nCommands:\n")[1].split("\n\n")[0], re.M)
     texts |= {"--help": top} | {f"{name} --help": there.ran("rbbank", name, "--help")[0] for name in commands[:-1]}
     yield "eight commands", len(commands) == 8 and commands[-1] == "help"
     for name, text in texts.items():
-        plain = text.replace("\\-", "-")
-        sections = re.findall(r"\bman (\d) rbbank\b|(?:\b|\\fB)rbbank(?:\\fR)?\((\d)\)", plain)
-        found = [there.path("share", "man", f"man{a or b}", f"rbbank.{a or b}") for a, b in sections]
-        yield f"{name} names pages that are there", bool(found) and all(map(os.path.exists, found))
+        found = named(text)
+        are_there = [os.path.exists(path_of(there, *at)) for at in found]
+        yield f"{name} names pages that are there", bool(found) and all(are_there)
         # in the sources there is more, and is said to be there
-        elsewhere = re.sub(r"\(in\s+the\s+sources\s[^)]*\)|\(draw\.py there\)", "", plain).split("\n.TH", 1)[-1]
+        elsewhere = re.sub(r"\(in\s+the\s+sources\s[^)]*\)", "", text).split("\n.TH", 1)[-1]
         yield "... and no file that isn't", not re.search(r"\w+\.(?:md|py)\b", elsewhere)
 
 
@@ -101,7 +134,7 @@ def main() -> int:
         print(__doc__)
         return 0 if words in (["-h"], ["--help"]) else 2
     there, wrong = Installed(words[0]), 0
-    for test in (tools, pages, examples):
+    for test in (tools, periods, pages, examples):
         for name, fine in test(there):
             wrong += not fine
             if not fine or "--quiet" not in sys.argv:

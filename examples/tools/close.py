@@ -63,7 +63,8 @@ class Closing(NamedTuple):
 
 
 def options() -> argparse.Namespace:
-    reader = argparse.ArgumentParser(description=__doc__, formatter_class=argparse.RawDescriptionHelpFormatter)
+    described = (__doc__ or "").replace("close.py", os.path.basename(sys.argv[0]))
+    reader = argparse.ArgumentParser(description=described, formatter_class=argparse.RawDescriptionHelpFormatter)
     reader.add_argument("folder", metavar="FOLDER", help="where the bank's periods are")
     reader.add_argument("--sites", metavar="N", help="the number of the next bank's sites; else as many as before")
     reader.add_argument("--account", metavar="NAME", action="append", default=[], help="an account that is added")

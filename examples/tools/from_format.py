@@ -1,16 +1,25 @@
 #!/usr/bin/env python3
-"""Makes the manual page rbbank(5) from docs/FORMAT.md.
+"""Makes the manual pages rbbank(5), rbbank-running(7) and rbbank-periods(7) from pages of docs/.
 
-usage: from_format.py PAGE NAME     writes the manual page NAME(5) of the page to standard output
+usage: from_format.py PREFIX     writes them below PREFIX: share/man
 
 It reads the Markdown that the page is written in: headings, paragraphs, tables, lines that are indented as they are,
 `code` and **what matters**. A row of a table becomes a paragraph: its first cell, and the others below it, each behind
 the name of its column if there are several or it is a number. A table of two halves that have the same columns is read
-half by half.
+half by half. A script of examples/tools that is installed has the name that it has then, and a page that of its manual
+page.
 """
+import os
 import re
 import sys
 
+ROOT = os.path.dirname(os.path.dirname(os.path.dirname(os.path.abspath(__file__))))
+PAGES = {"docs/FORMAT.md": ("rbbank", 5), "docs/RUNNING.md": ("rbbank-running", 7),
+         "docs/PERIODS.md": ("rbbank-periods", 7)}
+TOOL = re.compile(r"\b(?:examples/tools/)?(draw|explain|wire|close|rebuild)\.py\b")
+# in brackets: where these are in the sources, and a file that only the sources have
+PLACE = re.compile(r" \(examples/tools(?:, installed as `[\w-]+`)?\)")
+ELSEWHERE = re.compile(r"\(([\w/]+\.(?:md|py))\)")
 PIECE = re.compile(r"`([^`]+)`|\*\*([^*]+)\*\*")
 CELLS = re.compile(r"(?<!\\)\|")
 
@@ -23,6 +32,13 @@ def roff(text):
     """A text as roff shows it."""
     text = text.replace("\\", "\\e").replace("-", "\\-").replace("'", "\\(aq").replace("^", "\\(ha")
     return "\\&" + text if text.startswith(".") else text
+
+
+def installed(text):
+    """A text with the names that are there once it is installed."""
+    for page, (name, section) in PAGES.items():
+        text = text.replace(page, f"{name}({section})")
+    return ELSEWHERE.sub(r"(in the sources \1)", TOOL.sub(r"rbbank-\1", PLACE.sub("", text)))
 
 
 def code(text):
@@ -76,31 +92,41 @@ def block(lines):
     return [".PP", inline(" ".join(lines))]
 
 
-def page(text, name):
-    """The manual page of a text in Markdown, whose first line is its title."""
-    title, *blocks = [block.split("\n") for block in text.strip("\n").split("\n\n")]
+def page(path, text):
+    """The manual page of a page of docs/, whose first line is its title."""
+    title, *blocks = [block.split("\n") for block in installed(text).strip("\n").split("\n\n")]
     if len(title) != 1 or not title[0].startswith("# "):
-        raise Stop("the first line is no title")
-    lines = ['.\\" Made by examples/tools/from_format.py from docs/FORMAT.md.', f".TH {name.upper()} 5", ".nh", ".ad l",
-             ".SH NAME", f"{name} \\- {roff(title[0][2:].lower())}", ".SH DESCRIPTION"]
+        raise Stop(f"{path}: the first line is no title")
+    name, section = PAGES[path]
+    others = [("rbbank", 1), *(other for other in PAGES.values() if other != (name, section))]
+    lines = [f'.\\" Made by examples/tools/from_format.py from {path}.', f".TH {name.upper()} {section}", ".nh",
+             ".ad l", ".SH NAME", f"{name} \\- {roff(title[0][2:].lower())}", ".SH DESCRIPTION"]
     for each in blocks:
         lines += block(each)
-    return "\n".join([*lines, ".SH SEE ALSO", f"\\fB{name}\\fR(1)"]) + "\n"
+    return "\n".join([*lines, ".SH SEE ALSO", ", ".join(f"\\fB{roff(name)}\\fR({n})" for name, n in others)]) + "\n"
+
+
+def write(prefix):
+    for path, (name, section) in PAGES.items():
+        folder = os.path.join(prefix, "share", "man", f"man{section}")
+        with open(os.path.join(ROOT, path), encoding="utf-8") as file:
+            text = file.read()
+        os.makedirs(folder, exist_ok=True)
+        with open(os.path.join(folder, f"{name}.{section}"), "w", encoding="utf-8") as file:
+            file.write(page(path, text))
 
 
 def main(words):
     if words in (["-h"], ["--help"]):
         print(__doc__.strip())
         return 0
-    if len(words) != 2:
+    if len(words) != 1 or words[0].startswith("-"):
         print(__doc__.strip(), file=sys.stderr)
         return 2
     try:
-        with open(words[0], encoding="utf-8") as file:
-            text = file.read()
+        write(words[0])
     except OSError as error:
-        raise Stop(f"{words[0]}: {error.strerror}") from None
-    sys.stdout.write(page(text, words[1]))
+        raise Stop(f"{error.filename}: {error.strerror}") from None
     return 0
 
 

@@ -131,7 +131,9 @@ def manual(name, top, pages):
         lines += [f".SS {name} {command}", f"{roff(page.about)}.", *values, *roff_options(page.options)]
         lines += [".PP", *roff_rest(page.rest)] if page.rest else []
     lines += [".SH EXAMPLES", *roff_rest(top.rest)] if top.rest else []
-    return "\n".join([*lines, ".SH SEE ALSO", f"\\fB{name}\\fR(5)"]) + "\n"
+    others = ", ".join(f"\\fB{roff(other)}\\fR({n})" for other, n in
+                       ((name, 5), (f"{name}-running", 7), (f"{name}-periods", 7)))
+    return "\n".join([*lines, ".SH SEE ALSO", others]) + "\n"
 
 
 # ---- completions

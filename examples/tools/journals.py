@@ -18,12 +18,14 @@ Json = dict[str, Any]
 AT_ONCE = 30_000  # bytes of lines that a site is given before its answers are read, so that a pipe takes them
 AT_REST, SEALED = b"\n ", b"\n\t"  # what a journal ends in
 ALL = 100_000_000  # entries, more than any journal has
-WHICH = "the program; else rbbank on PATH, or the one that is built"  # the help of --program
+OTHERWISE = "the installed one" if bank.IS_INSTALLED else "rbbank on PATH, or the one that is built"
+WHICH = f"the program; else {OTHERWISE}"  # the help of --program
 
 
 def program(given: str | None) -> str:
-    """The path of the program: this one, else that on PATH, else the one that is built."""
-    found = given or shutil.which("rbbank") or (bank.BUILT if bank.built() else None)
+    """The path of the program: this one, else the installed one, else that on PATH, else the one that is built."""
+    ours = bank.INSTALLED if bank.IS_INSTALLED else shutil.which("rbbank")
+    found = given or ours or (bank.BUILT if bank.built() else None)
     if found is None:
         raise bank.Stop("no rbbank is on PATH, and none is built (make build); --program gives one")
     if not os.access(found, os.X_OK) or os.path.isdir(found):

@@ -35,7 +35,8 @@ FULL, NOT_YOURS = 16, 21  # the refusals of good messages: there was no place, a
 
 
 def options() -> argparse.Namespace:
-    reader = argparse.ArgumentParser(description=__doc__, formatter_class=argparse.RawDescriptionHelpFormatter)
+    described = (__doc__ or "").replace("rebuild.py", os.path.basename(sys.argv[0]))
+    reader = argparse.ArgumentParser(description=described, formatter_class=argparse.RawDescriptionHelpFormatter)
     reader.add_argument("site", metavar="SITE", type=int, help="the number of the lost site")
     reader.add_argument("journals", metavar="JOURNAL", nargs="+", help="the journals of all other sites, in order")
     reader.add_argument("--to", metavar="FILE", required=True, help="the journal to make, which isn't there yet")
