@@ -1,7 +1,7 @@
 -- The answer to one line.
 use Rattle.std.proofs.Common.{◌≡◌, ◌∙◌, ℕ, ◌+◌, true, false, List, [], ◌∷◌, ◌++◌, cond, refl, sym, ap, append-nil}
 use Rattle.rb_journal.specs.Alone.{IsAnsweredAlone}
-use Rattle.rb_journal.specs.Turns.{Answers, IsTurn, is_skipped, lines_answered, to_answer}
+use Rattle.rb_journal.specs.Turns.{Answers, IsTurn, is_skipped, to_answer}
 
 -- a turn of a line that isn't skipped, alone
 pub one_turn : {S : Type 0} (answers : Answers S) (old new : S) (lines lines_new batch batch_new : List (List ℕ)) (number : ℕ)

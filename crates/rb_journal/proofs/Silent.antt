@@ -23,13 +23,14 @@ module _ {H : Type 0} {moment : H → ℕ} {left_since : H → ℕ → List ℕ 
   }
 
   -- the first call, before and after which each file that a crash leaves has P
-  pub first_call : {old new : H} → ((c d : List ℕ) → left_since old (moment old) c d → may_leave old c × (d ≡ output old)) →
+  pub first_call : {old new : H} {known : Type 0}
+      → ((c d : List ℕ) → left_since old (moment old) c d → known × may_leave old c × (d ≡ output old)) →
       ((c : List ℕ) → may_leave old c → P c) →
       Elapses (moment old) (moment new) (left_since old) (left_since new) (Silent (may_leave new) (output old))
       → output new ≡ output old → ((c : List ℕ) → may_leave new c → P c) → Keeps moment left_since may_leave output P old new
   first_call {old} only_now at_start time is here =
       let start = started moment left_since old (λ c d. P c × (d ≡ output old))
-      (λ c d left. let at = only_now c d left in (at_start c at.0, at.1)) in
+      (λ c d left. let at = only_now c d left in (at_start c at.1, at.2)) in
       called start refl time is here
 
   -- one sync more, after which a crash leaves no file that it did not leave before

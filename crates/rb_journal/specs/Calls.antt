@@ -11,7 +11,9 @@ abbrev pub noted_call_of : List ℕ → List ℕ → NotedCall
 noted_call_of numbers bytes = (slice_index numbers 0, slice_index numbers 1, slice_index numbers 2 == 1, bytes)
 
 pub data HostCall : Type 0 where
-  -- the file was opened with these bytes, all of them on the disk
+  -- the file was opened with these bytes, and it isn't known what is on the disk
+  opened : (bytes : List ℕ) → HostCall
+  -- these are the bytes of the file, all of them on the disk
   found : (bytes : List ℕ) → HostCall
   wrote : (ok : Bool) (at : ℕ) (bytes : List ℕ) → HostCall
   cut : (ok : Bool) (len : ℕ) → HostCall
@@ -31,10 +33,12 @@ host_call_of (kind, number, ok, bytes) =
     else if kind == 3 then synced ok
     else if kind == 4 then output number bytes
     else if kind == 5 then output_failed bytes
-    else kept ok bytes
+    else if kind == 6 then kept ok bytes
+    else opened bytes
 
 -- what a read returns after the call
 abbrev pub content_after : HostCall → List ℕ → List ℕ
+content_after (opened bytes) file = bytes
 content_after (found bytes) file = bytes
 content_after (wrote ok at bytes) file = take at file ++ bytes ++ drop (at + length bytes) file
 content_after (cut ok len) file = take len file
@@ -50,6 +54,7 @@ content_of (event ∷ past) = content_after (host_call_of event) (content_of pas
 -- what has been put out after the call
 abbrev pub output_after : HostCall → List ℕ → List ℕ
 output_after (output count bytes) before = before ++ take count bytes
+output_after (opened bytes) before = before
 output_after (found bytes) before = before
 output_after (wrote ok at bytes) before = before
 output_after (cut ok len) before = before
@@ -65,6 +70,7 @@ output_of (event ∷ past) = output_after (host_call_of event) (output_of past)
 abbrev pub kept_after : HostCall → List ℕ → List ℕ
 kept_after (kept true bytes) before = before ++ bytes
 kept_after (kept false bytes) before = before
+kept_after (opened bytes) before = before
 kept_after (found bytes) before = before
 kept_after (wrote ok at bytes) before = before
 kept_after (cut ok len) before = before
@@ -77,8 +83,9 @@ abbrev pub kept_of : List NotedCall → List ℕ
 kept_of [] = []
 kept_of (event ∷ past) = kept_after (host_call_of event) (kept_of past)
 
--- what file a crash may leave after the call
+-- what file a crash may leave after the call: any, while it isn't known what is on the disk
 abbrev pub leaves_after : HostCall → List ℕ → (List ℕ → Type 0) → List ℕ → Type 0
+leaves_after (opened bytes) file before c = Unit {0}
 leaves_after (found bytes) file before c = c ≡ bytes
 leaves_after (wrote ok at bytes) file before c = (d : List ℕ) × before d × Torn at bytes d c
 leaves_after (cut ok len) file before c = (d : List ℕ) × before d × Cut len d c
@@ -92,21 +99,37 @@ abbrev pub leaves : List NotedCall → List ℕ → Type 0
 leaves [] c = c ≡ []
 leaves (event ∷ past) c = leaves_after (host_call_of event) (content_of past) (leaves past) c
 
+-- whether it is known after the call what a crash leaves
+abbrev pub known_after : HostCall → Bool → Bool
+known_after (opened bytes) before = false
+known_after (found bytes) before = true
+known_after (wrote ok at bytes) before = before
+known_after (cut ok len) before = before
+known_after (synced ok) before = before
+known_after (output count bytes) before = before
+known_after (output_failed bytes) before = before
+known_after (kept ok bytes) before = before
+
+abbrev pub knows_disk : List NotedCall → Bool
+knows_disk [] = true
+knows_disk (event ∷ past) = known_after (host_call_of event) (knows_disk past)
+
 -- what a crash inside the call may leave, besides what it may leave before or after it
 abbrev pub leaves_within : HostCall → (List ℕ → Type 0) → List ℕ → List ℕ → List ℕ → Type 0
 leaves_within (output count bytes) before so_far c d = before c × AddsPrefix so_far bytes d
 leaves_within (output_failed bytes) before so_far c d = before c × AddsPrefix so_far bytes d
+leaves_within (opened bytes) before so_far c d = ⊥
 leaves_within (found bytes) before so_far c d = ⊥
 leaves_within (wrote ok at bytes) before so_far c d = ⊥
 leaves_within (cut ok len) before so_far c d = ⊥
 leaves_within (synced ok) before so_far c d = ⊥
 leaves_within (kept ok bytes) before so_far c d = ⊥
 
--- what a crash may have left since the time when there were t calls
+-- what a crash may have left since the time when there were t calls, at a moment at which that is known
 abbrev pub left_since : List NotedCall → ℕ → List ℕ → List ℕ → Type 0
 left_since [] t c d = (c ≡ []) × (d ≡ [])
 left_since (event ∷ past) t c d =
-    (leaves (event ∷ past) c × (d ≡ output_of (event ∷ past)))
+    ((knows_disk (event ∷ past) ≡ true) × leaves (event ∷ past) c × (d ≡ output_of (event ∷ past)))
     ⊎ ((t ≤ length past) × (leaves_within (host_call_of event) (leaves past) (output_of past) c d ⊎ left_since past t c d))
 
 abbrev pub faults_after : HostCall → ℕ → ℕ
@@ -115,6 +138,7 @@ faults_after (cut false len) n = suc n
 faults_after (synced false) n = suc n
 faults_after (output_failed bytes) n = suc n
 faults_after (kept false bytes) n = suc n
+faults_after (opened bytes) n = n
 faults_after (found bytes) n = n
 faults_after (wrote true at bytes) n = n
 faults_after (cut true len) n = n

@@ -5,7 +5,7 @@ use Rattle.std.specs.declared.io.ErrorKind.TheVariants.{OutOfMemory}
 use Rattle.rb_journal.specs.Calls.{NotedCall}
 use Rattle.rb_journal.specs.declared.disk.Disk.{Disk}
 use Rattle.rb_journal.specs.declared.open_error.OpenError.{OpenError}
-use Rattle.rb_journal.specs.declared.open_error.OpenError.TheVariants.{NoFile, NotEmpty, Failed}
+use Rattle.rb_journal.specs.declared.open_error.OpenError.TheVariants.{NoFile, NotEmpty, IsErrors, Failed}
 
 -- the log of its calls
 abbrev pub disk_log : {R P : Type 0} → Disk R P → List NotedCall
@@ -15,6 +15,7 @@ disk_log disk = disk.log.events
 abbrev pub IsAskedFor : Bool → OpenError → Type 0
 IsAskedFor new NoFile = new ≡ false
 IsAskedFor new NotEmpty = new ≡ true
+IsAskedFor new IsErrors = Unit {0}
 IsAskedFor new (Failed error) = Unit {0}
 
 -- there was no memory

@@ -4,7 +4,10 @@ use Rattle.rb_journal.specs.Calls.{NotedCall}
 use Rattle.rb_journal.specs.declared.call.Call.{Call}
 use Rattle.rb_journal.specs.declared.call.Call.TheVariants.{Write, Cut, Sync, Keep, PutOut}
 
--- a file that was opened and read, and calls that succeeded, as a log notes them
+-- a file that was opened and read, one whose bytes are all on the disk, and calls that succeeded, as a log notes them
+abbrev pub opened_event : List ℕ → NotedCall
+opened_event bytes = (7, 0, true, bytes)
+
 abbrev pub found_event : List ℕ → NotedCall
 found_event bytes = (0, 0, true, bytes)
 

@@ -1,12 +1,12 @@
 //! Each call in a log, by its kind: what a host that keeps the log then says of its file and of its output.
-ghost use Rattle.std.specs.Prelude.{◌≡◌, ◌+◌, ◌<◌, ◌≤◌, ◌↔◌, ◌++◌, [], ◌∷◌, List, ℕ, length, take, false};
+ghost use Rattle.std.specs.Prelude.{◌≡◌, ◌⊎◌, ◌+◌, ◌<◌, ◌≤◌, ◌↔◌, ◌++◌, [], ◌∷◌, List, ℕ, length, take, false, true};
 ghost use Rattle.std.specs.Prelude.{IsTrue, IsOk, IsSome};
 ghost use Rattle.std.specs.Prelude.{IfSome, OnOk, IfOk};
 ghost use Rattle.std.specs.Option.{ForSome};
 ghost use Rattle.rb_journal.specs.Host.{Only, StepsFrom, Torn, Cut, IsWritten, Silent, Outputs, AddsPrefix, Elapses};
 ghost use Rattle.rb_journal.specs.Host.{DiskCause, OutputCause};
-ghost use Rattle.rb_journal.specs.Calls.{content_of, output_of, kept_of, leaves, left_since, faults_of};
-ghost use Rattle.rb_journal.specs.Planned.{cut_event, found_event, kept_event, made_event, output_event};
+ghost use Rattle.rb_journal.specs.Calls.{content_of, output_of, kept_of, knows_disk, leaves, left_since, faults_of};
+ghost use Rattle.rb_journal.specs.Planned.{cut_event, found_event, kept_event, made_event, opened_event, output_event};
 ghost use Rattle.rb_journal.specs.Planned.{sync_event, wrote_event};
 
 use crate::HostError;
@@ -27,6 +27,8 @@ const OUTPUT_FAILED: u64 = 5;
 
 const KEPT: u64 = 6;
 
+const OPENED: u64 = 7;
+
 /// A call that was made as it was asked for.
 pub(crate) fn made(log: &mut CallLog, call: &Call)
     ensures { log.new.events ≡ made_event call.now ∷ log.old.events }
@@ -40,11 +42,26 @@ pub(crate) fn made(log: &mut CallLog, call: &Call)
     }
 }
 
+/// A file was opened, and these were its bytes. It isn't known what of them is on the disk.
+pub(crate) fn opened(bytes: &[u8]) -> CallLog
+    ensures noted { result.events ≡ opened_event bytes.now ∷ [] }
+    ensures content { content_of result.events ≡ bytes.now }
+    ensures output { output_of result.events ≡ [] }
+    ensures kept { kept_of result.events ≡ [] }
+    ensures fine { faults_of result.events ≡ 0 }
+    ensures unknown { knows_disk result.events ≡ false }
+{
+    let mut log = CallLog::new();
+    log.note(&[OPENED, 0, 1], bytes);
+    log
+}
+
 /// A file was opened, and these were its bytes, all of them on the disk.
 pub(crate) fn found(bytes: &[u8]) -> CallLog
     ensures noted { result.events ≡ found_event bytes.now ∷ [] }
     ensures content { content_of result.events ≡ bytes.now }
     ensures durable { Only bytes.now (leaves result.events) }
+    ensures known { knows_disk result.events ≡ true }
     ensures output { output_of result.events ≡ [] }
     ensures kept { kept_of result.events ≡ [] }
     ensures usable { faults_of result.events ≡ 0 }
@@ -52,6 +69,33 @@ pub(crate) fn found(bytes: &[u8]) -> CallLog
     let mut log = CallLog::new();
     log.note(&[FOUND, 0, 1], bytes);
     log
+}
+
+/// The bytes of the file, these, were written again, and whether it succeeded: then all of them are on the disk.
+pub(crate) fn written_again(log: &mut CallLog, bytes: &[u8], ok: bool) -> Result<(), HostError>
+    requires fine { faults_of log.old.events ≡ 0 }
+    requires bytes { bytes.now ≡ content_of log.old.events }
+    requires durable { knows_disk log.old.events ≡ true → Only (content_of log.old.events) (leaves log.old.events) }
+    ensures ok { IsTrue ok ↔ IsOk result }
+    ensures usable { OnOk result ((faults_of log.new.events ≡ 0) × (knows_disk log.new.events ≡ true)) }
+    ensures durable { OnOk result (Only (content_of log.old.events) (leaves log.new.events)) }
+    ensures known { knows_disk log.old.events ≡ true → knows_disk log.new.events ≡ true }
+    ensures content { content_of log.new.events ≡ content_of log.old.events }
+    ensures crash { (c : List ℕ) → leaves log.new.events c → (c ≡ content_of log.old.events) ⊎ leaves log.old.events c }
+    ensures output { output_of log.new.events ≡ output_of log.old.events }
+    ensures kept { kept_of log.new.events ≡ kept_of log.old.events }
+    ensures time { Elapses (length log.old.events) (length log.new.events) (left_since log.old.events)
+        (left_since log.new.events)
+        (λ c d. (c ≡ content_of log.old.events) × (d ≡ output_of log.old.events)) }
+    ensures cause { DiskCause (faults_of log.old.events) (faults_of log.new.events) result }
+{
+    if ok {
+        log.note(&[FOUND, 0, 1], bytes);
+        Ok(())
+    } else {
+        log.note(&[SYNCED, 0, 0], bytes);
+        Err(HostError::DiskFailed)
+    }
 }
 
 /// A write of these bytes at this place, and whether it succeeded.
@@ -64,6 +108,7 @@ pub(crate) fn wrote(log: &mut CallLog, at: usize, bytes: &[u8], ok: bool) -> Res
     ensures crash { StepsFrom (Torn at bytes.now) (leaves log.old.events) (leaves log.new.events) }
     ensures output { output_of log.new.events ≡ output_of log.old.events }
     ensures kept { kept_of log.new.events ≡ kept_of log.old.events }
+    ensures known { knows_disk log.old.events ≡ true → knows_disk log.new.events ≡ true }
     ensures time { Elapses (length log.old.events) (length log.new.events) (left_since log.old.events)
         (left_since log.new.events)
         (Silent (leaves log.new.events) (output_of log.old.events)) }
@@ -89,6 +134,7 @@ pub(crate) fn cut(log: &mut CallLog, len: usize, ok: bool) -> Result<(), HostErr
     ensures crash { StepsFrom (Cut len) (leaves log.old.events) (leaves log.new.events) }
     ensures output { output_of log.new.events ≡ output_of log.old.events }
     ensures kept { kept_of log.new.events ≡ kept_of log.old.events }
+    ensures known { knows_disk log.old.events ≡ true → knows_disk log.new.events ≡ true }
     ensures time { Elapses (length log.old.events) (length log.new.events) (left_since log.old.events)
         (left_since log.new.events)
         (Silent (leaves log.new.events) (output_of log.old.events)) }
@@ -114,6 +160,7 @@ pub(crate) fn synced(log: &mut CallLog, ok: bool) -> Result<(), HostError>
     ensures crash { (c : List ℕ) → leaves log.new.events c → leaves log.old.events c }
     ensures output { output_of log.new.events ≡ output_of log.old.events }
     ensures kept { kept_of log.new.events ≡ kept_of log.old.events }
+    ensures known { knows_disk log.old.events ≡ true → knows_disk log.new.events ≡ true }
     ensures time { Elapses (length log.old.events) (length log.new.events) (left_since log.old.events)
         (left_since log.new.events)
         (Silent (leaves log.new.events) (output_of log.old.events)) }
@@ -138,6 +185,7 @@ pub(crate) fn kept(log: &mut CallLog, bytes: &[u8], ok: bool) -> Result<(), Host
     ensures content { content_of log.new.events ≡ content_of log.old.events }
     ensures crash { (c : List ℕ) → leaves log.new.events c → leaves log.old.events c }
     ensures output { output_of log.new.events ≡ output_of log.old.events }
+    ensures known { knows_disk log.old.events ≡ true → knows_disk log.new.events ≡ true }
     ensures time { Elapses (length log.old.events) (length log.new.events) (left_since log.old.events)
         (left_since log.new.events)
         (Silent (leaves log.new.events) (output_of log.old.events)) }
@@ -170,6 +218,7 @@ pub(crate) fn output(
     ensures kept { kept_of log.new.events ≡ kept_of log.old.events }
     ensures content { content_of log.new.events ≡ content_of log.old.events }
     ensures crash { (c : List ℕ) → leaves log.new.events c → leaves log.old.events c }
+    ensures known { knows_disk log.old.events ≡ true → knows_disk log.new.events ≡ true }
     ensures time { Elapses (length log.old.events) (length log.new.events) (left_since log.old.events)
         (left_since log.new.events)
         (Outputs (leaves log.old.events) (output_of log.old.events) bytes.now) }

@@ -5,17 +5,20 @@
 //! one byte is there or isn't; a write of the bytes that are there changes none of them; only this process writes the
 //! file, since it has the lock. And no standard stream is the file: `open_disk` puts the file above their descriptors,
 //! so that a closed one isn't the file, and refuses a file that is open at one of them.
-ghost use Rattle.std.specs.Prelude.{◌≡◌, ◌<◌, ◌≤◌, [], false, length, string_bytes, true, None, IfErr, IfOk, IfSome};
-ghost use Rattle.rb_journal.specs.Host.{Only};
-ghost use Rattle.rb_journal.specs.Calls.{content_of, output_of, kept_of, leaves, left_since, faults_of};
+ghost use Rattle.std.specs.Prelude.{◌≡◌, ◌<◌, ◌≤◌, ◌∷◌, [], false, length, string_bytes, true, None, IfErr, IfOk};
+ghost use Rattle.std.specs.Prelude.{IfSome};
+ghost use Rattle.rb_journal.specs.Calls.{content_of, output_of, kept_of, knows_disk, leaves, left_since, faults_of};
 ghost use Rattle.rb_journal.specs.CallLaws.{now_counts, now_alone};
 ghost use Rattle.rb_journal.specs.Disk.{IsAskedFor, disk_log};
+ghost use Rattle.rb_journal.specs.Planned.{opened_event};
 
 use crate::call_log::CallLog;
-use crate::named_file::{keep_beside, leads_to, open_above, read_locked, sync_folder, write_again};
+use crate::named_file::{
+    fits_beside, keep_beside, leads_to, open_file, read_locked, sync_folder, write_again,
+};
 use crate::open_error::OpenError;
+use crate::streams::is_errors;
 use crate::{Host, HostError, calls};
-use std::fs::OpenOptions;
 use std::os::fd::{AsFd, AsRawFd};
 use std::os::unix::fs::FileExt;
 use std::rt::Files;
@@ -30,9 +33,14 @@ const NOT_READY: u64 = 1;
 pub struct Disk<R, P> {
     rt: R,
     file: fs::File,
+    /// Why the file can only be read, if that is so.
+    unwritable: Option<io::Error>,
+    /// How many bytes it has, unless somebody else changed it.
+    len: u64,
     /// The name that the file was opened by.
     pub path: String,
     out: P,
+    out_descriptor: i32,
     failed: Option<io::Error>,
     log: CallLog,
 }
@@ -47,7 +55,10 @@ impl<R, P> Disk<R, P> {
     fn is_done(&mut self, done: io::Result<()>) -> bool
         ensures log { self.new.log ≡ self.old.log }
         ensures file { self.new.file ≡ self.old.file }
+        ensures unwritable { self.new.unwritable ≡ self.old.unwritable }
+        ensures len { self.new.len ≡ self.old.len }
         ensures path { self.new.path ≡ self.old.path }
+        ensures out_descriptor { self.new.out_descriptor ≡ self.old.out_descriptor }
         ensures out { self.new.out ≡ self.old.out }
     {
         match done {
@@ -60,28 +71,25 @@ impl<R, P> Disk<R, P> {
     }
 }
 
-/// Opens the file of this name, or makes it, if a new one is asked for; above the descriptors of the standard streams.
-fn open_file<R: Files<File = fs::File>>(rt: &R, path: &str, new: bool) -> io::Result<fs::File> {
-    let mut how = OpenOptions::new();
-    how.read(true).write(true).create(new);
-    open_above(rt, &how, path)
-}
-
-/// Opens the file of this name, locks it against other processes, and reads its bytes, all of which are on the disk
-/// then, as is the file's name. If a new file is asked for, it is made, unless it is there and empty.
+/// Opens the file of this name, locks it against other processes, and reads its bytes. Nothing of it is changed, and
+/// nothing is known of the disk: `Host::write_again` comes before all else. If a new file is asked for, it is made,
+/// unless it is there and empty.
 ///
 /// Errors: `NoFile` if it isn't there, and no new one is asked for; `NotEmpty` if a new one is asked for, and it is
-/// there with bytes in it; else the system's, `WouldBlock` if another process has the file, or `InvalidInput` if a
-/// standard stream or the output is the file.
+/// there with bytes in it; `IsErrors` if it may be standard error; else the system's, `WouldBlock` if another process
+/// has the file, or `InvalidInput` if it is no regular file, or standard input or the output. A new name has to be one
+/// with `.cut` behind it too.
 pub fn open_disk<R: Files<File = fs::File> + Clock + AllocGlobal + Copy, P: Print + AsFd + Drop>(
     rt: &R,
     path: &str,
     new: bool,
     out: P,
 ) -> Result<(Disk<R, P>, Vec<u8>), OpenError>
-    ensures usable { IfOk result (λ r. faults_of (disk_log r.0) ≡ 0) }
+    // The file was read, and no call was made but that; so it isn't known what of it is on the disk.
+    ensures log { IfOk result (λ r. disk_log r.0 ≡ opened_event r.1.items ∷ []) }
+    ensures unknown { IfOk result (λ r. knows_disk (disk_log r.0) ≡ false) }
+    ensures fine { IfOk result (λ r. faults_of (disk_log r.0) ≡ 0) }
     ensures content { IfOk result (λ r. content_of (disk_log r.0) ≡ r.1.items) }
-    ensures durable { IfOk result (λ r. Only r.1.items (leaves (disk_log r.0))) }
     ensures output { IfOk result (λ r. output_of (disk_log r.0) ≡ []) }
     ensures kept { IfOk result (λ r. kept_of (disk_log r.0) ≡ []) }
     ensures path { IfOk result (λ r. string_bytes r.0.path ≡ path.now) }
@@ -89,8 +97,11 @@ pub fn open_disk<R: Files<File = fs::File> + Clock + AllocGlobal + Copy, P: Prin
     ensures new { IfOk result (λ r. new ≡ true → r.1.items ≡ []) }
     ensures asked { IfErr result (IsAskedFor new) }
 {
-    let mut file = match open_file(rt, path, new) {
-        Ok(file) => file,
+    if new {
+        fits_beside(rt, path)?;
+    }
+    let (mut file, unwritable) = match open_file(rt, path, new) {
+        Ok(opened) => opened,
         Err(error) => {
             if !new && error.kind() == io::ErrorKind::NotFound {
                 return Err(OpenError::NoFile);
@@ -98,21 +109,24 @@ pub fn open_disk<R: Files<File = fs::File> + Clock + AllocGlobal + Copy, P: Prin
             return Err(OpenError::Failed(error));
         }
     };
-    let bytes = read_locked(rt, &mut file, out.as_fd().as_raw_fd())?;
+    if is_errors(rt, &file)? {
+        return Err(OpenError::IsErrors);
+    }
+    let out_descriptor = out.as_fd().as_raw_fd();
+    let bytes = read_locked(rt, &mut file, out_descriptor)?;
     if new && !bytes.is_empty() {
         return Err(OpenError::NotEmpty);
     }
-    write_again(&file, &bytes)?;
-    sync_folder(rt, path)?;
-    let log = calls::found(&bytes);
-    let failed = None;
     let disk = Disk {
         rt: *rt,
         file,
+        unwritable,
+        len: bytes.len() as u64,
         path: String::from_str(rt.alloc(), path)?,
         out,
-        failed,
-        log,
+        out_descriptor,
+        failed: None,
+        log: calls::opened(&bytes),
     };
     Ok((disk, bytes))
 }
@@ -143,8 +157,30 @@ fn put_out<C: Clock, P: Print>(clock: &C, out: &P, bytes: &[u8]) -> Option<usize
     None
 }
 
+impl<R: Files<File = fs::File> + AllocGlobal, P> Disk<R, P> {
+    /// Writes what was read again, if the file may be written and is the one that has the name.
+    fn make_durable(&self, bytes: &[u8]) -> io::Result<()> {
+        if let Some(error) = self.unwritable {
+            return Err(error);
+        }
+        leads_to(&self.rt, self.path.as_str(), &self.file, self.len)?;
+        write_again(&self.file, bytes)?;
+        sync_folder(&self.rt, self.path.as_str())
+    }
+
+    /// Writes bytes at this place, in the file that the next start opens.
+    fn write_there(&self, at: usize, bytes: &[u8]) -> io::Result<()> {
+        leads_to(&self.rt, self.path.as_str(), &self.file, self.len)?;
+        self.file.write_all_at(bytes, at as u64)
+    }
+}
+
 impl<R: Files<File = fs::File> + Clock + Eprint + AllocGlobal, P: Print> Host for Disk<R, P> {
-    ghost is_usable = { λ h. faults_of h.log.events ≡ 0 };
+    ghost never_failed = { λ h. faults_of h.log.events ≡ 0 };
+
+    ghost knows_disk = { λ h. knows_disk h.log.events ≡ true };
+
+    ghost is_usable = { λ h. (faults_of h.log.events ≡ 0) × (knows_disk h.log.events ≡ true) };
 
     ghost content = { λ h. content_of h.log.events };
 
@@ -162,20 +198,21 @@ impl<R: Files<File = fs::File> + Clock + Eprint + AllocGlobal, P: Print> Host fo
 
     ghost faults = { λ h. faults_of h.log.events };
 
-    ghost counts_now = { λ h t c le left. now_counts h.log.events t c le left };
+    ghost counts_now = { λ h t c known le left. now_counts h.log.events t c known le left };
 
     ghost only_now = { λ h c d left. now_alone h.log.events c d left };
 
+    ghost is_known = { λ h usable. usable.1 };
+
+    fn write_again(&mut self, bytes: &[u8]) -> Result<(), HostError> {
+        let done = self.make_durable(bytes);
+        let ok = self.is_done(done);
+        calls::written_again(&mut self.log, bytes, ok)
+    }
+
     fn write_at(&mut self, at: usize, bytes: &[u8]) -> Result<(), HostError> {
-        // The byte that opens a gate is written alone. The file has to be the one that the next start opens.
-        let there = match bytes.len() {
-            1 => leads_to(&self.rt, self.path.as_str(), &self.file),
-            _ => Ok(()),
-        };
-        let done = match there {
-            Ok(()) => self.file.write_all_at(bytes, at as u64),
-            Err(error) => Err(error),
-        };
+        let done = self.write_there(at, bytes);
+        self.len = self.len.max((at as u64).saturating_add(bytes.len() as u64));
         let ok = self.is_done(done);
         calls::wrote(&mut self.log, at, bytes, ok)
     }
@@ -186,12 +223,19 @@ impl<R: Files<File = fs::File> + Clock + Eprint + AllocGlobal, P: Print> Host fo
             Ok(()) => self.file.sync_all(),
             Err(error) => Err(error),
         };
+        self.len = len as u64;
         let ok = self.is_done(done);
         calls::cut(&mut self.log, len, ok)
     }
 
     fn keep(&mut self, lines: u64, bytes: &[u8]) -> Result<(), HostError> {
-        let done = keep_beside(&self.rt, self.path.as_str(), &self.file, bytes);
+        let done = keep_beside(
+            &self.rt,
+            self.path.as_str(),
+            &self.file,
+            self.out_descriptor,
+            bytes,
+        );
         let ok = self.is_done(done);
         if ok {
             say_kept(&self.rt, self.path.as_str(), lines, bytes.len());

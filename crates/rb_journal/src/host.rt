@@ -1,5 +1,5 @@
 //! A file and an output, as the journal sees them: what is there, and what a crash may leave.
-ghost use Rattle.std.specs.Prelude.{◌≡◌, ◌+◌, ◌<◌, ◌≤◌, ◌++◌, List, ℕ, length, take, drop, IfOk, OnOk};
+ghost use Rattle.std.specs.Prelude.{◌≡◌, ◌⊎◌, ◌+◌, ◌<◌, ◌≤◌, ◌++◌, List, ℕ, length, take, drop, IfOk, OnOk};
 ghost use Rattle.rb_journal.specs.declared.host.HostError.TheVariants.{Memory};
 ghost use Rattle.rb_journal.specs.Host.{Only, StepsFrom, Torn, Cut, IsWritten, Silent, Outputs, AddsPrefix, Elapses};
 ghost use Rattle.rb_journal.specs.Host.{DiskCause, MayBeCut, OutputCause};
@@ -38,8 +38,17 @@ impl<T: Drop> From<AllocFailed<T>> for HostError {
 }
 
 /// A file and an output. After an `Err` nothing more may be asked of it.
+///
+/// A file that is just opened was only read, maybe from the system's memory alone: it isn't known what a crash leaves.
+/// So `write_again` is its first call, and before that nothing of it is changed.
 pub trait Host {
     /// No call has failed.
+    ghost never_failed: { Self → Type 0 };
+
+    /// It is known what a crash leaves: the bytes that the file was opened with are or were all on the disk.
+    ghost knows_disk: { Self → Type 0 };
+
+    /// No call has failed, and it is known what a crash leaves.
     ghost is_usable: { Self → Type 0 };
 
     /// The bytes of the file, as a read would return them.
@@ -51,7 +60,7 @@ pub trait Host {
     /// The bytes that were cut off the file and are kept beside it, all of them on the disk.
     ghost kept: { Self → List ℕ };
 
-    /// The files that a crash at this moment may leave.
+    /// The files that a crash at this moment may leave, if that is known.
     ghost may_leave: { Self → List ℕ → Type 0 };
 
     /// The calls that somebody else made and reported, of a host that makes none itself: no call of it changes them.
@@ -61,11 +70,30 @@ pub trait Host {
     ghost moment: { Self → ℕ };
 
     /// The files that a crash at some moment from that one on might have left, during a call or between two,
-    /// each with what was put out by that moment.
+    /// each with what was put out by that moment. Before it is known what a crash leaves no moment counts: it leaves
+    /// what it might have left before the file was opened, and maybe some of the bytes that are written again.
     ghost left_since: { Self → ℕ → List ℕ → List ℕ → Type 0 };
 
     /// How often the file or the output has failed.
     ghost faults: { Self → ℕ };
+
+    /// Writes the bytes of a file that was opened and read again, each in its place, and waits until they are on the
+    /// disk, as is the file's name: an earlier process may have left them in the system's memory alone.
+    fn write_again(&mut self, bytes: &[u8]) -> Result<(), HostError>
+        requires opened { never_failed self.old }
+        requires bytes { bytes.now ≡ content self.old }
+        requires durable { knows_disk self.old → Only (content self.old) (may_leave self.old) }
+        ensures usable { OnOk result (is_usable self.new) }
+        ensures durable { OnOk result (Only (content self.old) (may_leave self.new)) }
+        ensures known { knows_disk self.old → knows_disk self.new }
+        ensures content { content self.new ≡ content self.old }
+        ensures crash { (c : List ℕ) → may_leave self.new c → (c ≡ content self.old) ⊎ may_leave self.old c }
+        ensures output { output self.new ≡ output self.old }
+        ensures kept { kept self.new ≡ kept self.old }
+        ensures reported { reported self.new ≡ reported self.old }
+        ensures time { Elapses (moment self.old) (moment self.new) (left_since self.old) (left_since self.new)
+            (λ c d. (c ≡ content self.old) × (d ≡ output self.old)) }
+        ensures cause { DiskCause (faults self.old) (faults self.new) result };
 
     /// Writes over what is there, and past the end. Until a sync, a crash may leave any bytes in the range of more than
     /// one; one byte is written or isn't, and at the end there may be a NUL in its place.
@@ -78,6 +106,7 @@ pub trait Host {
         ensures output { output self.new ≡ output self.old }
         ensures kept { kept self.new ≡ kept self.old }
         ensures reported { reported self.new ≡ reported self.old }
+        ensures known { knows_disk self.old → knows_disk self.new }
         ensures time { Elapses (moment self.old) (moment self.new) (left_since self.old) (left_since self.new)
             (Silent (may_leave self.new) (output self.old)) }
         ensures cause { DiskCause (faults self.old) (faults self.new) result };
@@ -93,6 +122,7 @@ pub trait Host {
         ensures output { output self.new ≡ output self.old }
         ensures kept { kept self.new ≡ kept self.old }
         ensures reported { reported self.new ≡ reported self.old }
+        ensures known { knows_disk self.old → knows_disk self.new }
         ensures time { Elapses (moment self.old) (moment self.new) (left_since self.old) (left_since self.new)
             (Silent (may_leave self.new) (output self.old)) }
         ensures cause { DiskCause (faults self.old) (faults self.new) result };
@@ -105,6 +135,7 @@ pub trait Host {
         ensures usable { OnOk result (is_usable self.new) }
         ensures kept { OnOk result (kept self.new ≡ kept self.old ++ bytes.now) }
         ensures reported { reported self.new ≡ reported self.old }
+        ensures known { knows_disk self.old → knows_disk self.new }
         ensures content { content self.new ≡ content self.old }
         ensures crash { (c : List ℕ) → may_leave self.new c → may_leave self.old c }
         ensures output { output self.new ≡ output self.old }
@@ -122,6 +153,7 @@ pub trait Host {
         ensures output { output self.new ≡ output self.old }
         ensures kept { kept self.new ≡ kept self.old }
         ensures reported { reported self.new ≡ reported self.old }
+        ensures known { knows_disk self.old → knows_disk self.new }
         ensures time { Elapses (moment self.old) (moment self.new) (left_since self.old) (left_since self.new)
             (Silent (may_leave self.new) (output self.old)) }
         ensures cause { DiskCause (faults self.old) (faults self.new) result };
@@ -137,17 +169,21 @@ pub trait Host {
         ensures output_some { AddsPrefix (output self.old) bytes.now (output self.new) }
         ensures kept { kept self.new ≡ kept self.old }
         ensures reported { reported self.new ≡ reported self.old }
+        ensures known { knows_disk self.old → knows_disk self.new }
         ensures content { content self.new ≡ content self.old }
         ensures crash { (c : List ℕ) → may_leave self.new c → may_leave self.old c }
         ensures time { Elapses (moment self.old) (moment self.new) (left_since self.old) (left_since self.new)
             (Outputs (may_leave self.old) (output self.old) bytes.now) }
         ensures cause { OutputCause (faults self.old) (faults self.new) result };
 
-    /// This moment is one of those since an earlier one.
-    ghost counts_now: { (host : Self) (t : ℕ) (c : List ℕ) → t ≤ moment host → may_leave host c →
+    /// This moment is one of those since an earlier one, if it is known what a crash leaves.
+    ghost counts_now: { (host : Self) (t : ℕ) (c : List ℕ) → knows_disk host → t ≤ moment host → may_leave host c →
         left_since host t c (output host) };
 
-    /// Since this moment there is no other.
+    /// Since this moment there is no other, and it is none if that isn't known.
     ghost only_now: { (host : Self) (c d : List ℕ) → left_since host (moment host) c d →
-        may_leave host c × (d ≡ output host) };
+        knows_disk host × may_leave host c × (d ≡ output host) };
+
+    /// It is known of each that may be asked for more.
+    ghost is_known: { (host : Self) → is_usable host → knows_disk host };
 }

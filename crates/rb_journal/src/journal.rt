@@ -26,14 +26,14 @@ pub struct Journal<H: Host> {
 }
 
 impl<H: Host> Journal<H> {
-    /// Opens a file that a crash may have left, whose bytes these are, and repairs its end. It may crash too.
-    /// `damaged_line` finds a file that no crash left, before it. An `Err` gives the host back: out of memory, or the
-    /// file failed.
+    /// Opens a file that a crash may have left, whose bytes these are: it writes them again, so that all of them are on
+    /// the disk, and repairs the end. It may crash too. `damaged_line` finds a file that no crash left, before it. An
+    /// `Err` gives the host back: out of memory, or the file failed.
     pub fn open(mut host: H, bytes: &[u8]) -> Result<Journal<H>, (HostError, H)>
-        requires usable { H.is_usable host }
+        requires opened { H.never_failed host }
         requires bytes { bytes.now ≡ H.content host }
-        // After a restart, what is read is what is on the disk.
-        requires durable { Only (H.content host) (H.may_leave host) }
+        // It isn't known yet what a crash leaves, or it is the file.
+        requires durable { H.knows_disk host → Only (H.content host) (H.may_leave host) }
 
         ensures settled { IfOk result (λ journal. IsSettled H.is_usable H.content H.may_leave journal) }
         ensures lines { IfOk result (λ journal. recovered (H.content journal.host) ≡ recovered bytes.now) }
@@ -44,7 +44,7 @@ impl<H: Host> Journal<H> {
         // The bytes that are cut off are kept before, unless they are a bare gate.
         ensures kept { IfOk result (λ journal. H.kept journal.host ≡ H.kept host ++ what_is_cut bytes.now) }
 
-        // A crash at any moment leaves the same lines.
+        // A crash at any moment leaves the same lines, from when what was read is known to be on the disk.
         ensures any_moment { IfOk result (λ journal. LeavesOnly H.moment H.left_since host journal.host
             (IsLeftAs (recovered bytes.now) (H.output host))) }
         ensures any_moment_err { IfErr result (λ e. LeavesOnly H.moment H.left_since host e.1
@@ -220,13 +220,13 @@ fn keep_rest<H: Host>(host: &mut H, lines: u64, rest: &[u8]) -> Result<(), HostE
     host.keep(lines, rest)
 }
 
-/// Repairs the end of a file that a crash may have left, whose bytes these are, and answers where its lines end,
-/// in bytes. It keeps the bytes that it cuts off, unless they are a bare gate. It may crash too. `damaged_line` finds a
-/// file that no crash left, before it. An `Err` means out of memory, or that the file failed.
+/// Writes the bytes of a file that a crash may have left, these, again, repairs its end, and answers where its lines
+/// end, in bytes. It keeps the bytes that it cuts off, unless they are a bare gate. It may crash too. `damaged_line`
+/// finds a file that no crash left, before it. An `Err` means out of memory, or that the file failed.
 pub fn recover<H: Host>(host: &mut H, bytes: &[u8]) -> Result<usize, HostError>
-    requires usable { H.is_usable host.old }
+    requires opened { H.never_failed host.old }
     requires bytes { bytes.now ≡ H.content host.old }
-    requires durable { Only (H.content host.old) (H.may_leave host.old) }
+    requires durable { H.knows_disk host.old → Only (H.content host.old) (H.may_leave host.old) }
 
     ensures usable { OnOk result (H.is_usable host.new) }
     ensures length { IfOk result (λ end. end ≡ length (concat (recovered bytes.now))) }
@@ -237,7 +237,7 @@ pub fn recover<H: Host>(host: &mut H, bytes: &[u8]) -> Result<usize, HostError>
     ensures reported { H.reported host.new ≡ H.reported host.old }
     ensures kept { OnOk result (H.kept host.new ≡ H.kept host.old ++ what_is_cut bytes.now) }
 
-    // A crash at any moment leaves the same lines.
+    // A crash at any moment leaves the same lines, from when what was read is known to be on the disk.
     ensures any_moment { LeavesOnly H.moment H.left_since host.old host.new
         (IsLeftAs (recovered bytes.now) (H.output host.old)) }
 
@@ -251,6 +251,7 @@ pub fn recover<H: Host>(host: &mut H, bytes: &[u8]) -> Result<usize, HostError>
     ensures full { IsErrOf result HostError.Full → ⊥ }
 {
     let (lines, end) = count_lines(bytes);
+    host.write_again(bytes)?;
     keep_rest(host, lines, &bytes[end..])?;
     host.cut(end)?;
     // The cut has to be on the disk first: behind a gate that is torn open, what was there would count.

@@ -33,6 +33,7 @@ mod responder;
 mod run;
 mod seal;
 mod spare;
+mod streams;
 mod waiting;
 mod work;
 

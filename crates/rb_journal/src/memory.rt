@@ -1,8 +1,8 @@
 //! A file in memory, and an output into memory. A write makes the bytes of the file anew, at the cost of a copy: if
 //! there is no memory for it, they stay those that the log of calls states.
-ghost use Rattle.std.specs.Prelude.{◌≡◌, ◌≤◌, [], length, IfOk};
+ghost use Rattle.std.specs.Prelude.{◌≡◌, ◌≤◌, [], length, true, IfOk};
 ghost use Rattle.rb_journal.specs.Host.{IsWritten};
-ghost use Rattle.rb_journal.specs.Calls.{content_of, output_of, kept_of, leaves, left_since, faults_of};
+ghost use Rattle.rb_journal.specs.Calls.{content_of, output_of, kept_of, knows_disk, leaves, left_since, faults_of};
 ghost use Rattle.rb_journal.specs.CallLaws.{now_counts, now_alone};
 
 use crate::call_log::CallLog;
@@ -17,6 +17,7 @@ pub struct Memory {
     output: Vec<u8>,
     kept: Vec<u8>,
     log: CallLog,
+    ghost known: { knows_disk log.events ≡ true },
     ghost agrees: { content_of log.events ≡ bytes.items },
     ghost output_all: { output_of log.events ≡ output.items },
     ghost kept_all: { kept_of log.events ≡ kept.items },
@@ -80,6 +81,10 @@ fn spliced(alloc: Global, old: &[u8], at: usize, bytes: &[u8]) -> Result<Vec<u8>
 }
 
 impl Host for Memory {
+    ghost never_failed = { λ h. faults_of h.log.events ≡ 0 };
+
+    ghost knows_disk = { λ h. knows_disk h.log.events ≡ true };
+
     ghost is_usable = { λ h. faults_of h.log.events ≡ 0 };
 
     ghost content = { λ h. content_of h.log.events };
@@ -98,9 +103,15 @@ impl Host for Memory {
 
     ghost faults = { λ h. faults_of h.log.events };
 
-    ghost counts_now = { λ h t c le left. now_counts h.log.events t c le left };
+    ghost counts_now = { λ h t c known le left. now_counts h.log.events t c known le left };
 
     ghost only_now = { λ h c d left. now_alone h.log.events c d left };
+
+    ghost is_known = { λ h _. h.known };
+
+    fn write_again(&mut self, _bytes: &[u8]) -> Result<(), HostError> {
+        Ok(())
+    }
 
     fn write_at(&mut self, at: usize, bytes: &[u8]) -> Result<(), HostError> {
         self.bytes = spliced(self.alloc, &self.bytes, at, bytes)?;

@@ -13,6 +13,8 @@ pub enum OpenError {
     NoFile,
     /// A new one was asked for, and it is there, with bytes in it.
     NotEmpty,
+    /// It is standard error, as far as the system says: what is said would be written into it.
+    IsErrors,
     /// The system's error, or `OutOfMemory`.
     Failed(io::Error),
 }

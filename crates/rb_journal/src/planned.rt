@@ -3,8 +3,8 @@
 //!
 //! The log of all calls that were noted is that of the file once they are made. Before that a crash leaves one of the
 //! files that it might have left at some moment of that log: each moment of the calls is one of them.
-ghost use Rattle.std.specs.Prelude.{◌≡◌, ◌++◌, length, map};
-ghost use Rattle.rb_journal.specs.Calls.{content_of, output_of, kept_of, leaves, left_since, faults_of};
+ghost use Rattle.std.specs.Prelude.{◌≡◌, ◌++◌, length, map, true};
+ghost use Rattle.rb_journal.specs.Calls.{content_of, output_of, kept_of, knows_disk, leaves, left_since, faults_of};
 ghost use Rattle.rb_journal.specs.CallLaws.{now_counts, now_alone};
 ghost use Rattle.rb_journal.specs.Planned.{made_event};
 
@@ -20,6 +20,7 @@ pub struct Planned {
     calls: Vec<Call>,
     made: CallLog,
     log: CallLog,
+    ghost known: { knows_disk log.events ≡ true },
     ghost agrees: { faults_of log.events ≡ 0 → log.events ≡ map made_event calls.items ++ made.events },
 }
 
@@ -71,6 +72,10 @@ impl Planned {
 }
 
 impl Host for Planned {
+    ghost never_failed = { λ h. faults_of h.log.events ≡ 0 };
+
+    ghost knows_disk = { λ h. knows_disk h.log.events ≡ true };
+
     ghost is_usable = { λ h. faults_of h.log.events ≡ 0 };
 
     ghost content = { λ h. content_of h.log.events };
@@ -89,9 +94,15 @@ impl Host for Planned {
 
     ghost faults = { λ h. faults_of h.log.events };
 
-    ghost counts_now = { λ h t c le left. now_counts h.log.events t c le left };
+    ghost counts_now = { λ h t c known le left. now_counts h.log.events t c known le left };
 
     ghost only_now = { λ h c d left. now_alone h.log.events c d left };
+
+    ghost is_known = { λ h _. h.known };
+
+    fn write_again(&mut self, _bytes: &[u8]) -> Result<(), HostError> {
+        Ok(())
+    }
 
     fn write_at(&mut self, at: usize, bytes: &[u8]) -> Result<(), HostError> {
         let call = Call::Write {

@@ -44,9 +44,9 @@ impl<M: Records> Opened<M> {
     /// doesn't have it yet. At `Ok` the file's lines are those of the site's journal, all of them on the disk. At
     /// `Err`, open the file again.
     pub fn begin<H: Host>(&self, host: H, bytes: &[u8]) -> Result<Journal<H>, (HostError, H)>
-        requires usable { H.is_usable host }
+        requires opened { H.never_failed host }
         requires bytes { bytes.now ≡ H.content host }
-        requires durable { Only (H.content host) (H.may_leave host) }
+        requires durable { H.knows_disk host → Only (H.content host) (H.may_leave host) }
         requires begins { IsToBegin (recovered bytes.now) self.now.responder.node.site self.now.first.items }
         requires journal { IsJournalOf (recovered bytes.now) self.now.responder.node.site }
         ensures settled { IfOk result (λ journal. IsSettled H.is_usable H.content H.may_leave journal) }

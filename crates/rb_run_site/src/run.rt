@@ -94,9 +94,9 @@ fn run_opened<S: Source, H: Host, M: Records>(
     host: H,
     bytes: Vec<u8>,
 ) -> Ran<H>
-    requires usable { H.is_usable host }
+    requires opened { H.never_failed host }
     requires bytes { bytes.items ≡ H.content host }
-    requires durable { Only (H.content host) (H.may_leave host) }
+    requires durable { H.knows_disk host → Only (H.content host) (H.may_leave host) }
     requires begins { IsToBegin (recovered bytes.items) opened.responder.node.site opened.first.items }
     requires journal { IsJournalOf (recovered bytes.items) opened.responder.node.site }
     requires undamaged { IsUndamaged bytes.items (journal_head opened.responder.node.site.settings) }
@@ -163,10 +163,10 @@ pub fn run_site<S: Source, H: Host, M: Records>(
     resend: usize,
     why: &mut Option<String>,
 ) -> Ran<H>
-    requires usable { H.is_usable host }
+    requires opened { H.never_failed host }
     requires bytes { bytes.items ≡ H.content host }
-    // After a restart, what is read is what is on the disk.
-    requires durable { Only (H.content host) (H.may_leave host) }
+    // It isn't known yet what a crash leaves, or it is the file.
+    requires durable { H.knows_disk host → Only (H.content host) (H.may_leave host) }
     requires unread { S.calls reader.old ≡ 0 }
 
     // The site that the input and the journal say has answered the lines behind the configuration, as the end says,
@@ -180,8 +180,8 @@ pub fn run_site<S: Source, H: Host, M: Records>(
         × IsOpeningCause me bank (S.remaining reader.old) (S.remaining reader.new) bytes.items fault)
         result.ended }
 
-    // A crash at any moment leaves a journal that some first lines of the input have, and nothing was put out that it
-    // takes back. It is the file as it was, or one that isn't damaged.
+    // A crash at any moment since it is known what one leaves leaves a journal that some first lines of the input have,
+    // and nothing was put out that it takes back. It is the file as it was, or one that isn't damaged.
     ensures any_moment { LeavesOnly H.moment H.left_since host result.host
         (IsSiteRun M.ALL me bank resend (S.remaining reader.old) bytes.items (H.output host)) }
 

@@ -49,9 +49,9 @@ fn replay_alone(
 
 /// Opens a journal that has a line and isn't damaged, whose file's bytes these are, and seals it.
 fn seal_file<H: Host>(host: H, bytes: &[u8]) -> Result<H, (HostError, H)>
-    requires usable { H.is_usable host }
+    requires opened { H.never_failed host }
     requires bytes { bytes.now ≡ H.content host }
-    requires durable { Only (H.content host) (H.may_leave host) }
+    requires durable { H.knows_disk host → Only (H.content host) (H.may_leave host) }
     requires lines { recovered bytes.now ≢ [] }
     requires intact { IsIntact bytes.now }
     ensures sealed { IfOk result (λ new. H.content new ≡ sealed (recovered bytes.now)) }
@@ -83,10 +83,10 @@ pub fn seal_site<H: Host>(
     me: u8,
     why: &mut Option<String>,
 ) -> Ran<H>
-    requires usable { H.is_usable host }
+    requires opened { H.never_failed host }
     requires bytes { bytes.items ≡ H.content host }
-    // After a restart, what is read is what is on the disk.
-    requires durable { Only (H.content host) (H.may_leave host) }
+    // It isn't known yet what a crash leaves, or it is the file.
+    requires durable { H.knows_disk host → Only (H.content host) (H.may_leave host) }
 
     // The site starts with the journal, and then the file is sealed, all of it on the disk. Or the host is as it was,
     // and the fault comes only for its cause, which is one of a start whose input is the journal's own lines.

@@ -1,5 +1,5 @@
 -- A run of a site over a file of the operating system.
-use Rattle.std.specs.Prelude.{◌≡◌, ◌⊎◌, ◌<◌, ◌-◌, ◌^◌, ◌++◌, ℕ, Bool, true, false, List, [], length, codes, string_bytes}
+use Rattle.std.specs.Prelude.{◌≡◌, ◌⊎◌, ◌<◌, ◌-◌, ◌^◌, ◌++◌, ℕ, Bool, true, false, List, [], ◌∷◌, length, codes, string_bytes}
 use Rattle.std.specs.Prelude.{Option, Some, None, Result, Err}
 use Rattle.std.specs.Borrow.{Bor}
 use Rattle.std.specs.IoError.{error_kind}
@@ -7,11 +7,12 @@ use Rattle.std.specs.declared.io.ErrorKind.{ErrorKind}
 use Rattle.std.specs.declared.io.ErrorKind.TheVariants.{WouldBlock, OutOfMemory as NoMemory}
 use Rattle.rb_journal.specs.Calls.{content_of, faults_of, leaves, left_since, output_of}
 use Rattle.rb_journal.specs.Disk.{disk_log}
-use Rattle.rb_journal.specs.Host.{LeavesOnly, Only}
+use Rattle.rb_journal.specs.Host.{LeavesOnly}
 use Rattle.rb_journal.specs.Lines.{recovered}
+use Rattle.rb_journal.specs.Planned.{opened_event}
 use Rattle.rb_journal.specs.declared.disk.Disk.{Disk}
 use Rattle.rb_journal.specs.declared.open_error.OpenError.{OpenError}
-use Rattle.rb_journal.specs.declared.open_error.OpenError.TheVariants.{NoFile, NotEmpty, Failed}
+use Rattle.rb_journal.specs.declared.open_error.OpenError.TheVariants.{NoFile, NotEmpty, IsErrors, Failed}
 use Rattle.rb_run_site.specs.Ends.{AnswersBehind, IsAtRest, IsFullBehind, RunsTo}
 use Rattle.rb_run_site.specs.Faults.{site_message_of}
 use Rattle.rb_run_site.specs.Openings.{IsOpeningCause}
@@ -48,6 +49,7 @@ fault_of_system _ = Journal
 abbrev pub fault_of_open : OpenError → SiteFault
 fault_of_open NoFile = NoJournal
 fault_of_open NotEmpty = JournalThere
+fault_of_open IsErrors = Journal
 fault_of_open (Failed error) = fault_of_system (error_kind error)
 
 -- a run that never began, since its file wasn't opened: it wasn't there and no new one was asked for, or it was there
@@ -73,14 +75,12 @@ module _ {R P : Type 0} where
   abbrev pub crash_left_of : Disk R P → ℕ → List ℕ → List ℕ → Type 0
   crash_left_of disk = left_since (disk_log disk)
 
-  -- the file of this name is just opened: no call failed, nothing was put out, and what it has is on the disk; a new
-  -- one has nothing
+  -- the file of this name is just opened: it was read, and no call was made of it but that, so nothing of it was written,
+  -- and it isn't known what of it is on the disk; a new one has nothing
   pub record IsOpened (name : List ℕ) (is_new : Bool) (disk : Disk R P) : Type 0 where
     pub path : string_bytes disk.path ≡ name
     pub new : is_new ≡ true → file_of disk ≡ []
-    pub usable : faults_of (disk_log disk) ≡ 0
-    pub output : output_of (disk_log disk) ≡ []
-    pub durable : Only (file_of disk) (leaves (disk_log disk))
+    pub untouched : disk_log disk ≡ opened_event (file_of disk) ∷ []
 
   -- site `me` of this bank, which records all events or those that change it, ran over the file of this name: it
   -- answered the lines behind the configuration, or stopped in the opening, as the promises of a site's run have it

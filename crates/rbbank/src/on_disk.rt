@@ -37,6 +37,7 @@ fn not_opened(error: &OpenError) -> SiteFault
     match error {
         OpenError::NoFile => SiteFault::NoJournal,
         OpenError::NotEmpty => SiteFault::JournalThere,
+        OpenError::IsErrors => SiteFault::Journal,
         OpenError::Failed(error) => match error.kind() {
             io::ErrorKind::WouldBlock => SiteFault::InUse,
             io::ErrorKind::OutOfMemory => SiteFault::OutOfMemory,
@@ -96,14 +97,17 @@ fn end_of_site(
     }
 }
 
-/// Says why a journal isn't opened.
+/// Says why a journal isn't opened, unless it would be written into the journal.
 fn report_unopened(rt: &HostRuntime, journal: &str, error: &OpenError) -> RanOnDisk
     ensures none { result.disk ≡ None }
     ensures ended { result.ended ≡ Err (fault_of_open error.now) }
     ensures status { IsEndOfSite result.ended (exit_status result.code) }
 {
     let ended = Err(not_opened(error));
-    let code = end_of_site(rt, journal, ended, system_error(error));
+    let code = match error {
+        OpenError::IsErrors => ExitCode::from(site_status(SiteFault::Journal)),
+        _ => end_of_site(rt, journal, ended, system_error(error)),
+    };
     RanOnDisk {
         disk: None,
         ended,

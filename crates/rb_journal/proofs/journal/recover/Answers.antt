@@ -1,15 +1,17 @@
 use Rattle.std.proofs.Common.{◌≡◌, ℕ, List, [], ◌∷◌, ◌++◌, length, take, inl, sym, ◌∙◌, ap, subst, arith}
 use Rattle.std.specs.List.{concat}
 use Rattle.std.proofs.lemmas.List.{take_all}
-use Rattle.rb_journal.specs.Host.{Torn, Cut}
-use Rattle.rb_journal.specs.Journal.{IsRepaired}
+use Rattle.rb_journal.specs.Host.{LeavesOnly, Torn, Cut}
+use Rattle.rb_journal.specs.Journal.{IsLeftAs, IsRepaired}
 use Rattle.rb_journal.specs.Lines.{recovered, IsIntact}
-use Rattle.rb_journal.proofs.Silent.{Keeps, first_call, called, synced, read_as, left_as}
+use Rattle.rb_journal.proofs.Public.Moments.{started, goes_on, weaker}
+use Rattle.rb_journal.proofs.Silent.{Keeps, called, synced, read_as, left_as}
 use Rattle.rb_journal.proofs.Ends.{written_at_end}
 use Rattle.rb_journal.proofs.Crash.{cut_done, fits, torn_end, repaired_is, recovered-at_rest}
 use Rattle.rb_journal.proofs.Intact.{repaired_intact}
 use Rattle.rb_journal.proofs.journal.recover.Given.{Over}
-use Rattle.rb_journal.proofs.journal.recover.Goals.{After-keep_rest, After-cut, After-sync, In_ok-cut, After-write_at, After-sync-2}
+use Rattle.rb_journal.proofs.journal.recover.Goals.{After-write_again, In_ok-write_again, After-keep_rest, After-cut}
+use Rattle.rb_journal.proofs.journal.recover.Goals.{After-sync, In_ok-cut, After-write_at, After-sync-2}
 use Rattle.rb_journal.proofs.journal.recover.Goals as goal
 
 -- a file of which nothing is cut yet
@@ -23,26 +25,44 @@ untouched file c same = inl (record {
 sound : (file c : List ℕ) → IsRepaired file c → IsRepaired file c × (IsIntact file → IsIntact c)
 sound file c at = (at, λ intact. repaired_intact file c intact at)
 
--- what a crash leaves is a repaired file, while what is to be cut off is kept
+-- what a crash leaves is a repaired file, while the file is written again
+again : (g : Over) (c : goal.After-write_again g) → LeavesOnly g.H.Host.moment g.H.Host.left_since c.args.host.now c.write_again.new.self
+    (λ f d. IsRepaired c.args.bytes.now f × (d ≡ g.H.Host.output c.args.host.now))
+again g c =
+    let host = g.H.Host in
+    let was = c.args.host.now in
+    let bytes = c.args.bytes.now in
+    goes_on host.moment host.left_since was was c.write_again.new.self (λ f d. IsRepaired bytes f × (d ≡ host.output was)) _
+    (started host.moment host.left_since was (λ f d. IsRepaired bytes f × (d ≡ host.output was))
+    (λ f d left. let now = g.met.H.Host.only_now was f d left in
+    (untouched bytes f (c.requires.durable now.0 f now.1 ∙ sym c.requires.bytes), now.2)))
+    c.write_again.ensures.time (λ f d at. (untouched bytes f (at.0 ∙ sym c.requires.bytes), at.1))
+
+-- then it is on the disk
+on_disk : (g : Over) (c : goal.In_ok-write_again g) → (f : List ℕ) → g.H.Host.may_leave c.write_again.new.self f → f ≡ c.args.bytes.now
+on_disk g c f now = c.in_ok-write_again.ensures.durable f now ∙ sym c.requires.bytes
+
+-- so does the call that keeps what is to be cut off
 rest_kept : (g : Over) (c : goal.After-keep_rest g) → Keeps g.H.Host.moment g.H.Host.left_since g.H.Host.may_leave g.H.Host.output
     (IsRepaired c.args.bytes.now) c.args.host.now c.keep_rest.new.host
 rest_kept g c =
+    let at = goal.at.After-keep_rest g c in
     let bytes = c.args.bytes.now in
-    let was : (f : List ℕ) → g.H.Host.may_leave c.args.host.now f → f ≡ bytes = λ f now. c.requires.durable f now ∙ sym c.requires.bytes in
-    first_call (g.met.H.Host.only_now c.args.host.now) (λ f now. untouched bytes f (was f now)) c.keep_rest.ensures.time
-    c.keep_rest.ensures.output (λ f now. untouched bytes f (was f (c.keep_rest.ensures.crash f now)))
+    called (again g at.After-write_again) c.write_again.ensures.output c.keep_rest.ensures.time c.keep_rest.ensures.output
+    (λ f now. untouched bytes f (on_disk g at.In_ok-write_again f (c.keep_rest.ensures.crash f now)))
 
 -- so does the cut
 cut : (g : Over) (c : goal.After-cut g) → Keeps g.H.Host.moment g.H.Host.left_since g.H.Host.may_leave g.H.Host.output
     (IsRepaired c.args.bytes.now) c.args.host.now c.cut.new.self
 cut g c =
+    let at = goal.at.After-cut g c in
     let bytes = c.args.bytes.now in
-    let was : (f : List ℕ) → g.H.Host.may_leave c.args.host.now f → f ≡ bytes = λ f now. c.requires.durable f now ∙ sym c.requires.bytes in
-    let kept = rest_kept g (goal.at.After-cut g c).After-keep_rest in
+    let kept = rest_kept g at.After-keep_rest in
     called kept.run kept.same c.cut.ensures.time c.cut.ensures.output
     (λ f now. let from = c.cut.ensures.crash f now in
     inl (subst (λ (n : ℕ). Cut n bytes f) c.count_lines-lines.ensures.length
-    (subst (λ (d : List ℕ). Cut c.count_lines-lines.result.1 d f) (was from.0 (c.keep_rest.ensures.crash from.0 from.1)) from.2)))
+    (subst (λ (d : List ℕ). Cut c.count_lines-lines.result.1 d f)
+    (on_disk g at.In_ok-write_again from.0 (c.keep_rest.ensures.crash from.0 from.1)) from.2)))
 
 -- so does the sync of the cut
 cut_synced : (g : Over) (c : goal.After-sync g) → Keeps g.H.Host.moment g.H.Host.left_since g.H.Host.may_leave g.H.Host.output
@@ -52,7 +72,8 @@ cut_synced g c = synced (cut g (goal.at.After-sync g c).After-cut) c.sync.ensure
 -- after the cut the file is the lines alone
 is_cut : (g : Over) (c : goal.In_ok-cut g) → g.H.Host.content c.cut.new.self ≡ concat (recovered c.args.bytes.now)
 is_cut g c =
-    c.in_ok-cut.ensures.cut ∙ ap (λ (f : List ℕ). take c.count_lines-lines.result.1 f) (c.keep_rest.ensures.content ∙ sym c.requires.bytes)
+    c.in_ok-cut.ensures.cut ∙ ap (λ (f : List ℕ). take c.count_lines-lines.result.1 f)
+    (c.keep_rest.ensures.content ∙ c.write_again.ensures.content ∙ sym c.requires.bytes)
     ∙ ap (λ (n : ℕ). take n c.args.bytes.now) c.count_lines-lines.ensures.length ∙ cut_done c.args.bytes.now
 
 -- so does the write of the gate
@@ -136,3 +157,19 @@ returns-in_err-keep_rest-clause-any_moment g c =
 pub returns-in_err-keep_rest-clause-repaired : goal.returns-in_err-keep_rest-clause-repaired
 returns-in_err-keep_rest-clause-repaired g c =
     left_as (rest_kept g (goal.at.returns-in_err-keep_rest-clause-repaired g c).After-keep_rest) (sound c.args.bytes.now)
+
+pub returns-in_err-write_again-clause-any_moment : goal.returns-in_err-write_again-clause-any_moment
+returns-in_err-write_again-clause-any_moment g c =
+    let host = g.H.Host in
+    weaker host.moment host.left_since c.args.host.now c.write_again.new.self _
+    (IsLeftAs (recovered c.args.bytes.now) (host.output c.args.host.now))
+    (again g (goal.at.returns-in_err-write_again-clause-any_moment g c).After-write_again)
+    (λ f d at. (repaired_is c.args.bytes.now f at.0, at.1))
+
+pub returns-in_err-write_again-clause-repaired : goal.returns-in_err-write_again-clause-repaired
+returns-in_err-write_again-clause-repaired g c =
+    let host = g.H.Host in
+    weaker host.moment host.left_since c.args.host.now c.write_again.new.self _
+    (λ f d. IsRepaired c.args.bytes.now f × (IsIntact c.args.bytes.now → IsIntact f))
+    (again g (goal.at.returns-in_err-write_again-clause-repaired g c).After-write_again)
+    (λ f d at. sound c.args.bytes.now f at.0)

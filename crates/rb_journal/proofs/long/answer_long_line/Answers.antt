@@ -149,7 +149,7 @@ at_start g c =
     let was = c.args.journal.now.host in
     started host.moment host.left_since was _ (λ f d left. let now = g.met.H.Host.only_now was f d left in
     run_start g.R.JournaledResponder.answers c.args.work.now.number _ (g.R.JournaledResponder.state c.args.responder.now)
-    (recovered (host.content was)) (host.output was) f d (ap recovered (c.requires.settled.durable f now.0)) now.1)
+    (recovered (host.content was)) (host.output was) f d (ap recovered (c.requires.settled.durable f now.1)) now.2)
 
 pub returns-in_err-drop_line-clause-any_moment : goal.returns-in_err-drop_line-clause-any_moment
 returns-in_err-drop_line-clause-any_moment g c = at_start g (goal.at.returns-in_err-drop_line-clause-any_moment g c).After-drop_line

@@ -44,10 +44,10 @@ batches-init g c =
       follows = subst (λ n. Follows answers input begin lines output n at rest buffers.ended) c.new-work.ensures.number follows;
       any_moment = started host.moment host.left_since was (IsRunOfBatches answers c.args.number input begin lines output)
           (λ f d left. let now = g.met.H.Host.only_now was f d left in
-          run_start answers c.args.number input begin lines output f d (ap recovered (c.requires.settled.durable f now.0)) now.1);
+          run_start answers c.args.number input begin lines output f d (ap recovered (c.requires.settled.durable f now.1)) now.2);
       intact = started host.moment host.left_since was (λ f d. IsIntact f)
           (λ f d left. let now = g.met.H.Host.only_now was f d left in
-          subst IsIntact (sym (c.requires.settled.durable f now.0 ∙ c.requires.settled.file)) (at_rest_intact (host.content was)));
+          subst IsIntact (sym (c.requires.settled.durable f now.1 ∙ c.requires.settled.file)) (at_rest_intact (host.content was)));
     }
 
 -- ---- after a group

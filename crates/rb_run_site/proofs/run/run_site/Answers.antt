@@ -42,7 +42,7 @@ still : (g : Over) (c : After-is_sealed g) (f d : List ℕ)
     → (f ≡ c.args.bytes.items) × (d ≡ g.H.Host.output c.args.host)
 still g c f d left =
     let now = g.met.H.Host.only_now c.args.host f d left in
-    (c.requires.durable f now.0 ∙ sym c.requires.bytes, now.1)
+    (c.requires.durable now.0 f now.1 ∙ sym c.requires.bytes, now.2)
 
 pub returns-in-Ok-clause-ended : goal.returns-in-Ok-clause-ended
 returns-in-Ok-clause-ended g c =

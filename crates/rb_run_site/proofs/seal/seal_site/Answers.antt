@@ -14,4 +14,4 @@ returns-clause-any_moment g c =
     (sym (c.is_sealed.ensures.1 (subst IsSealed (sym c.deref.ensures.value) is)) ∙ c.if-is_sealed.false) in
     started host.moment host.left_since c.args.host (IsSealRun file (host.output c.args.host))
     (λ f d left. let now = g.met.H.Host.only_now c.args.host f d left in
-    unchanged_run file (host.output c.args.host) f d not (c.requires.durable f now.0 ∙ sym c.requires.bytes) now.1)
+    unchanged_run file (host.output c.args.host) f d not (c.requires.durable now.0 f now.1 ∙ sym c.requires.bytes) now.2)

@@ -1,8 +1,6 @@
 -- A site ran over the file that was opened.
-use Rattle.std.proofs.Common.{◌∙◌, subst, sym}
-use Rattle.rb_journal.specs.Calls.{leaves}
-use Rattle.rb_journal.specs.Disk.{disk_log}
-use Rattle.rb_journal.specs.Host.{Only}
+use Rattle.std.proofs.Common.{◌∙◌, [], ◌∷◌, ap, sym}
+use Rattle.rb_journal.specs.Planned.{opened_event}
 use Rattle.rbbank.proofs.on_disk.run_recording.Goals as goal
 
 -- what the run says of the bytes that were read, it says of the file
@@ -16,9 +14,7 @@ returns-in-Ok-clause-ran g c =
       opened = record {
         path = file.path;
         new = λ is. file.content ∙ file.new is;
-        usable = file.usable;
-        output = file.output;
-        durable = subst (λ f. Only f (leaves (disk_log c.in-Ok.disk))) (sym file.content) file.durable;
+        untouched = file.log ∙ ap (λ f. opened_event f ∷ []) (sym file.content);
       };
       ended_as = rw most at (rw file.output at (rw (sym file.content) at ran.ended));
       any_moment = rw most at (rw file.output at (rw (sym file.content) at ran.any_moment));

@@ -1,8 +1,6 @@
 -- A journal was sealed over the file that was opened.
-use Rattle.std.proofs.Common.{◌∙◌, subst, sym}
-use Rattle.rb_journal.specs.Calls.{leaves}
-use Rattle.rb_journal.specs.Disk.{disk_log}
-use Rattle.rb_journal.specs.Host.{Only}
+use Rattle.std.proofs.Common.{◌∙◌, [], ◌∷◌, ap, sym}
+use Rattle.rb_journal.specs.Planned.{opened_event}
 use Rattle.rbbank.proofs.on_disk.seal_on_disk.Goals as goal
 
 -- what is said of the bytes that were read holds of the file
@@ -15,9 +13,7 @@ returns-in-Ok-clause-sealed c =
       opened = record {
         path = file.path;
         new = λ is. file.content ∙ file.new is;
-        usable = file.usable;
-        output = file.output;
-        durable = subst (λ f. Only f (leaves (disk_log c.in-Ok.disk))) (sym file.content) file.durable;
+        untouched = file.log ∙ ap (λ f. opened_event f ∷ []) (sym file.content);
       };
       ended_as = rw (sym file.content) at ran.ended;
       any_moment = rw file.output at (rw (sym file.content) at ran.any_moment);

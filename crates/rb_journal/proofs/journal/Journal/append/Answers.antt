@@ -156,7 +156,7 @@ returns-then-self-ge-MAX_LEN-clause-appended g c =
     let batch = c.args.batch.now in
     started host.moment host.left_since was (λ f d. IsAppended (recovered file) batch f × IsIntact f)
     (λ f d left. at_rest_appended file batch f
-    (c.requires.settled.durable f (g.met.H.Host.only_now was f d left).0 ∙ c.requires.settled.file))
+    (c.requires.settled.durable f (g.met.H.Host.only_now was f d left).1 ∙ c.requires.settled.file))
 
 pub returns-in_err-stage-clause-any_moment : goal.returns-in_err-stage-clause-any_moment
 returns-in_err-stage-clause-any_moment g c =
