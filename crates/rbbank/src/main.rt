@@ -21,7 +21,9 @@ mod joined;
 mod on_disk;
 mod on_streams;
 mod over_files;
+mod patient;
 mod read_log;
+mod same_file;
 mod task;
 mod why;
 
@@ -31,6 +33,7 @@ use files_task::run_over_files;
 use on_disk::{RanOnDisk, run_on_disk, seal_on_disk};
 use on_streams::{Streamed, run_on_streams};
 use over_files::OverFiles;
+use patient::Patient;
 use rb_lines::{FromReader, ScriptFault, Sink, Source, ToWriter, message, status};
 use std::alloc::{AllocError, Global};
 use std::process::ExitCode;
@@ -257,7 +260,7 @@ fn run<H: Threads + Wait + Sync>(rt: &HostRuntime, handle: &H) -> ExitCode
     else {
         return out_of_memory(rt);
     };
-    let mut reader = FromReader::new(rt.reader());
+    let mut reader = FromReader::new(Patient::new(*rt, rt.reader()));
     let mut writer = ToWriter::new(io::writer(rt));
     let mut why = None;
     match run_on_streams(
