@@ -3,7 +3,8 @@
 
 usage: closings.py [--quiet] PROGRAM    (--quiet prints only what is different)
 
-The journals are written by sites of the program itself, and sealed by it; some are spoiled then.
+The journals are written by sites of the program itself, and sealed by it; some are spoiled then, or have more names.
+One is a pipe, which can be read once.
 """
 from __future__ import annotations
 
@@ -83,9 +84,14 @@ balance, asof, statement, shadow, token
   {"event":{"gift":["ann",500]},"reply":{"kind":"deposit","name":"B0.1"},"
             ^
 """, status=2),
-    Case("made.0 made.0", err="rbbank: made.0: line 2: another site's entry\n", status=2),
+    Case("made.0 copy.0", err="rbbank: copy.0: line 2: another site's entry\n", status=2),
+    Case("none.0 none.0", err="rbbank: none.0: the same file as none.0\n", status=2),
+    Case("none.0 ./none.0", err="rbbank: ./none.0: the same file as none.0\n", status=2),
+    Case("made.0 none.0 linked.1", err="rbbank: linked.1: the same file as none.0\n", status=2),
+    Case("named.1 made.0 none.0", err="rbbank: none.0: the same file as named.1\n", status=2),
+    Case("made.0 pipe.1", err="rbbank: pipe.1: another bank's journal\n", status=2),
     Case("made.0", err="rbbank: 1 journals for 2 sites\n", status=2),
-    Case("made.0 none.1 none.1", err="rbbank: 3 journals for 2 sites\n", status=2),
+    Case("made.0 none.1 none.0", err="rbbank: 3 journals for 2 sites\n", status=2),
     Case("--account Zed made.0 none.1", err="rbbank: account Zed: no name\n", status=2),
     Case("--account= made.0 no.1", err="rbbank: account : no name\n", status=2),
     Case("--account=-x made.0 received.1", next_bank([["ann", 500], ["bob", 7], ["-x", 0]])),
@@ -154,10 +160,19 @@ class Folder:
         self.spoil("blank.0", "made.0", "\t", "\n\t")
         self.spoil("short.0", "made.0", compact(LIMITS)[1:-1] + ",", "")
         self.spoil("headless.0", "made.0", '{"accounts"', '\n{"accounts"')
+        self.spoil("copy.0", "made.0", "", "")
+        os.symlink("none.0", os.path.join(self.path, "linked.1"))
+        os.link(os.path.join(self.path, "none.0"), os.path.join(self.path, "named.1"))
+        os.mkfifo(os.path.join(self.path, "pipe.1"))
 
     def answers(self, case: Case) -> Case:
         words = [self.program, "close", *case.words.split()]
-        run = subprocess.run(words, capture_output=True, text=True, cwd=self.path)
+        if "pipe.1" in case.words:  # another bank's journal, which waits for its one reader
+            subprocess.Popen(["timeout", "10", "cp", "full.1", "pipe.1"], cwd=self.path)
+        try:
+            run = subprocess.run(words, capture_output=True, text=True, cwd=self.path, timeout=10)
+        except subprocess.TimeoutExpired as late:
+            return case._replace(out="", err=f"{(late.stderr or b'').decode()}no end\n", status=-1)
         return case._replace(out=run.stdout, err=run.stderr, status=run.returncode)
 
 

@@ -5,6 +5,7 @@ usage: files.py [--quiet] PROGRAM      (--quiet prints only what is different)
 
 A file alone is answered as it is on standard input. The journals of all sites are one input of an audit, in any order,
 sealed or not, and if a file doesn't end in a line feed. A fault of a line names its file, and the line's number there.
+Two names of one file are refused, and a pipe is read once.
 """
 from __future__ import annotations
 
@@ -32,32 +33,42 @@ FILES = {
     "0.journal": CONFIG + MADE + " ",  # as a site leaves it
     "1.journal": CONFIG + CAME + "\t",  # sealed
     "whole": CONFIG + MADE,
+    "copy": CONFIG + MADE,
     "cut": CONFIG + CAME.rstrip("\n"),  # with no line feed behind the last line
     "head": CONFIG.rstrip("\n"),
+    "head.copy": CONFIG.rstrip("\n"),
     "more": CONFIG + BALANCE,
     "other": CONFIG.replace("4096", "4095") + CAME,
     "empty": "",
+    "empty.copy": "",
     "blank": "\n \n",
     "wrong": '{"accounts":[]}\n',
     "bad": CONFIG + "\n{}\n",
     "late": CONFIG + CAME + "\n\n{}",
     "long": CONFIG + CAME + LONG,
 }
+PIPE = "other"  # what the pipe is given, once
 TASKS = {"script": "script", "histories": "script", "audit": "histories", "migrate": "histories"}
 # the words; what the program writes, and what it says behind `rbbank: `; and its status
 RUNS = [
     ("audit 0.journal 1.journal", '{"order":[0,1,1]}', "", 0),
     ("audit 1.journal 0.journal", '{"order":[0,1,1]}', "", 0),
     ("audit whole cut more", '{"order":[0,1,1,1]}', "", 0),
-    ("audit head whole cut head", '{"order":[0,1,1]}', "", 0),
+    ("audit head whole cut head.copy", '{"order":[0,1,1]}', "", 0),
     ("audit 1.journal", '{"fault":"stuck","next":[1,1]}', "", 1),
-    ("audit whole whole", '{"event":2,"fault":"reply","site":0}', "", 1),
+    ("audit whole copy", '{"event":2,"fault":"reply","site":0}', "", 1),
     ("audit whole other", "", "other: another bank's journal\n  its first line has another limit", 2),
     ("audit other whole nowhere", "", "whole: another bank's journal\n  its first line has another limit", 2),
     ("audit whole script", "", "script: another bank's journal\n  its first line has another spelling", 2),
     ("audit whole empty", "", "empty: another bank's journal\n  its first line is no configuration", 2),
     ("audit empty whole", "", "whole: another bank's journal", 2),
-    ("audit empty empty", "", "empty: no configuration", 2),
+    ("audit empty empty.copy", "", "empty: no configuration", 2),
+    ("audit whole whole", "", "whole: the same file as whole", 2),
+    ("audit other ./whole cut whole", "", "whole: the same file as ./whole", 2),
+    ("audit cut nowhere whole linked", "", "linked: the same file as whole", 2),
+    ("audit named nowhere whole", "", "whole: the same file as named", 2),
+    ("audit whole pipe", "", "pipe: another bank's journal", 2),
+    ("audit pipe whole", "", "whole: another bank's journal", 2),
     ("audit blank", "", "blank: no configuration", 2),
     ("audit nowhere", "", "nowhere: No such file or directory (os error 2)", 3),
     ("audit whole nowhere", "", "nowhere: No such file or directory (os error 2)", 3),
@@ -84,11 +95,19 @@ class Folder:
         for name, text in FILES.items():
             with open(os.path.join(self.path, name), "w", encoding="utf-8", newline="") as file:
                 file.write(text)
+        os.symlink("whole", os.path.join(self.path, "linked"))
+        os.link(os.path.join(self.path, "whole"), os.path.join(self.path, "named"))
+        os.mkfifo(os.path.join(self.path, "pipe"))
 
     def ran(self, words: str, given: str = "") -> tuple[str, str, int]:
         """What the program writes and says, and its status."""
-        run = subprocess.run([self.program, *words.split()], input=given, capture_output=True, text=True,
-                             cwd=self.path, timeout=60)
+        if "pipe" in words.split():
+            subprocess.Popen(["timeout", "10", "cp", PIPE, "pipe"], cwd=self.path)
+        try:
+            run = subprocess.run([self.program, *words.split()], input=given, capture_output=True, text=True,
+                                 cwd=self.path, timeout=10)
+        except subprocess.TimeoutExpired:
+            return "", "no end", -1
         return run.stdout, run.stderr, run.returncode
 
 

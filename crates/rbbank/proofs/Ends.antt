@@ -8,14 +8,15 @@ use Rattle.rb_lines.specs.declared.fault.ScriptFault.{ScriptFault}
 use Rattle.rb_lines.specs.declared.fault.ScriptFault.TheVariants.{NoConfig, OutOfMemory, Read, Write}
 use Rattle.rb_lines.specs.Messages.{status_of}
 use Rattle.rb_run_site.specs.declared.fault.SiteFault.{SiteFault}
-use Rattle.rb_runs.specs.declared.books.close_fault.CloseFault.{CloseFault}
+use Rattle.rbbank.specs.declared.closing.ClosingFault.{ClosingFault}
+use Rattle.rbbank.specs.declared.closing.ClosingFault.TheVariants.{Same as SameJournal, Books}
 use Rattle.rbbank.specs.declared.over_files.OverFiles.{OverFiles}
 use Rattle.rbbank.specs.declared.over_files.OverFiles.TheVariants.{Nothing, Site, Closed, Lines}
 use Rattle.rbbank.specs.declared.on_streams.Streamed.{Streamed}
 use Rattle.rbbank.specs.declared.on_streams.Streamed.TheVariants.{Script, Histories, Audit, Migrate, Threads, SiteAsked, SealAsked}
 use Rattle.rbbank.specs.declared.on_streams.Streamed.TheVariants.{BadBank, CloseAsked, FilesAsked}
 use Rattle.rbbank.specs.declared.joined.FilesFault.{FilesFault}
-use Rattle.rbbank.specs.declared.joined.FilesFault.TheVariants.{Unread, AnotherBank, OutOfMemory as NoFilesMemory}
+use Rattle.rbbank.specs.declared.joined.FilesFault.TheVariants.{Unread, AnotherBank, Same, OutOfMemory as NoFilesMemory}
 use Rattle.rbbank.specs.declared.task.TaskRan.{TaskRan}
 use Rattle.rbbank.specs.declared.task.TaskRan.TheVariants.{Script as ScriptRan, Histories as HistoriesRan, Audit as AuditRan}
 use Rattle.rbbank.specs.declared.task.TaskRan.TheVariants.{Migrate as MigrationRan}
@@ -49,11 +50,12 @@ site_end n (Ok count) e = inl e
 site_end n (Err fault) (inl e) = inr (inr (inr (inl (fault, e))))
 site_end n (Err fault) (inr e) = no_memory n e
 
-closing_end : (n : ℕ) (ran : Result Bool CloseFault) → IsEndOfClosing ran n → IsEnd n
+closing_end : (n : ℕ) (ran : Result Bool ClosingFault) → IsEndOfClosing ran n → IsEnd n
 closing_end n (Ok true) e = inl e
 closing_end n (Ok false) e = inr (inl e)
-closing_end n (Err fault) (inl e) = inr (inr (inr (inr (fault, e))))
-closing_end n (Err fault) (inr e) = no_memory n e
+closing_end n (Err (SameJournal same)) e = fault_end n NoConfig e
+closing_end n (Err (Books fault)) (inl e) = inr (inr (inr (inr (fault, e))))
+closing_end n (Err (Books fault)) (inr e) = no_memory n e
 
 task_end : (n : ℕ) (ran : TaskRan) → IsEndOfTask ran n → IsEnd n
 task_end n (ScriptRan ran) e = script_end n ran e
@@ -65,6 +67,7 @@ files_end : (n : ℕ) (ran : Result TaskRan FilesFault) → IsEndOfFiles ran n �
 files_end n (Ok ran) e = task_end n ran e
 files_end n (Err (Unread file)) e = fault_end n Read e
 files_end n (Err (AnotherBank file)) e = fault_end n NoConfig e
+files_end n (Err (Same same)) e = fault_end n NoConfig e
 files_end n (Err NoFilesMemory) e = fault_end n OutOfMemory e
 
 -- whatever was done

@@ -9,7 +9,7 @@ use Rattle.rb_lines.specs.Lines.{lines_of}
 use Rattle.rbbank.specs.Files.{AreInput, AreJoined, AreNoInput, HaveHead, HaveOneHead, line_counts, first_line, head_of}
 use Rattle.rbbank.specs.Files.{lines_behind, joined_lines}
 use Rattle.rbbank.specs.declared.joined.FilesFault.{FilesFault}
-use Rattle.rbbank.specs.declared.joined.FilesFault.TheVariants.{Unread, AnotherBank, OutOfMemory}
+use Rattle.rbbank.specs.declared.joined.FilesFault.TheVariants.{Unread, AnotherBank, Same, OutOfMemory}
 use Rattle.rbbank.specs.declared.joined.Joined.{Joined}
 
 -- ---- lines behind lines
@@ -171,6 +171,7 @@ pub no_input : (few count : ℕ) (files : List (List ℕ)) (fault : FilesFault) 
     → AreNoInput count files fault
 no_input few count files (Unread file) less is = (is.0, omega (arith, less, is.1), is.2)
 no_input few count files (AnotherBank file) less is = is
+no_input few count files (Same same) less is = is
 no_input few count files OutOfMemory less is = is
 
 -- another bank's file was read

@@ -1,6 +1,6 @@
 -- Tasks with the lines of files.
 use Rattle.std.specs.Prelude.{◌≡◌, ◌≢◌, ◌<◌, ◌+◌, ◌-◌, ℕ, List, [], ◌∷◌, ◌++◌, length, drop, map, flat_map, codes}
-use Rattle.std.specs.Prelude.{Option, None, Some, slice_get, Result, Ok, Err}
+use Rattle.std.specs.Prelude.{Option, None, Some, slice_get, Result, Ok, Err, Bool}
 use Rattle.rb_cli.specs.declared.task.Task.{Task}
 use Rattle.rb_cli.specs.declared.task.Task.TheVariants.{Script, Histories, Audit, Migrate}
 use Rattle.rb_lines.specs.Lines.{lines_of}
@@ -12,7 +12,14 @@ use Rattle.rb_runs.specs.Recording.{HistoriesEndAs}
 use Rattle.rb_runs.specs.Audit.{AuditEndsAs}
 use Rattle.rb_runs.specs.Migration.{MigrationEndsAs}
 use Rattle.rbbank.specs.declared.joined.FilesFault.{FilesFault}
-use Rattle.rbbank.specs.declared.joined.FilesFault.TheVariants.{Unread, AnotherBank, OutOfMemory}
+use Rattle.rbbank.specs.declared.joined.FilesFault.TheVariants.{Unread, AnotherBank, Same, OutOfMemory}
+use Rattle.rbbank.specs.SameFiles.{AreFiles, IsSameFile}
+use Rattle.rbbank.specs.declared.same_file.FileId.{FileId}
+use Rattle.rbbank.specs.declared.closing.ClosingFault.{ClosingFault}
+use Rattle.rbbank.specs.declared.closing.ClosingFault.TheVariants.{Same as SameJournal, Books}
+use Rattle.rb_runs.specs.Books.{NextBank}
+use Rattle.rb_runs.specs.Closes.{ClosesAs}
+use Rattle.rb_runs.specs.declared.books.close_fault.CloseFault.TheVariants.{OutOfMemory as NoMemory}
 use Rattle.rbbank.specs.declared.joined.Joined.{Joined}
 use Rattle.rbbank.specs.declared.task.TaskRan.{TaskRan}
 use Rattle.rbbank.specs.declared.task.TaskRan.TheVariants.{Script as ScriptRan, Histories as HistoriesRan, Audit as AuditRan}
@@ -81,6 +88,7 @@ pub record HasAnotherHead (files : List (List ℕ)) : Type 0 where
 abbrev pub AreNoInput : ℕ → List (List ℕ) → FilesFault → Type 0
 AreNoInput count files (Unread file) = (file ≡ length files) × (file < count) × HaveOneHead files
 AreNoInput count files (AnotherBank file) = (file + 1 ≡ length files) × HasAnotherHead files
+AreNoInput count files (Same same) = ⊥
 AreNoInput count files OutOfMemory = Unit {0}
 
 -- ---- the outcome of a task
@@ -94,12 +102,26 @@ TaskEndsAs Audit (AuditRan r) input left text = (r ≢ Err Gather) × AuditEndsA
 TaskEndsAs Migrate (MigrationRan r) input left text = (r ≢ Err Gather) × MigrationEndsAs r input left text
 TaskEndsAs _ _ input left text = ⊥
 
--- the result of a task with this number of files, of which these were read, if this text was written: that with all of
--- them as one input; or they are none, and nothing was written
-abbrev pub FilesEndAs : Task → ℕ → List (List ℕ) → Result TaskRan FilesFault → List ℕ → Type 0
-FilesEndAs task count files (Ok ran) text = (length files ≡ count)
+-- nothing was done with this number of files of these ids, since one is one before it
+abbrev pub IsNotBegun : ℕ → List (Option FileId) → List (List ℕ) → ℕ → ℕ → List ℕ → Type 0
+IsNotBegun count ids files file before text = (length ids ≡ count) × IsSameFile ids file before × (files ≡ []) × (text ≡ [])
+
+-- the result of a task with this number of files of these ids, of which these were read, if this text was written: that
+-- with all of them as one input; or they are none, or one of them is one before it, and nothing was written
+abbrev pub FilesEndAs : Task → ℕ → List (Option FileId) → List (List ℕ) → Result TaskRan FilesFault → List ℕ → Type 0
+FilesEndAs task count ids files (Ok ran) text = AreFiles count ids × (length files ≡ count)
     × (input : List ℕ) × AreInput files input × (left : Option (List ℕ)) × TaskEndsAs task ran input left text
-FilesEndAs task count files (Err fault) text = AreNoInput count files fault × (text ≡ [])
+FilesEndAs task count ids files (Err (Same same)) text = IsNotBegun count ids files same.file same.before text
+FilesEndAs task count ids files (Err OutOfMemory) text = text ≡ []
+FilesEndAs task count ids files (Err fault) text = AreFiles count ids × AreNoInput count files fault × (text ≡ [])
+
+-- the result of closing the books by this number of files of these ids, of which these were read, if this text was
+-- written: that by what they contain; or one of them is one before it, and nothing was written
+abbrev pub ClosesFilesAs : NextBank → ℕ → List (Option FileId) → List (List ℕ) → Result Bool ClosingFault → List ℕ → Type 0
+ClosesFilesAs ask count ids files (Ok closed) text = AreFiles count ids × ClosesAs ask count files (Ok closed) text
+ClosesFilesAs ask count ids files (Err (SameJournal same)) text = IsNotBegun count ids files same.file same.before text
+ClosesFilesAs ask count ids files (Err (Books NoMemory)) text = text ≡ []
+ClosesFilesAs ask count ids files (Err (Books fault)) text = AreFiles count ids × ClosesAs ask count files (Err fault) text
 
 -- ---- what is said of it
 
@@ -111,4 +133,5 @@ lines_message_of file fault = codes "rbbank: " ++ (file ++ (codes ": " ++ reason
 abbrev pub files_status_of : FilesFault → ℕ
 files_status_of (Unread file) = 3
 files_status_of (AnotherBank file) = 2
+files_status_of (Same same) = 2
 files_status_of OutOfMemory = 4

@@ -1,4 +1,5 @@
 pub mod Asked
 pub mod Files
 pub mod OnDisk
+pub mod SameFiles
 pub mod Statuses

@@ -11,10 +11,12 @@ use Rattle.rb_lines.specs.declared.fault.ScriptFault.TheVariants.{Write}
 use Rattle.rb_lines.specs.Messages.{status_of}
 use Rattle.rb_run_site.specs.declared.fault.SiteFault.{SiteFault}
 use Rattle.rb_run_site.specs.Faults.{site_status_of}
-use Rattle.rb_runs.specs.Closes.{ClosesAs, close_status_of}
+use Rattle.rb_runs.specs.Closes.{close_status_of}
 use Rattle.rb_runs.specs.declared.books.close_fault.CloseFault.{CloseFault}
+use Rattle.rbbank.specs.declared.closing.ClosingFault.{ClosingFault}
+use Rattle.rbbank.specs.declared.closing.ClosingFault.TheVariants.{Same, Books}
 use Rattle.rb_history.specs.Ids.{is_id}
-use Rattle.rbbank.specs.Files.{FilesEndAs, files_status_of}
+use Rattle.rbbank.specs.Files.{ClosesFilesAs, FilesEndAs, files_status_of}
 use Rattle.rbbank.specs.declared.joined.FilesFault.{FilesFault}
 use Rattle.rbbank.specs.declared.task.TaskRan.{TaskRan}
 use Rattle.rbbank.specs.declared.task.TaskRan.TheVariants.{Script as ScriptRan, Histories as HistoriesRan, Audit as AuditRan}
@@ -68,10 +70,11 @@ IsEndOfSite (Ok count) n = n ≡ 0
 IsEndOfSite (Err fault) n = IsReportedStatus (site_status_of fault) n
 
 -- closing the books ends in 0 if they are closed, in 1 if a line says why they aren't, else in its fault's status or 4
-abbrev pub IsEndOfClosing : Result Bool CloseFault → ℕ → Type 0
+abbrev pub IsEndOfClosing : Result Bool ClosingFault → ℕ → Type 0
 IsEndOfClosing (Ok true) n = n ≡ 0
 IsEndOfClosing (Ok false) n = n ≡ 1
-IsEndOfClosing (Err fault) n = IsReportedStatus (close_status_of fault) n
+IsEndOfClosing (Err (Same same)) n = IsReportedStatus 2 n
+IsEndOfClosing (Err (Books fault)) n = IsReportedStatus (close_status_of fault) n
 
 -- a task with the lines of files ends as it does with those of standard input; or in the status of why they are no
 -- input
@@ -101,10 +104,10 @@ IsEndOf (BadBank name) input left done text n = IsReportedStatus 2 n × (text �
 IsEndOf (SealAsked me journal) input left (Site ran) text n =
     IsSealOn me journal.now ran.disk ran.ended × IsEndOfSite ran.ended n × (text ≡ []) × (left ≡ input)
 IsEndOf (CloseAsked sites accounts journals) input left (Closed ran) text n =
-    ClosesAs (record { sites = sites; added = map (λ name. name.now) accounts.items }) (length journals.items) ran.read.files ran.ended text
-    × IsEndOfClosing ran.ended n × (left ≡ input)
+    ClosesFilesAs (record { sites = sites; added = map (λ name. name.now) accounts.items }) (length journals.items)
+    ran.ids.items ran.read.files ran.ended text × IsEndOfClosing ran.ended n × (left ≡ input)
 IsEndOf (FilesAsked task files) input left (Lines ran) text n =
-    FilesEndAs task (length files.items) ran.read.files ran.ended text × IsEndOfFiles ran.ended n × (left ≡ input)
+    FilesEndAs task (length files.items) ran.ids.items ran.read.files ran.ended text × IsEndOfFiles ran.ended n × (left ≡ input)
 IsEndOf _ input left done text n = ⊥
 
 -- what is said of a name that is none of a bank

@@ -1,13 +1,16 @@
 //! Closing the books by files of the operating system.
-ghost use Rattle.std.specs.Prelude.{◌≡◌, ◌≤◌, IfSome, List, ℕ, false, length, map};
+ghost use Rattle.std.specs.Prelude.{◌≡◌, ◌≤◌, [], Err, IfSome, List, ℕ, false, length, map};
 ghost use Rattle.std.specs.Io.KnownBytes.{Appends};
 ghost use Rattle.std.specs.Process.{exit_status};
 ghost use Rattle.rb_money.specs.declared.limits.TheConstants.{MOST_SITES};
-ghost use Rattle.rb_runs.specs.Closes.{ClosesAs, close_status_of};
+ghost use Rattle.rb_runs.specs.Closes.{close_status_of};
+ghost use Rattle.rbbank.specs.Files.{ClosesFilesAs};
+ghost use Rattle.rbbank.specs.SameFiles.{AreFiles};
 ghost use Rattle.rbbank.specs.Statuses.{IsEndOfClosing, IsReportedStatus};
 
 use crate::files_on_disk::{FilesOnDisk, name_of, report_unread};
 use crate::read_log::ReadLog;
+use crate::same_file::{FileId, SameFile, first_same, ids_of, report_same};
 use crate::why::reason_of_file;
 use crate::{FAULT_FOUND, out_of_memory, print_line, report_fault, report_why};
 use rb_lines::{ScriptFault, Sink};
@@ -17,12 +20,22 @@ use rb_runs::{
 use std::io;
 use std::process::ExitCode;
 
-/// The outcome of closing the books: the files that were read; whether the books are closed, or why no line was
-/// written; and the status that the program ends with.
+/// Why the books aren't closed by some files.
+#[derive(Clone, Copy, Debug, PartialEq, Eq)]
+pub enum ClosingFault {
+    /// A file is one before it.
+    Same(SameFile),
+    /// The books aren't closed by what the files contain.
+    Books(CloseFault),
+}
+
+/// The outcome of closing the books: which files the names led to; the files that were read; whether the books are
+/// closed, or why no line was written; and the status that the program ends with.
 #[derive(Drop)]
 pub struct RanClosing {
+    pub ids: Vec<Option<FileId>>,
     pub read: ReadLog,
-    pub ended: Result<bool, CloseFault>,
+    pub ended: Result<bool, ClosingFault>,
     pub code: ExitCode,
 }
 
@@ -64,7 +77,62 @@ fn report_why_not(rt: &HostRuntime, journals: &[&str], fault: CloseFault) {
     }
 }
 
-/// Closes the books by the journals in these files, and writes one line to the writer.
+/// The books aren't closed, and no file was opened.
+fn not_begun(ids: Vec<Option<FileId>>, fault: ClosingFault, code: ExitCode) -> RanClosing
+    ensures ids { result.ids ≡ ids }
+    ensures none { result.read.files ≡ [] }
+    ensures ended { result.ended ≡ Err fault }
+    ensures code { result.code ≡ code }
+{
+    RanClosing {
+        ids,
+        read: ReadLog::new(),
+        ended: Err(fault),
+        code,
+    }
+}
+
+/// Closes the books by the journals in these files, which are different ones, and writes one line to the writer.
+fn close_by<W: Sink>(
+    rt: &HostRuntime,
+    ids: Vec<Option<FileId>>,
+    sites: Option<u8>,
+    accounts: &[&str],
+    journals: &[&str],
+    writer: &mut W,
+) -> RanClosing
+    requires different { AreFiles (length journals.now) ids.items }
+    requires some { 1 ≤ length journals.now }
+    requires sites { IfSome sites (λ n. (2 ≤ n) × (n ≤ MOST_SITES)) }
+    requires fresh { W.failed writer.old ≡ false }
+    ensures written { (text : List ℕ) × Appends (W.contents writer.old) (W.contents writer.new) text
+        × ClosesFilesAs (record { sites = sites; added = map (λ name. name.now) accounts.now }) (length journals.now)
+        result.ids.items result.read.files result.ended text }
+    ensures status { IsEndOfClosing result.ended (exit_status result.code) }
+{
+    let ask = NextBank::new(sites, accounts);
+    let mut files = FilesOnDisk::new(rt, journals);
+    let closed = run_close(rt.alloc(), &ask, journals.len(), &mut files, writer);
+    let (read, error) = files.end();
+    let (ended, code) = match closed {
+        Ok(true) => (Ok(true), ExitCode::SUCCESS),
+        Ok(false) => (Ok(false), ExitCode::from(FAULT_FOUND)),
+        Err(fault) => {
+            let code = report_closing(rt, accounts, journals, fault, error);
+            report_why_not(rt, journals, fault);
+            (Err(ClosingFault::Books(fault)), code)
+        }
+    };
+    RanClosing {
+        ids,
+        read,
+        ended,
+        code,
+    }
+}
+
+/// Closes the books by the journals in these files, and writes one line to the writer. If a file is one before it, none
+/// is opened.
 pub fn close_books<W: Sink>(
     rt: &HostRuntime,
     sites: Option<u8>,
@@ -76,22 +144,23 @@ pub fn close_books<W: Sink>(
     requires sites { IfSome sites (λ n. (2 ≤ n) × (n ≤ MOST_SITES)) }
     requires fresh { W.failed writer.old ≡ false }
     ensures written { (text : List ℕ) × Appends (W.contents writer.old) (W.contents writer.new) text
-        × ClosesAs (record { sites = sites; added = map (λ name. name.now) accounts.now }) (length journals.now)
-        result.read.files result.ended text }
+        × ClosesFilesAs (record { sites = sites; added = map (λ name. name.now) accounts.now }) (length journals.now)
+        result.ids.items result.read.files result.ended text }
     ensures status { IsEndOfClosing result.ended (exit_status result.code) }
 {
-    let ask = NextBank::new(sites, accounts);
-    let mut files = FilesOnDisk::new(rt, journals);
-    let ended = run_close(rt.alloc(), &ask, journals.len(), &mut files, writer);
-    let (read, error) = files.end();
-    let code = match ended {
-        Ok(true) => ExitCode::SUCCESS,
-        Ok(false) => ExitCode::from(FAULT_FOUND),
-        Err(fault) => {
-            let code = report_closing(rt, accounts, journals, fault, error);
-            report_why_not(rt, journals, fault);
-            code
-        }
+    let Ok(ids) = ids_of(rt, journals) else {
+        return not_begun(
+            Vec::new(rt.alloc()),
+            ClosingFault::Books(CloseFault::OutOfMemory),
+            out_of_memory(rt),
+        );
     };
-    RanClosing { read, ended, code }
+    match first_same(&ids) {
+        Some(same) => not_begun(
+            ids,
+            ClosingFault::Same(same),
+            report_same(rt, journals, same),
+        ),
+        None => close_by(rt, ids, sites, accounts, journals, writer),
+    }
 }

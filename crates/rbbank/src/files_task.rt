@@ -1,14 +1,16 @@
 //! A task with the lines of files of the operating system.
-ghost use Rattle.std.specs.Prelude.{◌≡◌, ◌≤◌, ◌++◌, IfOk, List, ℕ, codes, false, length, string_bytes};
+ghost use Rattle.std.specs.Prelude.{◌≡◌, ◌≤◌, ◌++◌, [], Err, IfOk, List, ℕ, codes, false, length, string_bytes};
 ghost use Rattle.std.specs.Io.KnownBytes.{Appends};
 ghost use Rattle.std.specs.Process.{exit_status};
 ghost use Rattle.rbbank.specs.Files.{FilesEndAs, files_status_of, lines_message_of};
+ghost use Rattle.rbbank.specs.SameFiles.{AreFiles};
 ghost use Rattle.rb_lines.specs.Messages.{status_of};
 ghost use Rattle.rbbank.specs.Statuses.{IsEndOfFiles, IsEndOfTask, IsReportedStatus};
 
 use crate::files_on_disk::{FilesOnDisk, name_of, report_unread};
 use crate::joined::{FilesFault, Joined, join_files};
 use crate::read_log::ReadLog;
+use crate::same_file::{FileId, first_same, ids_of, report_same};
 use crate::task::{TaskRan, run_task};
 use crate::why::reason_of_file;
 use crate::{FAULT_FOUND, out_of_memory, print_line, report_fault, report_why};
@@ -19,10 +21,11 @@ use std::alloc::{AllocError, Global};
 use std::io;
 use std::process::ExitCode;
 
-/// The outcome of a task with the lines of files: the files that were read; how the task ended, or why the files aren't
-/// one input; and the status that the program ends with.
+/// The outcome of a task with the lines of files: which files the names led to; the files that were read; how the task
+/// ended, or why the files aren't one input; and the status that the program ends with.
 #[derive(Drop)]
 pub struct RanOverFiles {
+    pub ids: Vec<Option<FileId>>,
     pub read: ReadLog,
     pub ended: Result<TaskRan, FilesFault>,
     pub code: ExitCode,
@@ -104,21 +107,44 @@ fn report_files(
             report_why(rt, reason_of_file(rt, names, file, fault));
             code
         }
+        FilesFault::Same(same) => report_same(rt, names, same),
         FilesFault::OutOfMemory => out_of_memory(rt),
     }
 }
 
-/// Does this with the lines of these files, to the writer.
-pub fn run_over_files<W: Sink>(
+/// Nothing is done with the lines of files, of which none was opened.
+fn not_begun(
     rt: &HostRuntime,
+    names: &[&str],
+    ids: Vec<Option<FileId>>,
+    fault: FilesFault,
+) -> RanOverFiles
+    ensures ids { result.ids ≡ ids }
+    ensures none { result.read.files ≡ [] }
+    ensures ended { result.ended ≡ Err fault }
+    ensures status { IsEndOfFiles result.ended (exit_status result.code) }
+{
+    RanOverFiles {
+        ids,
+        read: ReadLog::new(),
+        ended: Err(fault),
+        code: report_files(rt, names, fault, None),
+    }
+}
+
+/// Does this with the lines of these files, which are different ones, to the writer.
+fn run_over<W: Sink>(
+    rt: &HostRuntime,
+    ids: Vec<Option<FileId>>,
     task: Task,
     names: &[&str],
     writer: &mut W,
 ) -> RanOverFiles
+    requires different { AreFiles (length names.now) ids.items }
     requires some { 1 ≤ length names.now }
     requires fresh { W.failed writer.old ≡ false }
     ensures written { (text : List ℕ) × Appends (W.contents writer.old) (W.contents writer.new) text
-        × FilesEndAs task (length names.now) result.read.files result.ended text }
+        × FilesEndAs task (length names.now) result.ids.items result.read.files result.ended text }
     ensures status { IsEndOfFiles result.ended (exit_status result.code) }
 {
     let mut files = FilesOnDisk::new(rt, names);
@@ -131,12 +157,44 @@ pub fn run_over_files<W: Sink>(
             let code = end_of_task(rt, names, &joined, ran);
             report_why(rt, why);
             let ended = Ok(ran);
-            RanOverFiles { read, ended, code }
+            RanOverFiles {
+                ids,
+                read,
+                ended,
+                code,
+            }
         }
         Err(fault) => {
             let code = report_files(rt, names, fault, error);
             let ended = Err(fault);
-            RanOverFiles { read, ended, code }
+            RanOverFiles {
+                ids,
+                read,
+                ended,
+                code,
+            }
         }
+    }
+}
+
+/// Does this with the lines of these files, to the writer. If a file is one before it, none is opened.
+pub fn run_over_files<W: Sink>(
+    rt: &HostRuntime,
+    task: Task,
+    names: &[&str],
+    writer: &mut W,
+) -> RanOverFiles
+    requires some { 1 ≤ length names.now }
+    requires fresh { W.failed writer.old ≡ false }
+    ensures written { (text : List ℕ) × Appends (W.contents writer.old) (W.contents writer.new) text
+        × FilesEndAs task (length names.now) result.ids.items result.read.files result.ended text }
+    ensures status { IsEndOfFiles result.ended (exit_status result.code) }
+{
+    let Ok(ids) = ids_of(rt, names) else {
+        return not_begun(rt, names, Vec::new(rt.alloc()), FilesFault::OutOfMemory);
+    };
+    match first_same(&ids) {
+        Some(same) => not_begun(rt, names, ids, FilesFault::Same(same)),
+        None => run_over(rt, ids, task, names, writer),
     }
 }

@@ -6,6 +6,7 @@ ghost use Rattle.rb_lines.specs.Lines.{lines_of};
 ghost use Rattle.rbbank.specs.Files.{AreJoined, AreNoInput, IsPlace, first_line, lines_behind, joined_lines};
 ghost use Rattle.rbbank.specs.declared.joined.FilesFault.TheVariants.{OutOfMemory as NoMemory};
 
+use crate::same_file::SameFile;
 use rb_runs::{JournalFiles, split_line};
 use std::alloc::{AllocError, Global};
 
@@ -16,6 +17,8 @@ pub enum FilesFault {
     Unread { file: u64 },
     /// The first line of the file isn't the first file's.
     AnotherBank { file: u64 },
+    /// A file is one before it.
+    Same(SameFile),
     /// There was no memory to go on.
     OutOfMemory,
 }

@@ -6,6 +6,14 @@ use rb_reasons::{Expected, difference_of, line_of, reason_of};
 use rb_runs::JournalFault;
 use std::fs;
 
+/// The bytes of a file once more, if it is a regular one: what a pipe had is gone, and a read of it may not end.
+fn read_again(rt: &HostRuntime, name: &str) -> Option<Vec<u8>> {
+    if !fs::metadata(rt, name).ok()?.is_file() {
+        return None;
+    }
+    fs::read(rt, name).ok()
+}
+
 /// Why a file isn't taken behind those before it, if it is for a line. It is read once more, as is the first file.
 pub fn reason_of_file(
     rt: &HostRuntime,
@@ -14,8 +22,8 @@ pub fn reason_of_file(
     fault: JournalFault,
 ) -> Option<String> {
     let alloc = rt.alloc();
-    let first = fs::read(rt, name_of(names, 0)).ok()?;
-    let wrong = fs::read(rt, name_of(names, file)).ok()?;
+    let first = read_again(rt, name_of(names, 0))?;
+    let wrong = read_again(rt, name_of(names, file))?;
     let head = line_of(&first, 1);
     match (fault, open_config(alloc, head)) {
         (JournalFault::AnotherBank, Ok(config)) => {
