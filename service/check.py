@@ -104,8 +104,10 @@ async def lines(folder: str) -> None:
         same("messages of another bank, of none, and of this one",
              await one.replies(shadow | {"bank": "b.0002"}, {"shadow": shadow["shadow"]}, shadow),
              [{"refused": 26}, {"refused": 26}, {"held": "B1.1"}])
-        same("lines that are no events", await one.ask({"deposit": "ann"}, {"x": 1}, {"deposit": ["a" * 2**20, 1]}),
-             [{"bad": "line", "line": 11}, {"bad": "line", "line": 12}, {"bad": "long", "line": 13}])
+        answers = await one.ask({"deposit": "ann"}, {"x": 1}, {"deposit": ["a" * 2**20, 1]})
+        same("lines that are no events, with reasons", ["why" in answer for answer in answers], [True, True, False])
+        same("... by their numbers", [(answer["bad"], answer["line"]) for answer in answers],
+             [("line", 11), ("line", 12), ("long", 13)])
         same("and after them", await one.replies({"balance": "ann"}), [{"balance": 2000}])
         same("messages that were handed on", one.names(), ["B0.1"])
         about = (await one.replies({"about": "site"}))[0]["about"]
@@ -368,6 +370,8 @@ def refuses(service: Http) -> None:
                 '{"token":[1,0,0]}', '{"about":"site"}', '{"apply":"B0.1"}', '{"deposit":["ann",5],"site":0}',
                 '{"deposit":["ann",5],"id":"ü"}', "[" * 100_000):
         same(f"bad: {bad[:40]}", (service.event(bad)[0], "error" in service.event(bad)[1]), (400, True))
+    same("a bad event's reason", service.event({"deposit": ["ann", -5], "id": "r"})[1]["error"].split(" and ")[0],
+         "column 19: -5 has a sign,")
     same("a form", service.event("x=1", Content_Type="application/x-www-form-urlencoded")[0], 400)
     same("another page", service.event({"pass": 1}, Origin="http://evil.example")[0], 403)
     same("another name", service.ask("/state", Host="evil.example")[0], 403)

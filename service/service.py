@@ -87,7 +87,7 @@ class Service:
         except asyncio.TimeoutError:
             return 503, {"error": "no answer yet: ask again by the same key"}
         if (reply := answer.get("reply")) is None:
-            return 400, {"error": "no event, or no key, as docs/FORMAT.md has it"}
+            return 400, {"error": answer.get("why", "no event, or no key, as docs/FORMAT.md has it")}
         if "refused" not in reply:
             return 200, reply
         error = REFUSALS.get(str(reply["refused"]), "refused")

@@ -17,7 +17,7 @@ import sys
 import tempfile
 
 from site_process import read, whole_lines
-from sites import AT_REST, BANK, EVENTS, LINE_LIMIT, Sites, stored, write
+from sites import AT_REST, BANK, EVENTS, LINE_LIMIT, Sites, stored, without_why, write
 
 NAME = "b2026"
 OTHER = b'{"reply":{"refused":26},"sends":[],"then":[]}\n'  # the answer to another bank's line
@@ -62,7 +62,7 @@ def answers(sites, lines, before=None, bank=BANK, name=NAME, **words):
     """The answers of a site that is given these lines, one for each, and its journal; None if it ends otherwise."""
     given = bank + b"".join(line + b"\n" for line in lines)
     out, errors, status, journal = sites.run(given, before, resend=0, bank=name, **words)
-    found = out.splitlines(keepends=True)
+    found = without_why(out).splitlines(keepends=True)
     return (found, journal) if (errors, status, len(found)) == ("", 0, len(lines)) else (None, journal)
 
 

@@ -34,7 +34,8 @@ def answered(program, path):
 
 
 def site_answered(program, path):
-    """What a site writes, and its journal at the end, which begins as the example has it."""
+    """What a site writes, but for the reasons of bad lines, and its journal at the end, which begins as the example has
+    it."""
     stem = path.removesuffix(".jsonl")
     before = stored(stem + ".before", None)
     with tempfile.TemporaryDirectory() as folder, open(path, "rb") as given:
@@ -45,7 +46,7 @@ def site_answered(program, path):
         words = [program, "site", *stored(stem + ".words", b"").decode().split(), "--journal", journal]
         run = subprocess.run(words, stdin=given, capture_output=True)
         errors = run.stderr.replace((folder + os.sep).encode(), b"")
-        return (run.stdout, errors, run.returncode), stored(journal, None)
+        return (bank.without_why(run.stdout), errors, run.returncode), stored(journal, None)
 
 
 def is_same(program, path):

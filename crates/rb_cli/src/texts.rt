@@ -295,7 +295,7 @@ sent, and the replies of the operations that became ready, which are applied the
 
 What is indented further here is the rest of the line above it. A message is given to its receivers as an event,
 as it is: an operation to every other site, the token to the site that it is for. A line that is no event is answered
-{"bad":"line","line":N}, by its number, and a too long one {"bad":"long","line":N}. The events, an example each:
+{"bad":"line","line":N,"why":".."}, by its number, a too long one {"bad":"long","line":N}. The events, an example each:
 
   {"deposit":["ann",500]}                any command of a script but "deliver", without its site
   {"deposit":["ann",500],"id":"a-1"}     made once, however often it comes; also with any other operation and a batch

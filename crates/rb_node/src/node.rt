@@ -77,6 +77,13 @@ impl Node {
         &self.config
     }
 
+    /// The name of its bank, or none.
+    pub fn bank(&self) -> &BankName
+        ensures { result.now ≡ self.now.site.bank }
+    {
+        self.site.bank()
+    }
+
     /// The site's number.
     pub fn me(&self) -> u8
         ensures { result ≡ self.now.site.me }

@@ -30,6 +30,7 @@ pub fn append_good(
             return out.extend_from_slice(text),
         Place::Refused if is_longer(text) => return out.extend_from_slice(text),
         Place::Kind if is_label(text) => return out.extend_from_slice(text),
+        Place::Bank if text.first() == Some(&b'"') => return out.extend_from_slice(text),
         place => return out.extend_from_slice(plain(place, version).as_bytes()),
     };
     out.extend_from_slice(good.as_bytes())
@@ -72,12 +73,14 @@ fn plain(place: Place, version: u8) -> &'static str {
         Place::Sites | Place::Version => "2",
         Place::Command => r#"{"cancel":"R1","site":0}"#,
         Place::Entry => r#"{"event":{"cancel":"R1"},"reply":{"held":"R1"},"site":0}"#,
-        Place::Event | Place::Request => r#"{"cancel":"R1"}"#,
+        Place::Event | Place::Request | Place::Asked | Place::AskedByName => r#"{"cancel":"R1"}"#,
         Place::Reply => r#"{"held":"R1"}"#,
         Place::Deposit | Place::Withdraw | Place::Interest | Place::AsOf => r#"["a",1]"#,
         Place::Transfer => r#"["a","a",1]"#,
         Place::Batch | Place::Names | Place::Rows => "[]",
-        Place::Id | Place::Account | Place::AnAccount | Place::SecondAccount => r#""a""#,
+        Place::Id | Place::Account | Place::AnAccount | Place::SecondAccount | Place::Bank =>
+            r#""a""#,
+        Place::About => spell!(site),
         Place::Name => r#""R1""#,
         Place::Kind => r#""deposit""#,
         Place::Shadow if version == 1 => {

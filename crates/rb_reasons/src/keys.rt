@@ -16,11 +16,13 @@ pub enum Group {
     Limits,
     Requests,
     Asked,
+    Questions,
     Deliver,
     Receipts,
     Site,
     Entry,
     Id,
+    Bank,
     Shadow,
     Target,
     To,
@@ -53,7 +55,7 @@ pub enum Role {
 pub type Key = (Group, &'static str, Place);
 
 /// The keys of all objects, in the order in which they are said.
-static KEYS: [Key; 54] = [
+static KEYS: [Key; 57] = [
     (Group::Requests, key!(deposit), Place::Deposit),
     (Group::Requests, key!(withdraw), Place::Withdraw),
     (Group::Requests, key!(interest), Place::Interest),
@@ -66,6 +68,8 @@ static KEYS: [Key; 54] = [
     (Group::Asked, key!(asof), Place::AsOf),
     (Group::Asked, key!(statement), Place::Account),
     (Group::Deliver, key!(deliver), Place::Message),
+    (Group::Questions, key!(about), Place::About),
+    (Group::Questions, key!(resend), Place::Resend),
     (Group::Receipts, key!(shadow), Place::Shadow),
     (Group::Receipts, key!(token), Place::Token),
     (Group::Config, key!(accounts), Place::Accounts),
@@ -100,6 +104,7 @@ static KEYS: [Key; 54] = [
     (Group::Entry, key!(reply), Place::Reply),
     (Group::Site, key!(site), Place::Site),
     (Group::Id, key!(id), Place::Id),
+    (Group::Bank, key!(bank), Place::Bank),
     (Group::Shadow, key!(account), Place::Account),
     (Group::Shadow, key!(amount), Place::Amount),
     (Group::Shadow, key!(deps), Place::Deps),
@@ -146,6 +151,7 @@ pub fn role_of(object: Place, group: Group) -> Role {
         (Place::Entry, Group::Entry | Group::Site) => Role::Needed,
         (Place::Entry, Group::Id) => Role::Free,
         (Place::Event, Group::Requests | Group::Asked | Group::Receipts) => Role::One,
+        (Place::Asked | Place::AskedByName, group) => role_at_site(object, group),
         (Place::Shadow | Place::Cancellation | Place::Transferral, Group::Shadow) => Role::Needed,
         (Place::Cancellation, Group::Target) => Role::Needed,
         (Place::Transferral, Group::To) => Role::Needed,
@@ -159,6 +165,16 @@ pub fn role_of(object: Place, group: Group) -> Role {
         (Place::Refusal(9), Group::Behind) => Role::Needed,
         (Place::Refusal(13), Group::Stopped) => Role::Needed,
         (Place::Refusal(17), Group::Why) => Role::Needed,
+        _ => Role::None,
+    }
+}
+
+/// The part of a group's keys in a line at a site.
+fn role_at_site(object: Place, group: Group) -> Role {
+    match (object, group) {
+        (_, Group::Requests | Group::Asked | Group::Receipts | Group::Questions) => Role::One,
+        (_, Group::Id) => Role::Free,
+        (Place::AskedByName, Group::Bank) => Role::Free,
         _ => Role::None,
     }
 }

@@ -3,8 +3,8 @@
 #![tactic(auto)]
 
 ghost use Rattle.std.specs.Prelude.{◌≤◌, length, string_bytes, IfSome};
-ghost use Rattle.rb_reasons.specs.Reasons.{IsReason};
-ghost use Rattle.rb_reasons.specs.declared.text.TheConstants.{MOST_REASON};
+ghost use Rattle.rb_reasons.specs.Reasons.{IsPlain, IsReason, IsShortReason};
+ghost use Rattle.rb_reasons.specs.declared.text.TheConstants.{MOST_REASON, MOST_SHORT_REASON};
 
 mod difference;
 mod find;
@@ -25,17 +25,18 @@ use crate::find::first_refused;
 use crate::reader::Reader;
 use crate::scan::Scan;
 use crate::syntax::wrong_syntax;
-use crate::text::write_reason;
+use crate::text::{write_reason, write_short_reason};
 use crate::value::wrong_value;
 use crate::words::{Fault, Words};
 pub use difference::difference_of;
 pub use line::line_of;
+use rb_history::BankName;
 use rb_lines::{LINE_LIMIT, text_on};
 use rb_money::Config;
 pub use reader::Expected;
 use serde_json::Value;
 use std::alloc::Global;
-pub use text::MOST_REASON;
+pub use text::{MOST_REASON, MOST_SHORT_REASON};
 
 /// The reason why the reader refused the line.
 pub fn reason_of(
@@ -47,8 +48,24 @@ pub fn reason_of(
     ensures reason { IfSome result (λ s. IsReason (length line.now) (string_bytes s)) }
     ensures most { IfSome result (λ s. length (string_bytes s) ≤ MOST_REASON) }
 {
-    let fault = fault_of(alloc, Reader { expected, config }, line)?;
+    let fault = fault_of(alloc, Reader::Line { expected, config }, line)?;
     write_reason(alloc, line, fault.at, &fault.why)
+}
+
+/// The reason why a site of the bank, which may have a name, takes the line as no event and no question: the column and
+/// what is wrong there, on one line.
+pub fn reason_at_site(
+    alloc: Global,
+    config: &Config,
+    bank: &BankName,
+    line: &[u8],
+) -> Option<String>
+    ensures reason { IfSome result (λ s. IsShortReason (length line.now) (string_bytes s)) }
+    ensures plain { IfSome result (λ s. IsPlain (string_bytes s)) }
+    ensures most { IfSome result (λ s. length (string_bytes s) ≤ MOST_SHORT_REASON) }
+{
+    let fault = fault_of(alloc, Reader::Site { config, bank }, line)?;
+    write_short_reason(alloc, line, fault.at, &fault.why)
 }
 
 /// The fault of the line.

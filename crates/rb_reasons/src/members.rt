@@ -101,6 +101,27 @@ impl<'a> Object<'a> {
             Place::Command => self.receipt(),
             Place::Entry if is_command && event.is_none() => Some((self.start, A_COMMAND)),
             Place::Event if self.has(Group::Deliver) => Some((self.start, A_DELIVERY)),
+            Place::Asked | Place::AskedByName => self.beside(),
+            _ => None,
+        }
+    }
+
+    /// A part that a line at a site hasn't.
+    fn beside(&self) -> Option<(usize, &'static str)> {
+        if self.find(key!(event)).is_some() {
+            return Some((self.start, NO_ENTRY));
+        }
+        if self.find(key!(accounts)).is_some() {
+            return Some((self.start, A_CONFIG));
+        }
+        if let Some(deliver) = self.find(key!(deliver)) {
+            return Some((deliver.key_start, NO_DELIVERY));
+        }
+        if let Some(site) = self.find(key!(site)) {
+            return Some((site.key_start, NO_SITE));
+        }
+        match self.find(key!(bank)) {
+            Some(bank) if self.form == Place::Asked => Some((bank.key_start, NO_BANK)),
             _ => None,
         }
     }
@@ -217,6 +238,9 @@ impl<'a> Object<'a> {
             Place::Event | Place::Made | Place::Statement | Place::Refusal(_) | Place::Reply => {
                 Words::new(alloc).text(AN_ID)?.at(self.start)
             }
+            Place::Asked | Place::AskedByName if self.find(key!(id)).is_some() => {
+                Words::new(alloc).text(NO_ID)?.at(self.start)
+            }
             _ => unknown(alloc, self.start),
         }
     }
@@ -275,6 +299,22 @@ const A_SHADOW: &str =
 /// Of a received token in a script.
 const A_TOKEN: &str =
     "\"token\" is in histories alone; in a script \"deliver\" brings a message, by its number";
+
+/// Of an entry at a site.
+const NO_ENTRY: &str = "this is an entry of a history, and a site takes events";
+
+/// Of a delivery by its number at a site.
+const NO_DELIVERY: &str = "a site takes what another one sent: \"shadow\" or \"token\"";
+
+/// Of the site of a command, at a site.
+const NO_SITE: &str =
+    "the events of a site have no \"site\"; `rbbank script` takes commands of all sites";
+
+/// Of a bank's name, at a site whose bank has none.
+const NO_BANK: &str = "the bank of this site has no name: `--bank` gives it one";
+
+/// Of an id that goes with no such event.
+const NO_ID: &str = "an id is of a request or a batch, and of nothing else";
 
 /// Of an id that goes with no such entry.
 const AN_ID: &str = "an entry with an id is of a request that wasn't refused";

@@ -17,6 +17,12 @@ pub enum Place {
     Limit(&'static str, u32),
     Command,
     Entry,
+    /// The line of an event or a question at a site; the next one is that at a site whose bank has a name.
+    Asked,
+    AskedByName,
+    Bank,
+    About,
+    Resend,
     Site,
     EntrySite,
     Id,

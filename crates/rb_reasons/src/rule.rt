@@ -3,7 +3,7 @@
 
 use crate::place::Place;
 use crate::reader::Reader;
-use rb_money::{MOST_CENTS, MOST_SITES, MOST_SITES_OF_VERSION_1, Refusal};
+use rb_money::{MOST_CENTS, MOST_HISTORY, MOST_SITES, MOST_SITES_OF_VERSION_1, Refusal};
 
 /// The rule that a value has to keep.
 #[derive(Clone, Copy, Debug, PartialEq, Eq)]
@@ -54,6 +54,7 @@ pub fn rule_at(place: Place, reader: Reader<'_>) -> Rule {
         Place::Amount => number("an amount in cents", u64::MAX),
         Place::Rate => number("a rate in basis points", WORD),
         Place::Position => number("a position", WORD),
+        Place::Resend => number("the number of the last entries", u64::from(MOST_HISTORY)),
         Place::Message => number("a message's number", WORD),
         Place::CountSite => number("a site", MOST_SITES as u64 - 1),
         Place::CountAbove => above("a count", 1, WORD),
@@ -78,6 +79,8 @@ fn rule_of_text(place: Place, reader: Reader<'_>) -> Rule {
     match place {
         Place::NewName => Rule::Text("an account's name"),
         Place::Id => Rule::Text("an id"),
+        Place::Bank => Rule::Text("the bank's name"),
+        Place::About => Rule::Text("what a question is about"),
         Place::Account => Rule::Text("the account"),
         Place::AnAccount => Rule::Text("an account"),
         Place::SecondAccount => Rule::Text("the second account"),
@@ -109,7 +112,7 @@ fn rule_of_list(place: Place, reader: Reader<'_>) -> Rule {
         Place::Rows => Rule::Every("the value of rows"),
         Place::Row => Rule::Items("a row", 6),
         Place::Config => Rule::Object("a configuration"),
-        Place::Command | Place::Entry => Rule::Object("a line"),
+        Place::Command | Place::Entry | Place::Asked | Place::AskedByName => Rule::Object("a line"),
         _ => Rule::Object(object(place)),
     }
 }
@@ -121,7 +124,7 @@ pub fn object(place: Place) -> &'static str {
         Place::Command => "a command",
         Place::Request => "a request of a batch",
         Place::Entry => "an entry",
-        Place::Event => "an event",
+        Place::Event | Place::Asked | Place::AskedByName => "an event",
         Place::Made => "what was made",
         Place::Statement => "a statement",
         Place::Refusal(_) => "refusal ",

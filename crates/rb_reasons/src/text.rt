@@ -1,13 +1,16 @@
 //! The text of a reason: the column, what is wrong there, and the line round it with a caret. All contracts on what is
 //! printed are kept here, for any words and any line, so that no other file needs a proof of its words.
-ghost use Rattle.std.specs.Prelude.{◌≤◌, ◌<◌, length, string_bytes, IfSome};
-ghost use Rattle.rb_reasons.specs.Reasons.{IsPlain, IsReason};
-ghost use Rattle.rb_reasons.specs.declared.text.TheConstants.{MOST_REASON};
+ghost use Rattle.std.specs.Prelude.{◌≤◌, ◌<◌, ◌+◌, length, string_bytes, IfSome};
+ghost use Rattle.rb_reasons.specs.Reasons.{IsPlain, IsReason, IsShortReason};
+ghost use Rattle.rb_reasons.specs.declared.text.TheConstants.{MOST_REASON, MOST_SHORT_REASON};
 
 use std::alloc::Global;
 
 /// The most bytes of a reason.
 pub const MOST_REASON: usize = 512;
+
+/// The most bytes of a reason on one line.
+pub const MOST_SHORT_REASON: usize = 336;
 
 /// The most bytes of what is wrong.
 const MOST_WHY: usize = 300;
@@ -64,13 +67,22 @@ fn count_chars(bytes: &[u8]) -> usize
     count
 }
 
+/// The column of what is wrong with a line this many bytes from its beginning.
+fn column_of(line: &[u8], at: usize) -> usize
+    ensures least { 1 ≤ result }
+    ensures most { result ≤ length line.now + 1 }
+{
+    let (front, _) = line.split_at(at.min(line.len()));
+    count_chars(front) + 1
+}
+
 /// The text of a reason: what is wrong with a line this many bytes from its beginning. `None` if memory ran out.
 pub fn write_reason(alloc: Global, line: &[u8], at: usize, why: &[u8]) -> Option<String>
     ensures reason { IfSome result (λ s. IsReason (length line.now) (string_bytes s)) }
     ensures most { IfSome result (λ s. length (string_bytes s) ≤ MOST_REASON) }
 {
     let (front, back) = line.split_at(at.min(line.len()));
-    let column = count_chars(front) + 1;
+    let column = column_of(line, at);
     let near = if front.len() <= MOST_BEFORE {
         front
     } else {
@@ -81,6 +93,20 @@ pub fn write_reason(alloc: Global, line: &[u8], at: usize, why: &[u8]) -> Option
     let behind = plain(alloc, back, MOST_SHOWN - before.as_bytes().len(), false)?;
     let caret = plain(alloc, near, MOST_BEFORE, true)?;
     match format!(in alloc; "  column {column}: {why}\n  {before}{behind}\n  {caret}^") {
+        Ok(text) => Some(text),
+        Err(_) => None,
+    }
+}
+
+/// The first line of that reason by itself. `None` if memory ran out.
+pub fn write_short_reason(alloc: Global, line: &[u8], at: usize, why: &[u8]) -> Option<String>
+    ensures reason { IfSome result (λ s. IsShortReason (length line.now) (string_bytes s)) }
+    ensures plain { IfSome result (λ s. IsPlain (string_bytes s)) }
+    ensures most { IfSome result (λ s. length (string_bytes s) ≤ MOST_SHORT_REASON) }
+{
+    let column = column_of(line, at);
+    let why = plain(alloc, why, MOST_WHY, false)?;
+    match format!(in alloc; "column {column}: {why}") {
         Ok(text) => Some(text),
         Err(_) => None,
     }

@@ -196,6 +196,9 @@ fn wrong_text(alloc: Global, reader: Reader<'_>, node: &Node, text: &[u8]) -> Op
             .number(LONGEST_NAME as u64)?
             .text(" of a-z, 0-9, \".\", \"_\" and \"-\"")?
             .at(node.start),
+        Place::About => words
+            .text(" is nothing to ask about: there is: \"site\"")?
+            .at(node.start),
         Place::Id => words
             .text(" is no id: 1 to ")?
             .number(MOST_ID_BYTES as u64)?

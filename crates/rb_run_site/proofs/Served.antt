@@ -1,6 +1,6 @@
 -- A site that is asked with ids serves as one without them.
 use Rattle.std.proofs.Common.{◌≡◌, ℕ, Bool, true, false, cond, List, [], ◌∷◌, Some, None, refl, sym, ap, subst, ◌∙◌}
-use Rattle.std.proofs.Common.{append-nil, inl, inr}
+use Rattle.std.proofs.Common.{Option, append-nil, inl, inr}
 use Rattle.std.specs.Prelude.{◌⊎◌, map}
 use Rattle.std.specs.List.{concat}
 use Rattle.std.proofs.lemmas.List.{append_cancel_left, map-append}
@@ -165,9 +165,10 @@ module _ (all : Bool) (x : SeenAsked) (t : Turn SeenAsked)
     };
   }
 
-  bad_struck : (why : List ℕ) → IsBadAnswer why x t.after t.number t.added t.text
-      → IsBadAnswer why (strike x) (strike t.after) t.number [] t.text
-  bad_struck why bad = record { text_is = bad.text_is; same = ap strike bad.same; none = refl }
+  bad_struck : (word : List ℕ) (may_be : Option (List ℕ) → Type 0) → IsBadAnswer word may_be x t.after t.number t.added t.text
+      → IsBadAnswer word may_be (strike x) (strike t.after) t.number [] t.text
+  bad_struck word may_be bad =
+      record { why = bad.why; reason = bad.reason; text_is = bad.text_is; same = ap strike bad.same; none = refl }
 
   question_struck : IsQuestionAnswer x t.after t.line t.text (concat t.added)
       → IsQuestionAnswer (strike x) (strike t.after) t.line t.text []
@@ -198,7 +199,7 @@ module _ (all : Bool) (x : SeenAsked) (t : Turn SeenAsked)
 
       by : (b : Bool) → is_long t.line ≡ b → (asked_event_on x.settings x.bank t.line ≡ None) ⊎ (is_long t.line ≡ true)
           → IsAnswer all b x t.number t.line t.added t.text t.after → Struck (SiteAnswers all) x t t.line
-      by true long none bad = same_line (inr long) bad.same (to true long (bad_struck _ bad))
+      by true long none bad = same_line (inr long) bad.same (to true long (bad_struck _ _ bad))
       by false short (inr long) answer = absurd (cc (short, long))
       by false short (inl none) (inl (inl own)) = absurd (cc (none, own.is_event))
       by false short (inl none) (inl (inr (inl known))) = absurd (cc (none, known.is_event))
@@ -207,7 +208,7 @@ module _ (all : Bool) (x : SeenAsked) (t : Turn SeenAsked)
       by false short (inl none) (inl (inr (inr (inr o)))) =
           same_line (inl none) o.after (to false short (inl (inr (inr (inr (other_struck o))))))
       by false short (inl none) (inr bad) =
-          same_line (inl none) bad.3.same (to false short (inr (none, bad.1, bad.2, bad_struck _ bad.3)))
+          same_line (inl none) bad.3.same (to false short (inr (none, bad.1, bad.2, bad_struck _ _ bad.3)))
 
   -- a request whose id isn't known
   request : (struck : List ℕ) → IsStruckLine x t.line struck → Struck (SiteAnswers all) x t struck

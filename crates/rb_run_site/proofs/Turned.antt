@@ -1,7 +1,7 @@
 -- An answer of a site is a turn of it over its journal.
 use Rattle.std.proofs.Common.{◌≡◌, ℕ, Bool, true, false, cond, List, [], ◌∷◌, ◌++◌, Some, None, refl, sym, ap, subst, ◌∙◌}
-use Rattle.std.proofs.Common.{append-nil, inl, inr}
-use Rattle.std.specs.Prelude.{◌⊎◌, codes, map}
+use Rattle.std.proofs.Common.{Option, append-nil, inl, inr}
+use Rattle.std.specs.Prelude.{◌⊎◌, IfSome, codes, map, option_map}
 use Rattle.std.specs.Str.{is_utf8}
 use Rattle.std.specs.List.{concat}
 use Rattle.std.proofs.lemmas.List.{map-append}
@@ -20,10 +20,12 @@ use Rattle.rb_lines.specs.Lines.{is_long}
 use Rattle.rb_lines.specs.declared.limits.TheConstants.{LINE_LIMIT}
 use Rattle.std.proofs.Common.{◌≤◌, length, arith}
 use Rattle.std.proofs.lemmas.Bool.Decides.{nat_tests}
+use Rattle.rb_reasons.specs.Reasons.{IsPlain}
 use Rattle.rb_node.specs.Answers.{IsKnownAnswer, IsOtherBankAnswer, IsSiteAnswer, asked_event_on, line_of, other_bank_on}
 use Rattle.rb_node.specs.Asked.{SeenAsked, with_id, with_more}
 use Rattle.rb_node.specs.LineAnswers.{IsLineAnswer, IsQuestionAnswer, question_on}
-use Rattle.rb_run_site.specs.Journals.{IsAnswer, IsBadAnswer, SiteAnswers, bad_json, journal_head, journal_of, lines_of_entries}
+use Rattle.rb_run_site.specs.Journals.{HasNoReason, IsAnswer, IsBadAnswer, MayHaveReason, SiteAnswers}
+use Rattle.rb_run_site.specs.Journals.{bad_json, journal_head, journal_of, lines_of_entries}
 use Rattle.rb_run_site.proofs.EntryLines.{are_theirs, fed, ids_had, joined_lines}
 
 -- events keep a site's configuration and its number
@@ -138,42 +140,54 @@ module _ (all : Bool) (old new : SeenAsked) (number : ℕ) (line words entries t
   turned are fit (inr (inr (inr a))) =
       same_turned a.after a.entries_are (λ none. inr (inr (inr (subst (IsOtherBankAnswer old new line words) none a))))
 
--- the site answered that a line is bad, for this reason: it is a turn that changes nothing
-not_taken : (all : Bool) (old new : SeenAsked) (number : ℕ) (why line text text_after : List ℕ)
-    (batch batch_after : List (List ℕ)) → IsConfigured old.settings
-    → (IsBadAnswer why old new number [] (line_of (bad_json why number))
-    → IsAnswer all (is_long line) old number line [] (line_of (bad_json why number)) new)
-    → new ≡ old → text_after ≡ text ++ line_of (bad_json why number) → batch_after ≡ batch
+-- the site answered that a line is bad, with this reason: it is a turn that changes nothing
+not_taken : (all : Bool) (old new : SeenAsked) (number : ℕ) (word : List ℕ) (may_be : Option (List ℕ) → Type 0)
+    (why : Option (List ℕ)) (line text text_after : List ℕ) (batch batch_after : List (List ℕ)) → IsConfigured old.settings
+    → may_be why → (IsBadAnswer word may_be old new number [] (line_of (bad_json word number why))
+    → IsAnswer all (is_long line) old number line [] (line_of (bad_json word number why)) new)
+    → new ≡ old → text_after ≡ text ++ line_of (bad_json word number why) → batch_after ≡ batch
     → IsTurn (SiteAnswers all) old new (journal_of old) (journal_of new) batch batch_after number line text text_after
-not_taken all old new number why line text text_after batch batch_after ok is same said kept =
+not_taken all old new number word may_be why line text text_after batch batch_after ok reason is same said kept =
     let grown : journal_of new ≡ journal_of old ++ [] = ap journal_of same ∙ sym (append-nil (journal_of old)) in
     record {
       added = [];
-      words = line_of (bad_json why number);
-      answered = record { configured = ok; answered = is (record { text_is = refl; same = same; none = refl }); after = grown };
+      words = line_of (bad_json word number why);
+      answered = record {
+        configured = ok;
+        answered = is (record { why = why; reason = reason; text_is = refl; same = same; none = refl });
+        after = grown;
+      };
       lines_are = grown;
       batch_is = kept ∙ sym (append-nil batch);
       text_is = said;
     }
 
+-- the answer has the reason that there is, which is plain, or none
+pub may_have : {S : Type 0} (bytes : S → List ℕ) (why : Option S) (said : Option (List ℕ)) → IfSome why (λ s. IsPlain (bytes s))
+    → (said ≡ option_map bytes why) ⊎ (said ≡ None) → MayHaveReason said
+may_have bytes (Some s) said plain (inl is) = subst MayHaveReason (sym is) plain
+may_have bytes None said plain (inl is) = subst MayHaveReason (sym is) tt
+may_have bytes why said plain (inr is) = subst MayHaveReason (sym is) tt
+
 -- the line is no event, no question and of no other bank
-pub bad_line : (all : Bool) (old new : SeenAsked) (number : ℕ) (line text text_after : List ℕ)
-    (batch batch_after : List (List ℕ)) → IsConfigured old.settings
+pub bad_line : (all : Bool) (old new : SeenAsked) (number : ℕ) (why : Option (List ℕ)) (line text text_after : List ℕ)
+    (batch batch_after : List (List ℕ)) → IsConfigured old.settings → MayHaveReason why
     → is_long line ≡ false → asked_event_on old.settings old.bank line ≡ None
     → other_bank_on old.settings old.bank line ≡ false → question_on old.bank line ≡ None → new ≡ old
-    → text_after ≡ text ++ line_of (bad_json (codes "line") number) → batch_after ≡ batch
+    → text_after ≡ text ++ line_of (bad_json (codes "line") number why) → batch_after ≡ batch
     → IsTurn (SiteAnswers all) old new (journal_of old) (journal_of new) batch batch_after number line text text_after
-bad_line all old new number line text text_after batch batch_after ok short none own unasked same said kept =
-    not_taken all old new number (codes "line") line text text_after batch batch_after ok
-    (λ bad. subst (λ b. IsAnswer all b old number line [] (line_of (bad_json (codes "line") number)) new)
+bad_line all old new number why line text text_after batch batch_after ok reason short none own unasked same said kept =
+    not_taken all old new number (codes "line") MayHaveReason why line text text_after batch batch_after ok reason
+    (λ bad. subst (λ b. IsAnswer all b old number line [] (line_of (bad_json (codes "line") number why)) new)
     (sym short) (inr (none, own, unasked, bad)))
     same said kept
 
 -- the line is too long
 pub long_line : (all : Bool) (old new : SeenAsked) (number : ℕ) (line text text_after : List ℕ) (batch : List (List ℕ))
     → IsConfigured old.settings
-    → is_long line ≡ true → new ≡ old → text_after ≡ text ++ line_of (bad_json (codes "long") number)
+    → is_long line ≡ true → new ≡ old → text_after ≡ text ++ line_of (bad_json (codes "long") number None)
     → IsTurn (SiteAnswers all) old new (journal_of old) (journal_of new) batch batch number line text text_after
 long_line all old new number line text text_after batch ok long same said =
-    not_taken all old new number (codes "long") line text text_after batch batch ok
-    (λ bad. subst (λ b. IsAnswer all b old number line [] (line_of (bad_json (codes "long") number)) new) (sym long) bad) same said refl
+    not_taken all old new number (codes "long") HasNoReason None line text text_after batch batch ok refl
+    (λ bad. subst (λ b. IsAnswer all b old number line [] (line_of (bad_json (codes "long") number None)) new) (sym long) bad)
+    same said refl

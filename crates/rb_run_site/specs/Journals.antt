@@ -1,8 +1,9 @@
 -- The journal of a site, and the answers of a site over it.
-use Rattle.std.specs.Prelude.{◌≡◌, ◌⊎◌, ℕ, Bool, true, false, List, [], ◌∷◌, ◌++◌, map, codes, None}
+use Rattle.std.specs.Prelude.{◌≡◌, ◌⊎◌, ℕ, Bool, true, false, List, [], ◌∷◌, ◌++◌, map, codes, IfSome, Option, None, Some}
 use Rattle.std.specs.List.{concat}
-use Rattle.serde_json.specs.Data.{Data, member, no_members, object, string}
+use Rattle.serde_json.specs.Data.{Data, Members, member, no_members, object, string}
 use Rattle.rb_lines.specs.Lines.{is_long}
+use Rattle.rb_reasons.specs.Reasons.{IsPlain}
 use Rattle.rb_money.specs.Settings.{IsConfigured, Settings}
 use Rattle.rb_history.specs.ConfigLines.{config_json}
 use Rattle.rb_history.specs.Entries.{asked_entry_json}
@@ -24,14 +25,35 @@ lines_of_entries s me xs = map (λ x. line_of (asked_entry_json s me x)) xs
 abbrev pub journal_of : SeenAsked → List (List ℕ)
 journal_of x = journal_head x.settings ∷ lines_of_entries x.settings x.me x.asked
 
--- a word for why a line is bad, and the line's number in the input; the keys in byte order
-abbrev pub bad_json : List ℕ → ℕ → Data
-bad_json why number = object (member (codes "bad") (string why) (member (codes "line") (number_json number) no_members))
+-- the last member of the answer to a bad line: the reason, if there is one
+abbrev pub why_members : Option (List ℕ) → Members
+why_members (Some why) = member (codes "why") (string why) no_members
+why_members None = no_members
 
--- a line is answered by why it is bad, and the site stays as it was
-pub record IsBadAnswer (why : List ℕ) (old new : SeenAsked) (number : ℕ) (added : List (List ℕ))
-    (text : List ℕ) : Type 0 where
-  pub text_is : text ≡ line_of (bad_json why number)
+-- a word for what is bad about a line, the line's number in the input, and the reason; the keys in byte order
+abbrev pub bad_json : List ℕ → ℕ → Option (List ℕ) → Data
+bad_json word number why =
+    object (member (codes "bad") (string word) (member (codes "line") (number_json number) (why_members why)))
+
+-- bytes grow by the answer to a line that isn't taken, with this reason or none
+abbrev pub AddsBadLine : ℕ → Option (List ℕ) → List ℕ → List ℕ → Type 0
+AddsBadLine number why old new = (said : Option (List ℕ)) × ((said ≡ why) ⊎ (said ≡ None))
+    × (new ≡ old ++ line_of (bad_json (codes "line") number said))
+
+-- nothing more is said of a line that is too long
+abbrev pub HasNoReason : Option (List ℕ) → Type 0
+HasNoReason why = why ≡ None
+
+-- of a line that isn't taken a text may say why: on one line, with no control character
+abbrev pub MayHaveReason : Option (List ℕ) → Type 0
+MayHaveReason why = IfSome why IsPlain
+
+-- a line is answered by what is bad about it, with such a reason, and the site stays as it was
+pub record IsBadAnswer (word : List ℕ) (may_be : Option (List ℕ) → Type 0) (old new : SeenAsked) (number : ℕ)
+    (added : List (List ℕ)) (text : List ℕ) : Type 0 where
+  pub why : Option (List ℕ)
+  pub reason : may_be why
+  pub text_is : text ≡ line_of (bad_json word number why)
   pub same : new ≡ old
   pub none : added ≡ []
 
@@ -39,10 +61,10 @@ pub record IsBadAnswer (why : List ℕ) (old new : SeenAsked) (number : ℕ) (ad
 -- the line is too long: if so it is bad, whatever it is; else it is answered as an event, a question or a line of
 -- another bank, or it is none of these
 abbrev pub IsAnswer : Bool → Bool → SeenAsked → ℕ → List ℕ → List (List ℕ) → List ℕ → SeenAsked → Type 0
-IsAnswer all true old number line added text new = IsBadAnswer (codes "long") old new number added text
+IsAnswer all true old number line added text new = IsBadAnswer (codes "long") HasNoReason old new number added text
 IsAnswer all false old number line added text new = IsLineAnswer all old new line text (concat added)
     ⊎ ((asked_event_on old.settings old.bank line ≡ None) × (other_bank_on old.settings old.bank line ≡ false)
-    × (question_on old.bank line ≡ None) × IsBadAnswer (codes "line") old new number added text)
+    × (question_on old.bank line ≡ None) × IsBadAnswer (codes "line") MayHaveReason old new number added text)
 
 -- the site, which records all events or those that change it, answers the line of this number by this text and is then
 -- the second; the lines of its new entries are these

@@ -9,11 +9,13 @@ use crate::records::Records;
 use rb_history::{lines_are_single, read_events_fit};
 use rb_journal::{JournaledResponder, LineBatch};
 use rb_node::{Node, NodeFault};
+use rb_reasons::reason_at_site;
 use std::alloc::{AllocError, Global};
 use std::marker::PhantomData;
 
 /// A site whose history is in a journal, with the choice of the events that it records.
 pub struct SiteResponder<M: Records> {
+    alloc: Global,
     pub node: Node,
     entries: Vec<u8>,
     records: PhantomData<M>,
@@ -25,6 +27,7 @@ impl<M: Records> SiteResponder<M> {
         ensures { result.node ≡ node }
     {
         SiteResponder {
+            alloc,
             node,
             entries: Vec::new(alloc),
             records: PhantomData,
@@ -34,6 +37,7 @@ impl<M: Records> SiteResponder<M> {
     /// Closes the site.
     pub fn close(self) {
         let SiteResponder {
+            alloc: _,
             node,
             entries: _,
             records: _,
@@ -70,7 +74,10 @@ impl<M: Records> JournaledResponder for SiteResponder<M> {
         self.entries.clear();
         match self.node.answer(line, M::ALL, text, &mut self.entries) {
             Ok(()) => {}
-            Err(NodeFault::BadLine) => return append_bad_line(text, number),
+            Err(NodeFault::BadLine) => {
+                let why = reason_at_site(self.alloc, self.node.config(), self.node.bank(), line);
+                return append_bad_line(self.alloc, text, number, why);
+            }
             Err(_) => return Err(AllocError),
         }
         match batch.extend(&self.entries) {

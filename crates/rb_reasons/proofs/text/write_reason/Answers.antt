@@ -1,10 +1,10 @@
-use Rattle.std.proofs.Common.{◌≤◌, ◌+◌, length, ap, arith, string_bytes}
+use Rattle.std.proofs.Common.{◌≤◌, length, ap, arith, string_bytes}
 use Rattle.rb_reasons.proofs.Short.{short}
 use Rattle.rb_reasons.proofs.text.write_reason.Goals as goal
 
 pub returns-in-Ok-clause-reason : goal.returns-in-Ok-clause-reason
 returns-in-Ok-clause-reason c = (
-  c.count_chars.result + 1,
+  c.column_of-column.result,
   string_bytes c.in_ok-why.why,
   string_bytes c.in_ok-before.before,
   string_bytes c.in_ok-behind.behind,
@@ -25,6 +25,6 @@ returns-in-Ok-clause-most c =
     let behind = string_bytes c.in_ok-behind.behind in
     let caret = string_bytes c.in_ok-caret.caret in
     let of_behind : length behind ≤ 72 = omega (arith, c.in_ok-behind.ensures.most) in
-    let all = short (c.count_chars.result + 1) why before behind caret (omega arith) c.in_ok-why.ensures.most
+    let all = short c.column_of-column.result why before behind caret (omega arith) c.in_ok-why.ensures.most
     c.in_ok-before.ensures.most of_behind c.in_ok-caret.ensures.most in
     omega (arith, ap length c.in-Ok.ensures.ok, all)

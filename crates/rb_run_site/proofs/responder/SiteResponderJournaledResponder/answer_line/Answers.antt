@@ -1,11 +1,11 @@
-use Rattle.std.proofs.Common.{◌++◌, ◌∙◌, Err, refl, sym, ap, subst, codes}
+use Rattle.std.proofs.Common.{◌++◌, ◌∙◌, Err, refl, sym, ap, subst, codes, string_bytes}
 use Rattle.std.proofs.lemmas.Result.{on_ok_weaker}
 use Rattle.rb_money.specs.Settings.{IsConfigured}
 use Rattle.rb_journal.specs.Lines.{IsBatch, recovered}
 use Rattle.rb_node.specs.Answers.{SeenNode, line_of}
 use Rattle.rb_node.specs.LineAnswers.{IsLineAnswer}
 use Rattle.rb_run_site.specs.Journals.{bad_json}
-use Rattle.rb_run_site.proofs.Turned.{bad_line, batched, short_line, turned}
+use Rattle.rb_run_site.proofs.Turned.{bad_line, batched, may_have, short_line, turned}
 use Rattle.rb_run_site.proofs.responder.SiteResponderJournaledResponder.answer_line.Goals as goal
 
 pub extend-requires : goal.extend-requires
@@ -36,8 +36,9 @@ returns-in-Err-BadLine-clause-answered g c =
     let ok = subst IsConfigured c.config.ensures c.sites-sites.ensures.configured in
     let bad = c.in-Err-BadLine.ensures.bad (ap Err c.in-Err-BadLine.field-0-is) in
     on_ok_weaker c.append_bad_line.result
-    (λ said. bad_line g.M.Records.ALL c.args.self.now.node.site c.answer.new.self.site c.args.number c.args.line.now c.args.text.now.items
-    c.append_bad_line.new.out.items _ _ ok (short_line c.args.line.now c.requires.short)
-    bad.0 bad.1 bad.2 (ap (λ (n : SeenNode). n.site) bad.3)
-    (said ∙ ap (λ l. l ++ line_of (bad_json (codes "line") c.args.number)) c.in-Err-BadLine.ensures.err.0) refl)
+    (λ adds. bad_line g.M.Records.ALL c.args.self.now.node.site c.answer.new.self.site c.args.number adds.0 c.args.line.now
+    c.args.text.now.items c.append_bad_line.new.out.items _ _ ok
+    (may_have string_bytes c.reason_at_site-why.result adds.0 c.reason_at_site-why.ensures.plain adds.1)
+    (short_line c.args.line.now c.requires.short) bad.0 bad.1 bad.2 (ap (λ (n : SeenNode). n.site) bad.3)
+    (adds.2 ∙ ap (λ l. l ++ line_of (bad_json (codes "line") c.args.number adds.0)) c.in-Err-BadLine.ensures.err.0) refl)
     c.append_bad_line.ensures.ok
