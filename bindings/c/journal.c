@@ -1,8 +1,9 @@
-/* A site whose journal is in a file, as a filter: it goes on from the journal, or begins a new one, and answers each
- * line of its input by a line. Kill it at any moment and start it again: what was answered is there.
+/* A site whose journal is in a file, as a filter: it begins a new journal with `--new`, else it goes on from the one
+ * that is there, and answers each line of its input by a line. Kill it at any moment and start it again, without
+ * `--new`: what was answered is there.
  *
  *     cc -D_DEFAULT_SOURCE -I bindings/c bindings/c/journal.c bindings/c/rbbank_file.c bindings/out/librbbank.a \
- *         -o journal && ./journal 0 site.journal < events
+ *         -o journal && ./journal 0 site.journal --new < events
  */
 #include "rbbank_file.h"
 
@@ -15,6 +16,15 @@ static const char CONFIG[] = "{\"accounts\":[[\"ann\",0],[\"bob\",1000]],\"sites
 static void stop(const char *why, int32_t status) {
     fprintf(stderr, "journal: %s: status %d\n", why, (int)status);
     exit(1);
+}
+
+/* What is wrong with a journal that isn't opened. */
+static const char *unopened(int32_t status) {
+    switch (status) {
+    case RBBANK_FILE_NO_JOURNAL: return "no journal";
+    case RBBANK_FILE_JOURNAL_THERE: return "there is a journal";
+    default: return "the journal isn't opened";
+    }
 }
 
 /* Writes the reply, which is on the disk now. */
@@ -32,11 +42,13 @@ static void put_out(struct rbbank_file *file) {
 int main(int count, char **words) {
     struct rbbank_file file = {0};
     uint64_t wrong;
-    if (count != 3)
-        stop("usage: journal SITE JOURNAL < EVENTS", 0);
-    int32_t status = rbbank_file_open(&file, words[2], (uint8_t)atoi(words[1]), 0, CONFIG, strlen(CONFIG), &wrong);
+    int is_new = count == 4 && strcmp(words[3], "--new") == 0;
+    if (count != 3 && !is_new)
+        stop("usage: journal SITE JOURNAL [--new] < EVENTS", 0);
+    int32_t status =
+        rbbank_file_open(&file, words[2], (uint8_t)atoi(words[1]), 0, is_new, CONFIG, strlen(CONFIG), &wrong);
     if (status != RBBANK_OK)
-        stop("the journal isn't opened", status);
+        stop(unopened(status), status);
     char *line = NULL;
     size_t size = 0, number = 1;
     for (ssize_t length; (length = getline(&line, &size, stdin)) > 0;) {

@@ -154,9 +154,9 @@ enum {
 int32_t rbbank_journal_open(struct rbbank_journal *journal, uint8_t me, size_t resend, const char *config,
                             size_t length, const char *file, size_t file_length, uint64_t *number);
 
-/* Answers a line as `rbbank site` does: an event, a question, or by {"bad":"line","line":..} with its `number`; a blank
- * line has no answer. Calls are left then if anything was recorded. 0; 1; 3: calls of the answer before are left, and
- * nothing has changed; 4: the site is ended. */
+/* Answers a line as `rbbank site` does: an event, a question, or by {"bad":"line",..} with its `number` and why; a
+ * blank line has no answer. Calls are left then if anything was recorded. 0; 1; 3: calls of the answer before are
+ * left, and nothing has changed; 4: the site is ended. */
 int32_t rbbank_journal_answer(struct rbbank_journal *journal, size_t number, const char *line, size_t length);
 
 /* What rbbank_journal_call returns, beside 0. */

@@ -150,11 +150,12 @@ static int read_whole(struct rbbank_file *file, size_t *length) {
     return sync_folder(file->path);
 }
 
-/* Opens the file, or makes it, above the standard streams' descriptors, and locks it. */
-static int32_t open_locked(struct rbbank_file *file, const char *path) {
-    int descriptor = open(path, O_RDWR | O_CREAT | O_CLOEXEC, 0666);
+/* Opens the file, or makes it if it is a new one, above the standard streams' descriptors, and locks it. */
+static int32_t open_locked(struct rbbank_file *file, const char *path, int is_new) {
+    struct stat all;
+    int descriptor = open(path, O_RDWR | O_CLOEXEC | (is_new ? O_CREAT : 0), 0666);
     if (descriptor < 0)
-        return RBBANK_FILE_FAILED;
+        return errno == ENOENT && !is_new ? RBBANK_FILE_NO_JOURNAL : RBBANK_FILE_FAILED;
     file->descriptor = descriptor > 2 ? descriptor : fcntl(descriptor, F_DUPFD_CLOEXEC, 3);
     if (descriptor <= 2)
         close(descriptor);
@@ -162,17 +163,21 @@ static int32_t open_locked(struct rbbank_file *file, const char *path) {
         return RBBANK_FILE_FAILED;
     if (flock(file->descriptor, LOCK_EX | LOCK_NB) != 0)
         return errno == EWOULDBLOCK ? RBBANK_FILE_IN_USE : RBBANK_FILE_FAILED;
+    if (fstat(file->descriptor, &all) != 0)
+        return RBBANK_FILE_FAILED;
+    if (is_new && all.st_size != 0)
+        return RBBANK_FILE_JOURNAL_THERE;
     /* A name that is a link would have its file's name synced nowhere. */
     file->path = realpath(path, NULL);
     return file->path == NULL ? RBBANK_FILE_FAILED : RBBANK_OK;
 }
 
-int32_t rbbank_file_open(struct rbbank_file *file, const char *path, uint8_t me, size_t resend, const char *config,
-                         size_t length, uint64_t *number) {
+int32_t rbbank_file_open(struct rbbank_file *file, const char *path, uint8_t me, size_t resend, int is_new,
+                         const char *config, size_t length, uint64_t *number) {
     size_t read;
     *number = 0;
     rbbank_file_close(file);
-    int32_t status = open_locked(file, path);
+    int32_t status = open_locked(file, path, is_new);
     if (status == RBBANK_OK && read_whole(file, &read) != 0)
         status = RBBANK_FILE_FAILED;
     if (status == RBBANK_OK)

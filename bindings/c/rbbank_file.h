@@ -24,15 +24,19 @@ struct rbbank_file {
 
 /* What rbbank_file_open and rbbank_file_answer return, beside the statuses of rbbank_journal_open and _answer. */
 enum {
-    RBBANK_FILE_FAILED = 10, /* a call on the file failed, and `errno` says why: open the file again */
-    RBBANK_FILE_IN_USE = 11  /* another process has the journal, or this one has it open already */
+    RBBANK_FILE_FAILED = 10,       /* a call on the file failed, and `errno` says why: open the file again */
+    RBBANK_FILE_IN_USE = 11,       /* another process has the journal, or this one has it open already */
+    RBBANK_FILE_NO_JOURNAL = 12,   /* it isn't there, and no new one was asked for */
+    RBBANK_FILE_JOURNAL_THERE = 13 /* a new one was asked for, and it is there with bytes in it */
 };
 
-/* Opens site `me` of the configuration's line over the journal at `path`, or begins a new one there, and locks it
- * against other processes. The reply is then what the last `resend` entries sent, a line for each that sent any.
- * `*number` is as rbbank_journal_open has it. After another status than 0 nothing is open. */
-int32_t rbbank_file_open(struct rbbank_file *file, const char *path, uint8_t me, size_t resend, const char *config,
-                         size_t length, uint64_t *number);
+/* Opens site `me` of the configuration's line over the journal at `path`, and locks it against other processes. With
+ * `is_new` it begins a new journal, and only then makes the file: a mistyped name, or a disk that isn't mounted, is
+ * never a new site, which would make other operations under names that are taken. The reply is then what the last
+ * `resend` entries sent, a line for each that sent any. `*number` is as rbbank_journal_open has it. After another
+ * status than 0 nothing is open. */
+int32_t rbbank_file_open(struct rbbank_file *file, const char *path, uint8_t me, size_t resend, int is_new,
+                         const char *config, size_t length, uint64_t *number);
 
 /* Answers a line, as rbbank_journal_answer does, and makes the calls on the file: 0, and the reply may be seen; 1, 4 or
  * RBBANK_FILE_FAILED, after which the file is closed. */

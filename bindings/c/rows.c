@@ -276,6 +276,8 @@ static void say_unopened(int32_t status, size_t line, uint64_t number) {
     case RBBANK_DAMAGED: stop("journal line", (size_t)number, ": damaged"); break;
     case RBBANK_SEALED: stop("journal is sealed", 0, ""); break;
     case RBBANK_FILE_IN_USE: stop("journal is in use", 0, ""); break;
+    case RBBANK_FILE_NO_JOURNAL: stop("no journal", 0, ""); break;
+    case RBBANK_FILE_JOURNAL_THERE: stop("there is a journal", 0, ""); break;
     default: break;
     }
 }
@@ -293,8 +295,7 @@ static int journal(struct text all, unsigned me, const char *path, int is_new, l
     struct rbbank_file file = {0};
     uint64_t wrong;
     first_line(all, &line);
-    free(stored(path, is_new).bytes);
-    int32_t status = rbbank_file_open(&file, path, (uint8_t)me, resend < 0 ? SIZE_MAX : (size_t)resend,
+    int32_t status = rbbank_file_open(&file, path, (uint8_t)me, resend < 0 ? SIZE_MAX : (size_t)resend, is_new,
                                       line.text.bytes, line.text.length, &wrong);
     if (status != RBBANK_OK)
         say_unopened(status, line.number, wrong);

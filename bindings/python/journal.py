@@ -1,5 +1,6 @@
-"""A site whose journal is in a file, as a filter: journal.py SITE JOURNAL < EVENTS. It goes on from the journal, or
-begins a new one, and answers each line of its input by a line. Kill it at any moment and start it again."""
+"""A site whose journal is in a file, as a filter: journal.py SITE JOURNAL [--new] < EVENTS. It begins a new journal
+with --new, else it goes on from the one that is there, and answers each line of its input by a line. Kill it at any
+moment and start it again, without --new."""
 import sys
 
 import rbbank
@@ -8,10 +9,11 @@ CONFIG = '{"accounts":[["ann",0],["bob",1000]],"sites":2,"version":1}'
 
 
 def main() -> int:
-    if len(sys.argv) != 3:
+    me, path, *more = sys.argv[1:] if len(sys.argv) > 2 else ("", "", "usage")
+    if more not in ([], ["--new"]):
         print(__doc__, file=sys.stderr)
         return 2
-    with rbbank.Journal(sys.argv[2], int(sys.argv[1]), CONFIG) as site:
+    with rbbank.Journal(path, int(me), CONFIG, new=bool(more)) as site:
         for line in sys.stdin.buffer:
             reply = site.answer(line.removesuffix(b"\n"))
             if reply:

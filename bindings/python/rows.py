@@ -163,7 +163,7 @@ def opened(given, number, config):
     """A site whose journal the library keeps, by the configuration on the line of this number."""
     try:
         resend = sys.maxsize if given.resend is None else given.resend
-        return rbbank.Journal(given.journal, given.me, config, resend)
+        return rbbank.Journal(given.journal, given.me, config, resend, given.new)
     except rbbank.NoSuchSite:
         raise Stop("no such site") from None
     except rbbank.BadLine:
@@ -177,7 +177,6 @@ def opened(given, number, config):
 def journal(given, data):
     """A site whose journal the library keeps. It counts its lines itself, so that the blank ones are given as well."""
     number, config = first(lines_of(data))
-    stored(given)
     with opened(given, number, config) as at:
         lines = data.split(b"\n")
         answers = (at.answer(line) for line in lines[:number - 1] + lines[number:])

@@ -208,12 +208,12 @@ class Journals(unittest.TestCase):
             file.write(data)
 
     def test_goes_on(self):
-        with rbbank.Journal(self.path, 0, CONFIG) as site:
+        with rbbank.Journal(self.path, 0, CONFIG, new=True) as site:
             self.assertEqual(site.reply(), "")
             self.assertTrue(site.answer(EVENT).startswith('{"reply":{"kind":"deposit","name":"B0.1"},'))
             self.assertEqual(len(site.sends()), 1)
             self.assertEqual(site.answer(" "), "")
-            self.assertEqual(site.answer("{}"), '{"bad":"line","line":4}')
+            self.assertTrue(site.answer("{}").startswith('{"bad":"line","line":4,"why":"column 2: '))
             self.assertRaises(BlockingIOError, rbbank.Journal, self.path, 0, CONFIG)
         self.assertRaises(rbbank.Closed, site.answer, EVENT)
         before = self.stored()
@@ -224,7 +224,8 @@ class Journals(unittest.TestCase):
             self.assertEqual(site.answer('{"balance":"ann"}'), '{"reply":{"balance":500},"sends":[],"then":[]}')
 
     def test_a_process_that_is_killed(self):
-        code = "import rbbank, os, sys; site = rbbank.Journal(sys.argv[1], 0, sys.argv[2]); " \
+        code = "import rbbank, os, sys; new = not os.path.exists(sys.argv[1]); " \
+               "site = rbbank.Journal(sys.argv[1], 0, sys.argv[2], new=new); " \
                "site.answer(sys.argv[3]); os.kill(os.getpid(), 9)"
         for _ in range(3):
             subprocess.run([sys.executable, "-c", code, self.path, CONFIG, EVENT], check=False)
@@ -246,11 +247,31 @@ class Journals(unittest.TestCase):
             self.assertEqual(self.stored(), data)
         self.store(b"")
         self.assertRaises(rbbank.BadLine, rbbank.Journal, self.path, 0, "{}")
+        self.assertRaises(rbbank.BadLine, rbbank.Journal, self.path, 0, "{}", new=True)
         self.assertRaises(rbbank.NoSuchSite, rbbank.Journal, self.path, 2, CONFIG)
         self.assertRaises(rbbank.NoSuchSite, rbbank.Journal, self.path, 256, CONFIG)
 
+    def fault(self, **more):
+        with self.assertRaises(rbbank.JournalFault) as fault:
+            rbbank.Journal(self.path, 0, CONFIG, **more)
+        self.assertIsNone(fault.exception.line)
+        return fault.exception.reason
+
+    def test_a_new_one_is_asked_for(self):
+        self.assertEqual((self.fault(), self.fault(resend=1)), ("no journal", "no journal"))
+        self.assertFalse(os.path.exists(self.path))
+        self.store(b"")
+        for new in (True, False):
+            with rbbank.Journal(self.path, 0, CONFIG, new=new):
+                before = self.stored()
+        self.assertEqual(self.fault(new=True), "there is a journal")
+        self.store(b" ")
+        self.assertEqual(self.fault(new=True), "there is a journal")
+        with rbbank.Journal(self.path, 0, CONFIG):
+            self.assertEqual(self.stored(), before)
+
     def test_a_name_that_is_gone(self):
-        with rbbank.Journal(self.path, 0, CONFIG) as site:
+        with rbbank.Journal(self.path, 0, CONFIG, new=True) as site:
             os.remove(self.path)
             self.assertRaises(OSError, site.answer, EVENT)
             self.assertRaises(rbbank.Closed, site.answer, EVENT)

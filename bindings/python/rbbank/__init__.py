@@ -75,8 +75,9 @@ class WrongReply(ValueError):
 class JournalFault(ValueError):
     """The file is no journal that this site goes on from. It is left as it was.
 
-    `reason` is "another bank's journal", "bad line", "wrong reply", "damaged" or "sealed"; with the middle three `line`
-    is the number of the line in the file, from 1, else None.
+    `reason` is "another bank's journal", "bad line", "wrong reply", "damaged", "sealed", "no journal" if it isn't there
+    and no new one was asked for, or "there is a journal" if a new one was, and it is there with bytes in it. With "bad
+    line", "wrong reply" and "damaged" `line` is the number of the line in the file, from 1, else None.
     """
 
     def __init__(self, reason: str, line: int | None = None) -> None:
@@ -409,11 +410,18 @@ def _sync_folder(path: str) -> None:
 class _File:
     """A journal's file, locked against other processes."""
 
-    def __init__(self, path: str) -> None:
+    def __init__(self, path: str, new: bool) -> None:
         import fcntl
-        self.descriptor = os.open(path, os.O_RDWR | os.O_CREAT | os.O_CLOEXEC, 0o666)
+        try:
+            self.descriptor = os.open(path, os.O_RDWR | os.O_CLOEXEC | (os.O_CREAT if new else 0), 0o666)
+        except FileNotFoundError:
+            if new:
+                raise
+            raise JournalFault("no journal") from None
         try:
             fcntl.flock(self.descriptor, fcntl.LOCK_EX | fcntl.LOCK_NB)
+            if new and os.fstat(self.descriptor).st_size:
+                raise JournalFault("there is a journal")
             self.path = os.path.realpath(path)
         except BaseException:
             self.close()
@@ -471,15 +479,17 @@ class Journal(_Sending):
     reply can be seen. The file is the one that `rbbank site` has, and either goes on from it. It is for a Unix system.
 
     A line is answered as `rbbank site` does: an event, a question, or, if it is neither, by `{"bad":..}` with its
-    number, where the configuration's line is the first. A blank line is answered by nothing.
+    number, where the configuration's line is the first, and why. A blank line is answered by nothing.
     """
 
     _prefix = "rbbank_journal_"
     _faults = {5: "another bank's journal", 6: "bad line", 7: "wrong reply", 8: "damaged", 9: "sealed"}
 
-    def __init__(self, path: str | os.PathLike[str], me: int, configuration: Line, resend: int = 0) -> None:
-        """Opens the journal at this path, or begins a new one there. The reply is then what the last `resend` entries
-        sent, a line for each that sent any.
+    def __init__(self, path: str | os.PathLike[str], me: int, configuration: Line, resend: int = 0,
+                 new: bool = False) -> None:
+        """Opens the journal at this path, or with `new` begins a new one there. Only then the file is made: a mistyped
+        name, or a disk that isn't mounted, is never a new site, which would make other operations under names that are
+        taken. The reply is then what the last `resend` entries sent, a line for each that sent any.
 
         Raises BadLine if the configuration's line is none; NoSuchSite; JournalFault; BlockingIOError if another process
         has the journal, or this one; OSError if the file fails; MemoryError.
@@ -488,7 +498,7 @@ class Journal(_Sending):
             raise NoSuchSite
         super().__init__()
         self._number = 1
-        self._file = _File(os.fspath(path))
+        self._file = _File(os.fspath(path), new)
         try:
             self._open(me, _bytes(configuration), resend)
         except BaseException:

@@ -1,5 +1,6 @@
-//! A site whose journal is in a file, as a filter: `journal SITE JOURNAL < EVENTS`. It goes on from the journal, or
-//! begins a new one, and answers each line of its input by a line. Kill it at any moment and start it again.
+//! A site whose journal is in a file, as a filter: `journal SITE JOURNAL [--new] < EVENTS`. It begins a new journal with
+//! `--new`, else it goes on from the one that is there, and answers each line of its input by a line. Kill it at any
+//! moment and start it again, without `--new`.
 use rbbank::Journal;
 use std::error::Error;
 use std::io::{self, BufRead, Write};
@@ -8,10 +9,12 @@ const CONFIG: &str = r#"{"accounts":[["ann",0],["bob",1000]],"sites":2,"version"
 
 fn main() -> Result<(), Box<dyn Error>> {
     let words: Vec<String> = std::env::args().skip(1).collect();
-    let [me, path] = words.as_slice() else {
-        return Err("usage: journal SITE JOURNAL < EVENTS".into());
+    let (me, path, new) = match words.as_slice() {
+        [me, path] => (me, path, false),
+        [me, path, word] if word == "--new" => (me, path, true),
+        _ => return Err("usage: journal SITE JOURNAL [--new] < EVENTS".into()),
     };
-    let mut site = Journal::open(path, me.parse()?, CONFIG, 0)?;
+    let mut site = Journal::open(path, me.parse()?, CONFIG, 0, new)?;
     for line in io::stdin().lock().lines() {
         let reply = site.answer(&line?)?;
         if !reply.is_empty() {

@@ -194,9 +194,8 @@ fn journal(asked: &Asked, input: &str) -> Result<(), Stop> {
     let Some((number, config)) = lines_of(input).next() else {
         return stop("no configuration");
     };
-    asked.stored()?;
     let resend = asked.resend.unwrap_or(usize::MAX);
-    let mut site = match Journal::open(asked.path, asked.me, config, resend) {
+    let mut site = match Journal::open(asked.path, asked.me, config, resend, asked.is_new) {
         Ok(site) => site,
         Err(JournalError::BadConfiguration) => return stop(format!("line {number}")),
         Err(why) => return stop(why.to_string()),

@@ -66,6 +66,10 @@ pub enum JournalError {
     },
     /// The journal is sealed.
     Sealed,
+    /// The journal isn't there, and no new one was asked for.
+    NoJournal,
+    /// A new journal was asked for, and it is there with bytes in it.
+    JournalThere,
     /// Another process has the journal, or this one has it open already.
     InUse,
     /// A call on the file failed. An open site has ended: it is opened again.
@@ -122,6 +126,8 @@ impl fmt::Display for JournalError {
             JournalError::WrongReply { line } => write!(f, "journal line {line}: wrong reply"),
             JournalError::Damaged { line } => write!(f, "journal line {line}: damaged"),
             JournalError::Sealed => f.write_str("journal is sealed"),
+            JournalError::NoJournal => f.write_str("no journal"),
+            JournalError::JournalThere => f.write_str("there is a journal"),
             JournalError::InUse => f.write_str("journal is in use"),
             JournalError::File(why) => write!(f, "journal failed: {why}"),
             JournalError::OutOfMemory => f.write_str("out of memory"),

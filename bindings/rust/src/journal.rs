@@ -25,10 +25,10 @@ extern "C" {
 ///
 /// let path = std::env::temp_dir().join(format!("rbbank-doc-{}", std::process::id()));
 /// let configuration = r#"{"accounts":[["ann",0]],"sites":2,"version":1}"#;
-/// let mut site = Journal::open(&path, 0, configuration, 0)?;
+/// let mut site = Journal::open(&path, 0, configuration, 0, true)?;
 /// assert!(site.answer(r#"{"deposit":["ann",500]}"#)?.starts_with(r#"{"reply":{"kind":"deposit","name":"B0.1"}"#));
 /// drop(site); // or a crash
-/// let mut site = Journal::open(&path, 0, configuration, 0)?;
+/// let mut site = Journal::open(&path, 0, configuration, 0, false)?;
 /// assert_eq!(site.answer(r#"{"balance":"ann"}"#)?, r#"{"reply":{"balance":500},"sends":[],"then":[]}"#);
 /// # std::fs::remove_file(path)?;
 /// # Ok::<(), Box<dyn std::error::Error>>(())
@@ -53,22 +53,31 @@ impl fmt::Debug for Journal {
     }
 }
 
-/// A file that is opened, or made, and locked against other processes.
-fn open_locked(path: &Path) -> Result<File, JournalError> {
-    let file = OpenOptions::new()
+/// A file that is opened, or made if it is a new one, and locked against other processes.
+fn open_locked(path: &Path, new: bool) -> Result<File, JournalError> {
+    let opened = OpenOptions::new()
         .read(true)
         .write(true)
-        .create(true)
+        .create(new)
         .truncate(false)
-        .open(path)?;
+        .open(path);
+    let file = match opened {
+        Err(why) if why.kind() == io::ErrorKind::NotFound && !new => {
+            return Err(JournalError::NoJournal)
+        }
+        other => other?,
+    };
     // SAFETY: the descriptor is open for the time of the call.
-    if unsafe { flock(file.as_raw_fd(), LOCK_EX_NB) } == 0 {
-        return Ok(file);
+    if unsafe { flock(file.as_raw_fd(), LOCK_EX_NB) } != 0 {
+        return match io::Error::last_os_error() {
+            why if why.kind() == io::ErrorKind::WouldBlock => Err(JournalError::InUse),
+            why => Err(JournalError::File(why)),
+        };
     }
-    match io::Error::last_os_error() {
-        why if why.kind() == io::ErrorKind::WouldBlock => Err(JournalError::InUse),
-        why => Err(JournalError::File(why)),
+    if new && file.metadata()?.len() > 0 {
+        return Err(JournalError::JournalThere);
     }
+    Ok(file)
 }
 
 /// Waits until the names in a file's folder are on the disk.
@@ -90,8 +99,10 @@ fn read_whole(file: &mut File, path: &Path) -> io::Result<Vec<u8>> {
 }
 
 impl Journal {
-    /// Site `me`, 0 to 15, of a configuration's line, over the journal at this path, or a new one there. The reply is
-    /// then what the last `resend` entries sent, a line for each that sent any.
+    /// Site `me`, 0 to 15, of a configuration's line, over the journal at this path, which with `new` is a new one. Only
+    /// then the file is made: a mistyped name, or a disk that isn't mounted, is never a new site, which would make other
+    /// operations under names that are taken. The reply is then what the last `resend` entries sent, a line for each
+    /// that sent any.
     ///
     /// # Errors
     ///
@@ -101,8 +112,9 @@ impl Journal {
         me: u8,
         configuration: &str,
         resend: usize,
+        new: bool,
     ) -> Result<Journal, JournalError> {
-        let mut file = open_locked(path.as_ref())?;
+        let mut file = open_locked(path.as_ref(), new)?;
         let path = fs::canonicalize(path)?;
         let read = read_whole(&mut file, &path)?;
         let mut journal = Journal {
@@ -133,8 +145,8 @@ impl Journal {
     }
 
     /// Answers a line as `rbbank site` does: an event, a question, or, if it is neither, by `{"bad":..}` with its
-    /// number, where the configuration's line is the first. A blank line is answered by nothing. At `Ok` all that was
-    /// recorded is on the disk.
+    /// number, where the configuration's line is the first, and why. A blank line is answered by nothing. At `Ok` all
+    /// that was recorded is on the disk.
     ///
     /// # Errors
     ///

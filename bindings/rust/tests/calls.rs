@@ -352,7 +352,7 @@ fn new_path(name: &str) -> PathBuf {
 #[test]
 fn a_journal_goes_on() {
     let path = new_path("goes-on");
-    let mut site = Journal::open(&path, 0, CONFIG, 0).unwrap();
+    let mut site = Journal::open(&path, 0, CONFIG, 0, true).unwrap();
     assert_eq!(site.reply(), "");
     assert!(site
         .answer(r#"{"deposit":["ann",500]}"#)
@@ -360,9 +360,12 @@ fn a_journal_goes_on() {
         .starts_with(r#"{"reply":{"kind":"deposit","name":"B0.1"},"#));
     assert_eq!(site.sends().unwrap().len(), 1);
     assert_eq!(site.answer(" ").unwrap(), "");
-    assert_eq!(site.answer("{}").unwrap(), r#"{"bad":"line","line":4}"#);
+    assert!(site
+        .answer("{}")
+        .unwrap()
+        .starts_with(r#"{"bad":"line","line":4,"why":"column 2: "#));
     assert!(matches!(
-        Journal::open(&path, 0, CONFIG, 0),
+        Journal::open(&path, 0, CONFIG, 0, false),
         Err(JournalError::InUse)
     ));
     drop(site);
@@ -373,7 +376,7 @@ fn a_journal_goes_on() {
         [&before[..before.len() - 1], b"{\"event\":"].concat(),
     )
     .unwrap();
-    let mut site = Journal::open(&path, 0, CONFIG, 1).unwrap();
+    let mut site = Journal::open(&path, 0, CONFIG, 1, false).unwrap();
     assert_eq!(fs::read(&path).unwrap(), before);
     assert_eq!(
         fs::read(path.with_extension("cut")).unwrap(),
@@ -392,7 +395,7 @@ fn journals_that_are_not_opened() {
     let path = new_path("not-opened");
     let fault = |bytes: &[u8], me: u8, config: &str| {
         fs::write(&path, bytes).unwrap();
-        let fault = Journal::open(&path, me, config, 0).unwrap_err();
+        let fault = Journal::open(&path, me, config, 0, false).unwrap_err();
         assert_eq!(fs::read(&path).unwrap(), bytes);
         fault.to_string()
     };
@@ -421,9 +424,30 @@ fn journals_that_are_not_opened() {
 }
 
 #[test]
+fn a_new_journal_is_asked_for() {
+    let path = new_path("asked-for");
+    let open = |new| Journal::open(&path, 0, CONFIG, 0, new);
+    assert_eq!(open(false).unwrap_err().to_string(), "no journal");
+    assert!(!path.exists());
+    drop(open(true).unwrap());
+    let before = fs::read(&path).unwrap();
+    for there in [&before[..], b" "] {
+        fs::write(&path, there).unwrap();
+        assert_eq!(open(true).unwrap_err().to_string(), "there is a journal");
+        assert_eq!(fs::read(&path).unwrap(), there);
+    }
+    for new in [false, true] {
+        fs::write(&path, b"").unwrap();
+        drop(open(new).unwrap());
+        assert_eq!(fs::read(&path).unwrap(), before);
+    }
+    fs::remove_dir_all(path.parent().unwrap()).unwrap();
+}
+
+#[test]
 fn a_journal_whose_name_is_gone_ends() {
     let path = new_path("gone");
-    let mut site = Journal::open(&path, 0, CONFIG, 0).unwrap();
+    let mut site = Journal::open(&path, 0, CONFIG, 0, true).unwrap();
     fs::remove_file(&path).unwrap();
     let event = r#"{"deposit":["ann",500]}"#;
     assert!(matches!(site.answer(event), Err(JournalError::File(_))));
