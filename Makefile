@@ -14,8 +14,9 @@ help:
 	@echo '  make play          a page in the browser on which a bank is played with, after make build;'
 	@echo '                     OPEN=stale_token begins with this run of examples/'
 	@echo '  make install PREFIX=/usr/local'
-	@echo '                     copies the program, the manual pages rbbank(1) and rbbank(5), completions for three'
-	@echo '                     shells, and the tools rbbank-draw, rbbank-explain and rbbank-wire, after make build'
+	@echo '                     copies the program, the manual pages rbbank(1), rbbank(5), rbbank-running(7) and'
+	@echo '                     rbbank-periods(7), completions for three shells, and the tools rbbank-draw,'
+	@echo '                     rbbank-explain, rbbank-wire, rbbank-close and rbbank-rebuild, after make build'
 	@echo '  make install-libs PREFIX=/usr/local'
 	@echo '                     copies the library for C with its headers and a file for pkg-config, after make bindings'
 	@echo '  make examples      every example, and every case of tests/cases, through the program, after make build'
@@ -75,19 +76,19 @@ play-test:
 	@if command -v eslint > /dev/null; then eslint play/page/*.js; \
 		else echo 'no eslint on PATH (Debian: apt-get install eslint): its rules were not checked'; fi
 
-# Below PREFIX: the program; the manual page and completions that are made from its help, and the page of the format;
-# and three tools, with what they import.
+# Below PREFIX: the program; the manual page and completions that are made from its help, and those that are made from
+# pages of docs/; and the tools, with what they import.
 PREFIX ?= /usr/local
 PROGRAM ?= crates/rbbank/out/rbbank
 UNDER = $(DESTDIR)$(PREFIX)
-TOOLS = draw explain wire
-MODULES = bad_lines bank json_at picture saying world
+TOOLS = draw explain wire close rebuild
+MODULES = bad_lines bank journals json_at picture saying world
 install:
 	@test -x "$(PROGRAM)" || { echo 'there is no program yet: make build'; exit 1; }
 	@install -D -m 755 "$(PROGRAM)" "$(UNDER)/bin/rbbank"
 	@examples/tools/from_help.py "$(UNDER)/bin/rbbank" "$(UNDER)"
-	@install -d "$(UNDER)/share/man/man5" "$(UNDER)/share/rbbank"
-	@examples/tools/from_format.py docs/FORMAT.md rbbank > "$(UNDER)/share/man/man5/rbbank.5"
+	@examples/tools/from_format.py "$(UNDER)"
+	@install -d "$(UNDER)/share/rbbank"
 	@install -m 644 docs/FORMAT.md $(MODULES:%=examples/tools/%.py) "$(UNDER)/share/rbbank"
 	@install -m 755 $(TOOLS:%=examples/tools/%.py) "$(UNDER)/share/rbbank"
 	@for tool in $(TOOLS); do ln -sf "../share/rbbank/$$tool.py" "$(UNDER)/bin/rbbank-$$tool" || exit 1; done
@@ -127,7 +128,8 @@ bindings:
 	@bindings/build.py
 	@bindings/check.py crates/rbbank/out/rbbank
 
-# The gate. The last line is 'N passed, 0 failed', or an example or a case that is answered otherwise. It wants cc.
+# The gate. The last line is 'N passed, 0 failed', or an example or a case that is answered otherwise. It wants cc and
+# strace.
 test: toolchain
 	examples/tools/from_rows.py --check
 	tests/closure.py --check
@@ -156,6 +158,8 @@ gate-cases:
 	@tests/install.py --quiet crates/rbbank/out/rbbank
 	@play/check.py --quiet crates/rbbank/out/rbbank
 	@tests/crash.py --quiet crates/rbbank/out/rbbank --kills 20 --seed 1
+	@tests/disk.py --gate --quiet crates/rbbank/out/rbbank
+	@tests/wires.py --gate --quiet crates/rbbank/out/rbbank
 
 # Whether README.md names this machine's toolchain, as one that every crate was proved with.
 toolchain:

@@ -1,13 +1,14 @@
 #!/usr/bin/env python3
 """Runs a site on a real file, and has each of its calls of the system fail, be cut short or be its last, in turn.
 
-usage: disk.py [--quiet] PROGRAM      (--quiet prints only what failed; it wants a C compiler, cc)
+usage: disk.py [--quiet] [--gate] PROGRAM      (--quiet prints only what failed; it wants a C compiler, cc)
 
 A small library (fault_nth.c) is loaded before the C library. It counts each open, lock, read, write, sync and cut of
 the journal and of its folder, and each read of the input and write of the output, and writes all of them down. Some
 scripts are run: a new journal, a start, torn ends, messages that are held and applied, large batches. Then each of
 their calls, in turn: is refused (EIO, ENOSPC), is done in part or whole and refused, is cut short, refuses all after it
-(a full disk), or is the last one before SIGKILL. In each of these cases
+(a full disk), or is the last one before SIGKILL. --gate takes one case of each sort of call and fault of a script. In
+each case
 
   status and text     are those of docs/FORMAT.md; after a call that was only cut short all is as without a fault
   what was reported   is a prefix of what is reported without a fault. Whenever a byte of it went out, the entries that
@@ -24,9 +25,9 @@ their calls, in turn: is refused (EIO, ENOSPC), is done in part or whole and ref
 By these the test tells the program from four that differ from it in disk.rt or named_file.rt of crates/rb_journal/src,
 whose calls no clause can see. Each was built by `rt try` from a copy, and failed here (not run by the gate):
 
-  short write taken as whole       `self.file.write_at(bytes, at as u64).is_ok()` in `write_at`
+  short write taken as whole       `self.file.write_at(bytes, at as u64).map(|_| ())` in `write_there`
   failed read is a short journal   `let _ = file.read_to_end(&mut bytes);` in `read_locked`
-  disk never syncs                 `sync` is always true, `cut` doesn't sync, `open_disk` neither
+  disk never syncs                 `sync` is always true, `cut` doesn't sync, `make_durable` neither
   no lock                          `read_locked` without `file.try_lock()?`
 
 The program from before a start wrote again what it read failed too.
@@ -52,7 +53,7 @@ from site_process import compact, is_journal_failed, read, whole_lines, without_
 
 HERE = os.path.dirname(os.path.abspath(__file__))
 PATIENCE = 60  # seconds for one answer
-LEAST = 1000  # cases
+LEAST, LEAST_OF_GATE = 1000, 200  # cases
 ALL = 1 << 30  # bytes of a call, that is all of them
 TORN = 2  # how many of the files that a loss of power may leave are tried for a case
 SYNCS = ("fsync", "fdatasync")
@@ -425,7 +426,16 @@ def used_twice(program):
         return fine and same and line and rest.startswith(b'{"reply":{"balance":600}')
 
 
-def results(program):
+def share_of(cases, pick):
+    """One of the cases of each sort of call and fault."""
+    sorts = {}
+    for case in cases:
+        _, call, fault = case
+        sorts.setdefault((call.kind, call.name, fault.what), []).append(case)
+    return [pick.choice(alike) for alike in sorts.values()]
+
+
+def results(program, is_of_gate):
     """Each case, with what is wrong with it (None: nothing)."""
     yield "a second process", None if used_twice(program) else "it isn't refused"
     with concurrent.futures.ThreadPoolExecutor(os.cpu_count()) as pool:
@@ -438,20 +448,22 @@ def results(program):
                 except (Failed, OSError, ValueError, IndexError, subprocess.TimeoutExpired) as why:
                     return name, f"{why}"
                 return name, None
-            yield from pool.map(tried, script.cases())
+            cases = script.cases()
+            yield from pool.map(tried, share_of(cases, random.Random(script.name)) if is_of_gate else cases)
 
 
 def main():
     reader = argparse.ArgumentParser(description=__doc__, formatter_class=argparse.RawDescriptionHelpFormatter)
     reader.add_argument("program", metavar="PROGRAM", help="a built rbbank")
     reader.add_argument("--quiet", action="store_true", help="print only what failed")
+    reader.add_argument("--gate", action="store_true", help="take a share of the cases")
     asked = reader.parse_args()
     if not os.access(asked.program, os.X_OK) or os.path.isdir(asked.program):
         reader.error(f"{asked.program}: no program")
     begun, count, wrong = time.monotonic(), Counter(), 0
     with tempfile.TemporaryDirectory(prefix="disk-") as folder:
         try:
-            for name, why in results(Program(asked.program, folder)):
+            for name, why in results(Program(asked.program, folder), asked.gate):
                 count[name.split(":")[0]] += 1
                 wrong += why is not None
                 if why is not None:
@@ -461,7 +473,7 @@ def main():
     if not asked.quiet:
         print("\n".join(f"{cases:5} cases: {name}" for name, cases in count.items()))
         print(f"{sum(count.values()):,} cases, {wrong} different; {time.monotonic() - begun:.0f} s")
-    return 0 if wrong == 0 and sum(count.values()) >= LEAST else 1
+    return 0 if wrong == 0 and sum(count.values()) >= (LEAST_OF_GATE if asked.gate else LEAST) else 1
 
 
 if __name__ == "__main__":

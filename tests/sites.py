@@ -5,11 +5,13 @@ usage: sites.py [--quiet] PROGRAM      (--quiet prints only what is different)
 
 Which of the operations that are ready at once is applied first; a journal cut at each byte, and with any bytes behind
 its space; a restart after each line; lines one at a time and all at once; many large answers in little memory; a new
-journal where one is there, and none where it has to be; another bank's journal; a damaged one; a folder, a device and a
-full disk as journal; a second process; output that can't be written; lines that are no events, or too long; ids in
-each order, and what is none; options in each order, and wrong words; a sealed journal; where strace is there, the order
-of writes and syncs; the pipes that docs/RUNNING.md shows.
+journal where one is there, and none where it has to be; another bank's journal; a damaged one; a folder, a device and
+a full disk as journal; a file that is refused, or can't be written; one that is a standard stream, or whose name is too
+long; one that is cut while a site runs; a second process; input and output that aren't ready; output that can't be
+written; lines that are no events, or too long; ids in each order, and what is none; options in each order, and wrong
+words; a sealed journal; by strace, the order of writes and syncs; the pipes that docs/RUNNING.md shows.
 """
+import ctypes
 import errno
 import itertools
 import json
@@ -25,7 +27,9 @@ import sys
 import tempfile
 import time
 
-from site_process import read, whole_lines
+sys.path.insert(0, os.path.join(os.path.dirname(os.path.dirname(os.path.abspath(__file__))), "examples", "tools"))
+from bank import without_why  # noqa: E402
+from site_process import read, whole_lines  # noqa: E402
 
 ROOT = os.path.dirname(os.path.dirname(os.path.abspath(__file__)))
 EXAMPLES = os.path.join(ROOT, "examples")
@@ -35,6 +39,7 @@ AT_REST = b" "
 LINE_LIMIT = 1_048_576  # bytes of a line without its line feed (docs/FORMAT.md)
 MEMORY = 1 << 30  # bytes that a site may take whose journal is a device without an end
 LITTLE_MEMORY = 64 << 20  # bytes that a site may take with many large answers in one read
+PR_CAPBSET_DROP, CAP_DAC_OVERRIDE = 24, 1  # of <sys/prctl.h> and <linux/capability.h>
 # Each kind of event at site 0 of two: made, refused, received, held, applied and passed.
 EVENTS = b"""{"deposit":["ann",500]}
 {"withdraw":["ann",200]}
@@ -89,9 +94,12 @@ class Sites:
             errors = errors.replace(folder + os.sep, "")
             return at, errors, status, read(journal) if os.path.exists(journal) else None
 
-    def at(self, journal, given, limit=None, signals=True, output=subprocess.PIPE, memory=None, **words):
-        """The same for a journal that is there."""
+    def at(self, journal, given, limit=None, signals=True, output=subprocess.PIPE, memory=None, may_override=True,
+           **words):
+        """The same for a journal that is there. A superuser may be one for whom permissions count."""
         def bounds():
+            if not may_override and os.geteuid() == 0:
+                ctypes.CDLL(None).prctl(PR_CAPBSET_DROP, CAP_DAC_OVERRIDE, 0, 0, 0)
             if memory is not None:
                 resource.setrlimit(resource.RLIMIT_AS, (memory, memory))
             if limit is not None:
@@ -169,6 +177,51 @@ def kept(sites):
         _, errors, status = sites.at(name, BANK, resend=0)
         fine = errors.startswith("rbbank: journal failed") and status == 3
         yield "what can't be kept isn't cut off", fine and read(name) == journal + b"more"
+
+
+def kept_nowhere(sites):
+    """What can be kept in no regular file of its own isn't cut off: the start is refused, and waits for nobody."""
+    journal = stored("site_deposit.site.journal")
+    torn_end = journal + b"more"
+    ways = {
+        "a link to the journal": lambda path: os.symlink(path, path + ".cut"),
+        "the journal by another name": lambda path: os.link(path, path + ".cut"),
+        "a pipe": lambda path: os.mkfifo(path + ".cut"),
+        "a device": lambda path: os.symlink("/dev/null", path + ".cut"),
+    }
+    for what, make in ways.items():
+        with tempfile.TemporaryDirectory() as folder:
+            name = os.path.join(folder, "journal")
+            write(name, torn_end)
+            make(name)
+            ended = sites.at(name, BANK, resend=0)
+            why = f"rbbank: journal failed: {name}: its .cut: it is no regular file of its own\n"
+            yield f"what is cut off would be kept in {what}", ended == (b"", why, 3) and read(name) == torn_end
+    with tempfile.TemporaryDirectory() as folder:
+        name = os.path.join(folder, "journal")
+        write(name, torn_end)
+        with open(name + ".cut", "wb") as out:
+            ended = sites.at(name, BANK, resend=0, output=out)
+        why = f"rbbank: journal failed: {name}: its .cut: it is no regular file of its own\n"
+        fine = ended == (b"", why, 3) and read(name) == torn_end and read(name + ".cut") == b""
+        yield "what is cut off would be kept in the output", fine
+
+
+def longest_name(sites):
+    """The name of a new journal has to be one with .cut behind it too; a journal that has no such name runs as ever."""
+    journal = stored("site_deposit.site.journal")
+    with tempfile.TemporaryDirectory() as folder:
+        longest = os.path.join(folder, "j" * os.pathconf(folder, "PC_NAME_MAX"))
+        why = f"its .cut: {os.strerror(errno.ENAMETOOLONG)} (os error {errno.ENAMETOOLONG})\n"
+        refused = b"", f"rbbank: journal failed: {longest}: {why}", 3
+        yield "a new journal whose name is too long", sites.at(longest, BANK) == refused and os.listdir(folder) == []
+        write(longest, journal)
+        yield "a journal whose name is too long", sites.at(longest, BANK, resend=0) == (b"", "", 0)
+        write(longest, journal + b"more")
+        fine = sites.at(longest, BANK, resend=0) == refused and read(longest) == journal + b"more"
+        yield "... with a torn end", fine
+        os.remove(longest)
+        yield "the longest name of a new journal", sites.at(longest[:-4], BANK) == (b"", "", 0)
 
 
 def restarted(sites, bank, events, resend):
@@ -341,6 +394,45 @@ def damaged_journals(sites, first, one, two):
     yield "a journal with a wrong reply before a blank line", sites.run(BANK, before) == wanted
 
 
+def unchanged(sites):
+    """A start that is refused leaves its file, and the time at which that was written, whatever is in it."""
+    journal = stored("site_deposit.site.journal")
+    first, one, two = whole_lines(journal).splitlines(keepends=True)
+    files = {
+        "another file": (bytes(range(33, 256)) * 10_000, {}, 2),
+        "another configuration's": (journal, {"bank": BANK.replace(b'["ann",0]', b'["ann",1]')}, 2),
+        "another site's": (journal, {"me": 1}, 2),
+        "one of no such site": (journal, {"me": 2}, 2),
+        "one with a bad line": (first + b'{"a":1}\n' + AT_REST, {}, 2),
+        "one with a wrong reply": (first + two + AT_REST, {}, 2),
+        "a damaged one": (first + one + two + b"x", {}, 2),
+        "a sealed one": (journal[:-1] + b"\t", {}, 2),
+        "one for a bad configuration": (journal, {"bank": BALANCE}, 2),
+        "one for no configuration": (journal, {"bank": b""}, 2),
+        "one where a new one is asked for": (journal, {"new": True}, 2),
+    }
+    for what, (before, words, wanted) in files.items():
+        given = words.pop("bank", BANK)
+        for limit in [None, 0]:
+            with tempfile.TemporaryDirectory() as folder:
+                name = os.path.join(folder, "journal")
+                write(name, before)
+                os.utime(name, ns=(10**18, 10**18))
+                out, errors, status = sites.at(name, given, limit, False, **words)
+                fine = (out, status) == (b"", wanted) and errors and read(name) == before
+                fine = fine and os.stat(name).st_mtime_ns == 10**18 and os.listdir(folder) == ["journal"]
+                yield f"unchanged: {what}" + (", and can't be written" if limit == 0 else ""), fine
+    with tempfile.TemporaryDirectory() as folder:
+        name = os.path.join(folder, "journal")
+        for what, before, wanted in [("sealed", journal[:-1] + b"\t", ("rbbank: journal is sealed\n", 2)),
+                                     ("at rest", journal, journal_failed(name, errno.EACCES)[1:])]:
+            write(name, before)
+            os.chmod(name, 0o444)
+            _, *ended = sites.at(name, BANK, resend=0, may_override=False)
+            yield f"a journal that may only be read, {what}", tuple(ended) == wanted and read(name) == before
+            os.chmod(name, 0o644)
+
+
 def asked_for(sites):
     """A journal is new only where a new one is asked for; else it has to be there."""
     journal, out = stored("site_deposit.site.journal"), stored("site_deposit.site.expected")
@@ -374,16 +466,26 @@ def named(sites):
         yield "a closed output", (run.stderr, run.returncode) == (b"rbbank: write failed\n", 3)
         before = read(journal)
         yield "... isn't the journal", whole_lines(before).count(b"\n") == 2 and b'"sends"' not in before
-        with open(journal, "ab") as same:
-            _, errors, status = sites.at(journal, BANK, output=same)
-        fine = errors.startswith("rbbank: journal failed") and status == 3
-        yield "the journal as output", fine and read(journal) == before
+        words = " ".join(map(shlex.quote, sites.words(journal, new=False)))
+        for redirection in ["1<>", "1>>", "0<", "0<>", "2<>", "2>>"]:
+            run = subprocess.run(["sh", "-c", f"{words} {redirection} {shlex.quote(journal)}"], input=BANK,
+                                 capture_output=True)
+            why = f"rbbank: journal failed: {journal}: it is standard input or output\n" if redirection[0] < "2" else ""
+            fine = (run.stdout, run.stderr.decode(), run.returncode) == (b"", why, 3)
+            yield f"the journal as {redirection}", fine and read(journal) == before
+        with open(os.path.join(folder, "said"), "wb") as said:
+            runs = [subprocess.Popen(sites.words(f"{journal}{number}", new=True), stdin=subprocess.PIPE,
+                                     stdout=subprocess.DEVNULL, stderr=said) for number in range(8)]
+            fine = all(run.communicate(BANK) and run.returncode == 0 for run in runs)
+        yield "sites with one standard error", fine and read(said.name) == b""
         target = os.path.join(folder, "far", "target")
         os.mkdir(os.path.dirname(target))
         os.symlink(target, link)
         fine = sites.at(link, BANK) == (b"", "", 0)
         yield "a link as journal", fine and read(target) == before.split(b"\n")[0] + b"\n" + AT_REST
-    for name, change in {"removed": os.remove, "replaced": replaced}.items():
+    ways = {"removed": os.remove, "replaced": replaced, "cut": lambda path: os.truncate(path, 5), "grown": grown,
+            "cut to its first line": lambda path: os.truncate(path, read(path).index(b"\n") + 1)}
+    for name, change in ways.items():
         with tempfile.TemporaryDirectory() as folder:
             journal = os.path.join(folder, "journal")
             run = subprocess.Popen(sites.words(journal), stdin=subprocess.PIPE, stdout=subprocess.PIPE,
@@ -403,8 +505,27 @@ def replaced(path):
     os.replace(path + ".copy", path)
 
 
+def grown(path):
+    """Adds to a file."""
+    with open(path, "ab") as file:
+        file.write(b"more")
+
+
 def not_ready(sites):
-    """An output that isn't ready is waited for, and no answer is lost."""
+    """An input that isn't ready is waited for, and an output, and no answer is lost."""
+    with tempfile.TemporaryDirectory() as folder:
+        here, there = os.pipe()
+        os.set_blocking(here, False)
+        run = subprocess.Popen(sites.words(os.path.join(folder, "journal")), stdin=here, stdout=subprocess.PIPE,
+                               stderr=subprocess.PIPE)
+        os.close(here)
+        with os.fdopen(there, "wb", buffering=0) as writer:
+            for line in [BANK, b'{"deposit":["ann",500]}\n', BALANCE]:
+                time.sleep(0.3)
+                if run.poll() is None:
+                    writer.write(line)
+        ended = *run.communicate(), run.returncode
+        yield "an input that isn't ready", ended == (stored("site_deposit.site.expected"), b"", 0)
     given = BANK + b'{"balance":"ann"}\n' * 3000
     with tempfile.TemporaryDirectory() as folder:
         here, there = os.pipe()
@@ -465,7 +586,7 @@ def failed(sites):
         yield "a folder as journal", sites.at(folder, BANK) == journal_failed(folder, errno.EISDIR)
         nowhere = os.path.join(folder, "no", "journal")
         yield "a journal in no folder", sites.at(nowhere, BANK) == journal_failed(nowhere, errno.ENOENT)
-    full = journal_failed("/dev/full", errno.EINVAL)
+    full = b"", "rbbank: journal failed: /dev/full: it is no regular file\n", 3
     yield "a full device as journal", sites.at("/dev/full", BANK, memory=MEMORY) == full
     journal = stored("site_deposit.site.journal")
     deposits = BANK + b'{"deposit":["ann",1]}\n' * 40
@@ -493,6 +614,38 @@ def unwritten(sites):
         yield "an output without a reader", sites.run(given, output=closed) == wanted
 
 
+# Lines that are no events. What is wrong with the first ones is wrong with a script's command too; with the others only
+# at a site, and this is said.
+WRONG_EVENTS = (b'{"deposit":["ann",-5]}', b'{"deposit":["ann"]}', b'{"withdraw":["ann",1.5]}', b'{"cancel":"B1"}',
+                b'{"interest":["ann",4294967296]}', b'{"batch":[{"deposit":["ann",true]}]}', b'{"pass":"1"}',
+                b'{"balance":"ann","asof":["ann",1]}')
+WRONG_LINES = {
+    b"GET / HTTP/1.1": 'column 1: GET is no value: a text is between " and "',
+    b'{"gift":1}': 'column 2: an event has no key "gift": there are: deposit, ',
+    b'{"deposit":["ann",5],"site":0}': 'column 22: the events of a site have no "site"; ',
+    b'{"deliver":1}': 'column 2: a site takes what another one sent: "shadow" or "token"',
+    b'{"deposit":["ann",5],"bank":"b"}': "column 22: the bank of this site has no name: ",
+    b'{"balance":"ann","id":"a"}': "column 1: an id is of a request or a batch, ",
+    b'{"token":[1,0]}': "column 10: the token is a list of 3, and this has 2",
+    b'{"resend":100000001}': "column 11: 100,000,001 is out of range: ",
+    b'{"about":"me"}': 'column 10: "me" is nothing to ask about: ',
+}
+
+
+def reasons(sites):
+    """The answer to a bad line says where it is wrong, and why: as a script does of the same command."""
+    def why(line):
+        return json.loads(sites.run(BANK + line + b"\n")[0])["why"]
+
+    for event in WRONG_EVENTS:
+        given = BANK + event[:-1] + b',"site":0}\n'
+        said = subprocess.run([sites.program, "script"], input=given, capture_output=True).stderr
+        found = why(event).replace("an event is one", "a command is one")
+        yield f"why: {event.decode()}", found == said.split(b"\n")[1].strip().decode()
+    for line, begins in WRONG_LINES.items():
+        yield f"why: {line.decode()}", why(line).startswith(begins)
+
+
 def no_events(sites):
     """A line that is no event, or too long, is answered by its number, records nothing and stops nothing."""
     journal, out = stored("site_deposit.site.journal"), stored("site_deposit.site.expected")
@@ -512,10 +665,12 @@ def no_events(sites):
     }
     for name, (given, why, number) in cases.items():
         wanted = first + b'{"bad":"%s","line":%d}\n' % (why.encode(), number) + last, "", 0, journal
-        yield f"no event: {name}", sites.run(deposit + given + BALANCE) == wanted
+        answer, *rest = sites.run(deposit + given + BALANCE)
+        yield f"no event: {name}", (without_why(answer), *rest) == wanted
     for name, given, why in [("a bad line", b"{", b"line"), ("a line too long", b"x" * (3 * LINE_LIMIT), b"long")]:
         answer, *ended, _journal = sites.run(deposit + given)
-        yield f"{name}, without its end", (answer, ended) == (first + b'{"bad":"%s","line":3}\n' % why, ["", 0])
+        wanted = first + b'{"bad":"%s","line":3}\n' % why
+        yield f"{name}, without its end", (without_why(answer), ended) == (wanted, ["", 0])
     given = b"".join(b'{"deposit":["ann",1]}\n{}\n' for _ in range(5_000))
     answer, errors, status, after = sites.run(BANK + given)
     numbers = [json.loads(line)["line"] for line in answer.splitlines() if b'"bad"' in line]
@@ -577,7 +732,7 @@ def ids(sites):
     lines = NO_IDS.encode().splitlines(keepends=True)
     out, errors, status, journal = sites.run(BANK + b"".join(lines))
     bad = b"".join(b'{"bad":"line","line":%d}\n' % (2 + n) for n in range(len(lines)))
-    yield "what is no id", (out, errors, status) == (bad, "", 0) and entries(journal) == b""
+    yield "what is no id", (without_why(out), errors, status) == (bad, "", 0) and entries(journal) == b""
 
 
 def options(sites):
@@ -648,7 +803,7 @@ def large_answers(sites):
 
 def calls_of(sites, given, before, record="all"):
     """The calls of a site on its journal and its output, in order, each with what is behind its file: writes, cuts,
-    syncs and output. None where strace can't see them."""
+    syncs and output, as strace sees them."""
     with tempfile.TemporaryDirectory() as folder:
         journal, trace = os.path.join(folder, "journal"), os.path.join(folder, "trace")
         write(journal, before)
@@ -665,18 +820,17 @@ def in_order(sites):
     """A batch is on the disk before its first byte is written, and that byte before anything is reported. No kill can
     show it, since what was written outlives the process; the calls do."""
     if shutil.which("strace") is None:
+        yield "strace is missing (Debian: apt-get install strace)", False
         return
     journal = stored("site_deposit.site.journal")
     for name, before in [("a journal at rest", journal), ("a torn journal", journal[:-20]), ("a new journal", b"")]:
         calls = calls_of(sites, BANK + b'{"deposit":["ann",500]}\n' + BALANCE, before)
-        if calls:
-            yield f"calls on {name}", is_in_order(calls)
+        yield f"calls on {name}", is_in_order(calls)
     none, asked, made = (calls_of(sites, BANK + lines, journal, record=None) for lines in (
         b"", BALANCE * 3, b'{"deposit":["ann",500]}\n' * 2))
-    if none:
-        yield "lines that add nothing wait for no disk", asked[:-1] == none and asked[-1][0] == "write"
-        more = [call for call, _rest in made[len(none):]]
-        yield "a batch waits for the disk twice", made[:len(none)] == none and more.count("fdatasync") == 2
+    yield "lines that add nothing wait for no disk", asked[:-1] == none and asked[-1][0] == "write"
+    more = [call for call, _rest in made[len(none):]]
+    yield "a batch waits for the disk twice", made[:len(none)] == none and more.count("fdatasync") == 2
 
 
 def is_in_order(calls):
@@ -688,7 +842,7 @@ def is_in_order(calls):
             return False
         unsynced = call in ("pwrite64", "ftruncate")
         opened = first_byte if call == "pwrite64" else opened
-    return calls[-1][0] == "write"
+    return calls != [] and calls[-1][0] == "write"
 
 
 def of_the_page(sites):
@@ -710,9 +864,9 @@ def of_the_page(sites):
     yield "the pipes of docs/RUNNING.md", run.stdout.decode() == out
 
 
-PARTS = [same_however_read, ready_at_once, torn, kept, audited, asked_for, refused_journals, named, not_ready, sealed,
-         used_twice, failed, unwritten, no_events, ids, options, words_at_fault, many_sites, large_batch,
-         large_answers, in_order, of_the_page]
+PARTS = [same_however_read, ready_at_once, torn, kept, kept_nowhere, longest_name, audited, asked_for,
+         refused_journals, unchanged, named, not_ready, sealed, used_twice, failed, unwritten, no_events, ids, options,
+         words_at_fault, many_sites, large_batch, large_answers, in_order, of_the_page, reasons]
 
 
 def results(program):

@@ -2,7 +2,7 @@
 """Runs sites over pipes with examples/tools/wire.py, gives all of them deposits at once, stops one for a while, and
 starts each again with all that it sends: nothing freezes, and in the end all have the same balance.
 
-usage: wires.py [--quiet] [--deposits N] [--stop SECONDS] [--wire PATH] [--alone] [--patience SECONDS] PROGRAM
+usage: wires.py [--quiet] [--gate] [--deposits N] [--stop SECONDS] [--wire PATH] [--alone] [--patience SECONDS] PROGRAM
 
 Two sites, and then three, have N deposits each, 20,000 if it isn't given, which come all at once. The last site is
 stopped by SIGSTOP for a time, 2 seconds if it isn't given, and the others have to answer all of their deposits
@@ -13,7 +13,7 @@ their sender starts again it sends them all again. At the end an audit orders th
 Before that, wire.py alone: a command that ends over and over, of its own accord or by SIGKILL; a reader of the replies
 and a command that take nothing for a while; messages that are dropped, and asked for again; whose each reply is.
 --wire names another wire.py to be tried, and --patience the seconds after which something counts as frozen, 60.
-tests/wire_mutants.py tries wrong ones.
+tests/wire_mutants.py tries wrong ones. --gate takes 1,000 deposits and half a second, and only two sites.
 """
 import argparse
 import json
@@ -439,7 +439,10 @@ def options():
     reader.add_argument("--alone", action="store_true", help="try wire.py alone, without sites")
     reader.add_argument("--patience", metavar="SECONDS", type=float, default=60, help="with what is frozen, 60")
     reader.add_argument("--quiet", action="store_true", help="print only what failed")
+    reader.add_argument("--gate", action="store_true", help="take less of all")
     asked = reader.parse_args()
+    if asked.gate:
+        asked.deposits, asked.stop = 1_000, 0.5
     if not os.access(asked.program, os.X_OK) or os.path.isdir(asked.program):
         reader.error(f"{asked.program}: no program")
     return asked
@@ -458,7 +461,7 @@ def main():
         fine = fine and same
         if not same or not asked.quiet:
             print("same     " if same else "DIFFERENT", part.__doc__.rstrip("."), flush=True)
-    for sites in () if asked.alone else (2, 3):
+    for sites in () if asked.alone else (2,) if asked.gate else (2, 3):
         try:
             happened = run_bank(asked, sites)
         except Failed as why:
