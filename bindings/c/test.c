@@ -54,6 +54,13 @@ static int keeps(copying *call, void *handle, const char *text) {
     return call(handle, NULL, 0) == length;
 }
 
+/* Whether what is kept begins with this text and ends in a line feed. */
+static int begins(copying *call, void *handle, const char *text) {
+    char out[600];
+    size_t n = call(handle, out, sizeof out), length = strlen(text);
+    return length < n && n <= sizeof out && memcmp(out, text, length) == 0 && out[n - 1] == '\n';
+}
+
 /* A handle of nothing: each call answers. */
 static void of_nothing(void) {
     struct rbbank bank = {0};
@@ -217,7 +224,7 @@ static void a_journal(void) {
     WANTED(rbbank_journal_send(&journal, 1, NULL, 0, &length, &to) == RBBANK_REFUSED);
     WANTED(rbbank_journal_answer(&journal, 3, TEXT(" ")) == RBBANK_OK && keeps(journal_reply, &journal, ""));
     WANTED(rbbank_journal_answer(&journal, 4, TEXT("{}")) == RBBANK_OK);
-    WANTED(keeps(journal_reply, &journal, "{\"bad\":\"line\",\"line\":4}\n"));
+    WANTED(begins(journal_reply, &journal, "{\"bad\":\"line\",\"line\":4,\"why\":\"column "));
     WANTED(is_file(&file, HEAD ENTRY "\n ") && file.kept_length == 0);
     rbbank_journal_close(&journal);
     WANTED(journal.at == NULL);

@@ -4,10 +4,11 @@
 use rbbank::Journal;
 use std::error::Error;
 use std::io::{self, BufRead, Write};
+use std::process::ExitCode;
 
 const CONFIG: &str = r#"{"accounts":[["ann",0],["bob",1000]],"sites":2,"version":1}"#;
 
-fn main() -> Result<(), Box<dyn Error>> {
+fn run() -> Result<(), Box<dyn Error>> {
     let words: Vec<String> = std::env::args().skip(1).collect();
     let (me, path, new) = match words.as_slice() {
         [me, path] => (me, path, false),
@@ -22,4 +23,14 @@ fn main() -> Result<(), Box<dyn Error>> {
         }
     }
     Ok(())
+}
+
+fn main() -> ExitCode {
+    match run() {
+        Ok(()) => ExitCode::SUCCESS,
+        Err(error) => {
+            eprintln!("journal: {error}");
+            ExitCode::FAILURE
+        }
+    }
 }
