@@ -162,7 +162,7 @@ def verdict_of(crate, functions, said, errors):
     return "name" if own and all(map(ONLY_A_NAME.search, own)) and "not proved" in failed else "refused"
 
 
-def check_of(crate, folder, texts, jobs):
+def check_of(folder, texts, jobs):
     """What `rt check` prints of the crate with these texts, which are put back then."""
     before = {path: read(os.path.join(folder, path)) for path in texts}
     try:
@@ -183,7 +183,7 @@ def try_batch(crate, folder, batch, mutants, where, jobs):
     texts, why = applied(folder, [it for name in batch for it in mutants[name]])
     if why:
         return halves(crate, folder, batch, mutants, where, jobs, why)
-    printed = check_of(crate, folder, texts, jobs)
+    printed = check_of(folder, texts, jobs)
     said = dict(SAID.findall(printed))
     if not said:
         first = next((it for it in printed.splitlines() if "error" in it), "nothing was said of a function")
