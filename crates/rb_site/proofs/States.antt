@@ -137,15 +137,7 @@ changes_seen x y old e is b same standing shown h =
     ∙ sym (ap changes (comes_alike x old e standing))
     ∙ sym shown ∙ h
 
--- the site after an event that changes it
-pub next_changed : (x : SeenSite) (e : Event) → changes_site x.settings (state_of x) e ≡ true → next_if_changes x e ≡ next_site x e
-next_changed x e h = ap (λ b. cond b (next_site x e) x) h
-
--- the site after an event that doesn't
-pub next_unchanged : (x : SeenSite) (e : Event) → changes_site x.settings (state_of x) e ≡ false → next_if_changes x e ≡ x
-next_unchanged x e h = ap (λ b. cond b (next_site x e) x) h
-
--- nor does a full history let it change
+-- a full history doesn't let it change
 pub next_full : (x : SeenSite) (e : Event) → is_full x.settings (state_of x) ≡ true → next_if_changes x e ≡ x
 next_full x e full = by (changes_site x.settings (state_of x) e)
   where

@@ -1,5 +1,5 @@
 //! Sites: their messages, events, replies and histories.
-//! Tests: rb_tests, worlds.rt, refused.rt; rb_tests_runs, copies.rt.
+//! Tests: rb_tests, worlds.rt, refused.rt.
 #![tactic(auto)]
 
 mod batch;

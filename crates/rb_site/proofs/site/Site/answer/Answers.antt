@@ -17,14 +17,11 @@ returns-then-is_full-clause-ok g c =
           ++ cond b [] (sent_by (outcome_of c.args.self.now.settings (state_of c.args.self.now) c.args.event.now))) full),
     )
 
-pub take_step-requires : goal.take_step-requires
-take_step-requires g c = sym c.is_full.ensures ∙ c.if-is_full.false
+pub step_recording-requires : goal.step_recording-requires
+step_recording-requires g c = sym c.is_full.ensures ∙ c.if-is_full.false
 
-pub returns-clause-ok : goal.returns-clause-ok
-returns-clause-ok g c = c.take_step.ensures.ok
+pub returns-in_err-step_recording-clause-has_room : goal.returns-in_err-step_recording-clause-has_room
+returns-in_err-step_recording-clause-has_room g c = on_err c.from_residual.result _ (sym c.is_full.ensures ∙ c.if-is_full.false)
 
-pub returns-clause-err : goal.returns-clause-err
-returns-clause-err g c = c.take_step.ensures.err
-
-pub returns-clause-has_room : goal.returns-clause-has_room
-returns-clause-has_room g c = on_err c.take_step.result _ (sym c.is_full.ensures ∙ c.if-is_full.false)
+pub returns-in_err-step_recording-clause-err : goal.returns-in_err-step_recording-clause-err
+returns-in_err-step_recording-clause-err g c = on_err c.from_residual.result _ c.in_err-step_recording.ensures.err
