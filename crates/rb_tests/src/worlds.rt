@@ -136,23 +136,24 @@ pub fn same_answers(ledger: &Ledger, other: &Ledger) -> bool {
     same
 }
 
-/// A ledger after these operations.
-fn ledger_of(alloc: Global, config: &Config, shadows: &[Shadow]) -> Result<Ledger, Fail> {
-    let mut ledger = Ledger::open(alloc, config)?;
+/// Applies operations. Whether none was refused.
+fn applied(ledger: &mut Ledger, shadows: &[Shadow]) -> bool {
     for shadow in shadows {
         match ledger.apply(*shadow) {
             Ok(undo) => undo.seal(),
-            Err(_) => return Err(Fail::from("refused")),
+            Err(_) => return false,
         }
     }
-    Ok(ledger)
+    true
 }
 
 /// Whether a ledger answers as one that applied just as many of the operations.
-fn is_after(alloc: Global, ledger: &Ledger, shadows: &[Shadow]) -> Result<bool, Fail> {
-    let prefix = shadows.get(..ledger.len() as usize).ok_or("no prefix")?;
-    let other = ledger_of(alloc, ledger.config(), prefix)?;
-    Ok(same_answers(ledger, &other))
+fn is_after(alloc: Global, ledger: &Ledger, shadows: &[Shadow]) -> bool {
+    let prefix = shadows.get(..ledger.len() as usize).unwrap_or(&[]);
+    match Ledger::open(alloc, ledger.config()) {
+        Ok(mut other) => applied(&mut other, prefix) && same_answers(ledger, &other),
+        Err(_) => false,
+    }
 }
 
 /// Applies an operation, and keeps the record to undo it. Whether neither was refused.
@@ -170,17 +171,17 @@ pub fn apply_next(ledger: &mut Ledger, log: &mut UndoLog, shadow: &Shadow) -> bo
     true
 }
 
-/// Applies operations, and keeps the record to undo each.
-fn apply_all(ledger: &mut Ledger, log: &mut UndoLog, shadows: &[Shadow]) -> Result<(), Fail>
+/// Applies operations, and keeps the record to undo each. Whether none was refused.
+fn apply_all(ledger: &mut Ledger, log: &mut UndoLog, shadows: &[Shadow]) -> bool
     requires { log.old.parts ≡ records_of ledger.old.settings ledger.old.entries }
-    ensures { OnOk result (log.new.parts ≡ records_of ledger.new.settings ledger.new.entries) }
+    ensures { IsTrue result → log.new.parts ≡ records_of ledger.new.settings ledger.new.entries }
 {
     'shadows: for shadow in shadows {
         if !apply_next(ledger, log, shadow) {
-            return Err(Fail::from("refused"));
+            return false;
         }
     }
-    Ok(())
+    true
 }
 
 /// Undoes the last operation, if there is one. Whether there was.
@@ -200,34 +201,25 @@ pub fn undo_last(ledger: &mut Ledger, log: &mut UndoLog) -> bool
 
 /// Undoes all operations backwards. Whether at each length the ledger answers as one that applied no
 /// more.
-fn undo_all(
-    alloc: Global,
-    ledger: &mut Ledger,
-    log: &mut UndoLog,
-    shadows: &[Shadow],
-) -> Result<bool, Fail>
+fn undo_all(alloc: Global, ledger: &mut Ledger, log: &mut UndoLog, shadows: &[Shadow]) -> bool
     requires { log.old.parts ≡ records_of ledger.old.settings ledger.old.entries }
 {
     let mut same = true;
     'undos: while undo_last(ledger, log) {
-        let here = is_after(alloc, ledger, shadows)?;
-        same = same & here;
+        same = same & is_after(alloc, ledger, shadows);
     }
-    Ok(same)
+    same & ledger.is_empty()
 }
 
 /// Whether a ledger with these operations answers, at each length on the way back, as one that applied
 /// no more.
-pub fn there_and_back(alloc: Global, config: &Config, shadows: &[Shadow]) -> Result<bool, Fail> {
+fn there_and_back(alloc: Global, config: &Config, shadows: &[Shadow]) -> Result<bool, AllocError> {
     let mut ledger = Ledger::open(alloc, config)?;
     let mut log = UndoLog::new(alloc);
-    if let Err(fail) = apply_all(&mut ledger, &mut log, shadows) {
-        log.close();
-        return Err(fail);
-    }
-    let same = undo_all(alloc, &mut ledger, &mut log, shadows);
+    let same = apply_all(&mut ledger, &mut log, shadows)
+        && undo_all(alloc, &mut ledger, &mut log, shadows);
     log.close();
-    Ok(same? & ledger.is_empty())
+    Ok(same)
 }
 
 /// The reports of the sites after a script.
@@ -300,9 +292,13 @@ fn found_at(ledger: &Ledger, position: u32) -> Found {
 
 /// The ledger of site 0 after a script.
 fn ledger_after(alloc: Global, script: &str) -> Result<Ledger, Fail> {
-    let applied = applied_at_first(alloc, script)?;
-    let config = config_of(alloc, script)?;
-    ledger_of(alloc, &config, applied.as_slice())
+    let shadows = applied_at_first(alloc, script)?;
+    let mut ledger = Ledger::open(alloc, &config_of(alloc, script)?)?;
+    if applied(&mut ledger, shadows.as_slice()) {
+        Ok(ledger)
+    } else {
+        Err(Fail::from("refused"))
+    }
 }
 
 #[test]
@@ -323,25 +319,31 @@ fn first_of(ledger: &Ledger) -> (Option<u64>, Option<u32>) {
     (ledger.balance(Place(0)), ledger.count(1))
 }
 
-/// The same after these operations, once the last is undone, and once the one before it is.
-fn two_undone(ledger: &mut Ledger, log: &mut UndoLog, shadows: &[Shadow]) -> Result<Undone, Fail>
+/// The same after these operations, once the last is undone, and once the one before it is; `None` if one was refused.
+fn two_undone(ledger: &mut Ledger, log: &mut UndoLog, shadows: &[Shadow]) -> Option<Undone>
     requires { log.old.parts ≡ records_of ledger.old.settings ledger.old.entries }
 {
-    apply_all(ledger, log, shadows)?;
+    if !apply_all(ledger, log, shadows) {
+        return None;
+    }
     let all = first_of(ledger);
     let _undone = undo_last(ledger, log);
     let but_one = first_of(ledger);
     let _undone = undo_last(ledger, log);
-    Ok([all, but_one, first_of(ledger)])
+    Some([all, but_one, first_of(ledger)])
 }
 
 /// The same of a new ledger.
-fn two_undone_of(alloc: Global, config: &Config, shadows: &[Shadow]) -> Result<Undone, Fail> {
+fn two_undone_of(
+    alloc: Global,
+    config: &Config,
+    shadows: &[Shadow],
+) -> Result<Option<Undone>, AllocError> {
     let mut ledger = Ledger::open(alloc, config)?;
     let mut log = UndoLog::new(alloc);
     let seen = two_undone(&mut ledger, &mut log, shadows);
     log.close();
-    seen
+    Ok(seen)
 }
 
 /// Of two cancellations of one withdrawal only the first moves money, so only its undoing takes it back.
@@ -356,6 +358,6 @@ fn undo_two(rt: HostRuntime) -> Result<(), Fail> {
         (Some(1000), Some(1)),
         (Some(700), Some(0)),
     ];
-    equal(&rt, seen, wanted);
+    equal(&rt, seen, Some(wanted));
     Ok(())
 }

@@ -11,8 +11,6 @@ mod branch;
 #[cfg(test)]
 mod checks;
 #[cfg(test)]
-mod copies;
-#[cfg(test)]
 mod flags;
 #[cfg(test)]
 mod gates;
