@@ -1,7 +1,7 @@
 -- Tokens are read alike, whatever follows them, and blanks between them aren't read.
-use Rattle.std.proofs.Common.{◌≡◌, ◌<◌, ◌≤◌, ◌+◌, ◌^◌, ◌||◌, ◌==◌, ℕ, suc, Bool, true, false, cond, List, [], ◌∷◌, ◌++◌, length, take, drop}
-use Rattle.std.proofs.Common.{get_or, decimal, refl, sym, ap, ap₂, ◌∙◌, append_assoc, append-nil, arith, subst}
-use Rattle.std.proofs.lemmas.Bool.{true≢false, eqb-true}
+use Rattle.std.proofs.Common.{◌≡◌, ◌<◌, ◌≤◌, ◌+◌, ◌^◌, ◌||◌, ◌==◌, ℕ, zero, suc, Bool, true, false, cond, List, [], ◌∷◌, ◌++◌, length}
+use Rattle.std.proofs.Common.{take, drop, get_or, decimal, refl, sym, ap, ap₂, ◌∙◌, append_assoc, append-nil, arith, subst}
+use Rattle.std.proofs.lemmas.Bool.{true≢false, eqb-true, or_right}
 use Rattle.std.proofs.lemmas.List.{take_more, take-append-drop}
 use Rattle.std.proofs.Math.Seq.{take-add}
 use Rattle.json.specs.Token.{number, string}
@@ -13,7 +13,7 @@ use Rattle.json.specs.Print.{escape}
 use Rattle.json.proofs.Printed.Decimals.{IsNumber-decimal}
 use Rattle.json.proofs.Printed.Numbers.{lex-number}
 use Rattle.json.proofs.Printed.Strings.{content-escape, lex-escape}
-use Rattle.rb_history.specs.Blanks.{AreTokens}
+use Rattle.rb_history.specs.Blanks.{AreTokens, JoinsTokens}
 
 -- an operator is no quote and no backslash, so it is read by itself
 by_class : (q b o s : Bool) (x : ℕ) (xs : List ℕ) (k : Mode → List Lexeme) → (q ≡ true → o ≡ false) → (b ≡ true → o ≡ false) → o ≡ true
@@ -92,27 +92,83 @@ tokens_at text rest len more e h k =
     subst AreTokens (sym (take-add len more text)) (more_tokens (take len text) (take more (drop len text)) h
     (subst (λ l. AreTokens (take more l)) e k))
 
+-- one of four tests holds
+of_four : {P : Type 0} (a b c d : Bool) → (a ≡ true → P) → (b ≡ true → P) → (c ≡ true → P) → (d ≡ true → P) → (a || b || c || d) ≡ true → P
+of_four true b c d f g h k e = f refl
+of_four false true c d f g h k e = g refl
+of_four false false true d f g h k e = h refl
+of_four false false false d f g h k e = k e
+
 -- a blank isn't read
-blank_read : (text : List ℕ) → 0 < length text → get_or text 0 0 ≡ 32 → lex between (drop 1 text) ≡ lex between text
+space_read : (x : ℕ) (xs : List ℕ) → is_space x ≡ true → lex between (x ∷ xs) ≡ lex between xs
 unfolding lex
+space_read x xs h =
+    let P : ℕ → Type 0 = λ y. lex between (y ∷ xs) ≡ lex between xs in
+    of_four (x == 32) (x == 9) (x == 10) (x == 13)
+    (λ e. subst P (sym (eqb-true x 32 e)) refl) (λ e. subst P (sym (eqb-true x 9 e)) refl)
+    (λ e. subst P (sym (eqb-true x 10 e)) refl) (λ e. subst P (sym (eqb-true x 13 e)) refl) h
+
+blank_read : (text : List ℕ) → 0 < length text → is_space (get_or text 0 0) ≡ true → lex between (drop 1 text) ≡ lex between text
 blank_read [] h e = absurd (omega arith)
-blank_read (x ∷ xs) h e = (λ j. lex between (sym e j ∷ xs))
+blank_read (x ∷ xs) h e = sym (space_read x xs e)
 
 -- what is behind a blank at the beginning of a text is read as the text is
-pub blank_at : (text rest : List ℕ) → rest ≡ drop 1 text → 0 < length text → get_or text 0 0 ≡ 32 → lex between rest ≡ lex between text
+pub blank_at : (text rest : List ℕ) → rest ≡ drop 1 text → 0 < length text → is_space (get_or text 0 0) ≡ true
+    → lex between rest ≡ lex between text
 blank_at text rest same h e = ap (lex between) same ∙ blank_read text h e
 
--- the tokens that come next go behind those before them
-pub joined : (done left : List ℕ) (len : ℕ) → AreTokens done → AreTokens (take len left) → AreTokens (done ++ take len left)
-joined done left len h k = more_tokens done (take len left) h k
+-- a token of one byte at the beginning of a text
+mark_first : (text : List ℕ) → 0 < length text → is_operator (get_or text 0 0) ≡ true
+    → lex between text ≡ operator_lexeme (get_or text 0 0) ∷ lex between (drop 1 text)
+mark_first [] h m = absurd (omega arith)
+mark_first (x ∷ xs) h m = mark_read x xs m
 
--- and what is left behind their blanks is read alike
-pub joined_read : (done left behind rest line : List ℕ) (len : ℕ) → behind ≡ drop len left → AreTokens (done ++ take len left)
-    → lex between rest ≡ lex between behind → lex between (done ++ left) ≡ lex between line
-    → lex between ((done ++ take len left) ++ rest) ≡ lex between line
-joined_read done left behind rest line len e h same is =
-    h rest (drop len left) (same ∙ ap (lex between) e) ∙ ap (lex between) (append_assoc done (take len left) (drop len left)
-    ∙ ap (λ l. done ++ l) (take-append-drop len left)) ∙ is
+-- a number ends at a blank
+ended_at : (text : List ℕ) (len : ℕ) → len < length text → is_space (get_or text len 0) ≡ true → ends_word (drop len text) ≡ true
+ended_at [] len h e = absurd (omega arith)
+ended_at (x ∷ xs) zero h e = or_right (is_operator x) (is_space x) e
+ended_at (x ∷ xs) (suc len) h e = ended_at xs len (omega (arith, h)) e
+
+-- a number that a blank follows, and the token behind the blanks, are added without the blanks
+pub joins_number : (old new text behind rest : List ℕ) (len n : ℕ) → n < 2 ^ 64 → take len text ≡ decimal n → len < length text
+    → is_space (get_or text len 0) ≡ true → lex between behind ≡ lex between (drop len text) → 0 < length behind
+    → is_operator (get_or behind 0 0) ≡ true → rest ≡ drop 1 behind → new ≡ (old ++ take len text) ++ get_or behind 0 0 ∷ []
+    → JoinsTokens old new text rest
+joins_number old new text behind rest len n small e within blank same some m is added =
+    let x = get_or behind 0 0 in
+    let digits : take len text ++ x ∷ [] ≡ decimal n ++ x ∷ [] = ap (λ l. l ++ x ∷ []) e in
+    let whole : lex between text ≡ token (number (decimal n)) ∷ lex between (drop len text) =
+    ap (lex between) (sym (take-append-drop len text) ∙ ap (λ l. l ++ drop len text) e)
+    ∙ lex-number (decimal n) (drop len text) (IsNumber-decimal n small) (ended_at text len within blank) in
+    let further : lex between (drop len text) ≡ operator_lexeme x ∷ lex between rest =
+    sym same ∙ mark_first behind some m ∙ ap (λ l. operator_lexeme x ∷ lex between l) (sym is) in
+    record {
+      more = take len text ++ x ∷ [];
+      added = added ∙ append_assoc old (take len text) (x ∷ []);
+      whole = subst AreTokens (sym digits) (number_tokens n x small m);
+      read = ap (λ l. lex between (l ++ rest)) digits ∙ number_read n x rest small m
+          ∙ ap (λ l. token (number (decimal n)) ∷ l) (sym further) ∙ sym whole;
+    }
+
+-- tokens before a blank are added as they are
+pub joins_tokens : (old new text rest : List ℕ) (len : ℕ) → AreTokens (take len text) → rest ≡ drop len text → new ≡ old ++ take len text
+    → JoinsTokens old new text rest
+joins_tokens old new text rest len h is added = record {
+  more = take len text;
+  added = added;
+  whole = h;
+  read = ap (λ l. lex between (take len text ++ l)) is ∙ ap (lex between) (take-append-drop len text);
+}
+
+-- whole tokens stay whole, and what is added to them is read as the text was
+pub joined_whole : (old new text rest : List ℕ) → JoinsTokens old new text rest → AreTokens old → AreTokens new
+joined_whole old new text rest j h = subst AreTokens (sym j.added) (more_tokens old j.more h j.whole)
+
+pub joined_read : (old new text rest left line : List ℕ) → JoinsTokens old new text rest → AreTokens old
+    → lex between left ≡ lex between rest → lex between (old ++ text) ≡ lex between line → lex between (new ++ left) ≡ lex between line
+joined_read old new text rest left line j h same is =
+    ap (λ l. lex between (l ++ left)) j.added ∙ ap (lex between) (append_assoc old j.more left)
+    ∙ h (j.more ++ left) text (j.whole left rest same ∙ j.read) ∙ is
 
 -- if nothing is left the tokens are the line's
 pub all_joined : (done left line : List ℕ) → length left ≤ 0 → lex between (done ++ left) ≡ lex between line → tokens done ≡ tokens line

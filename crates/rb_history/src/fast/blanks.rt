@@ -2,8 +2,8 @@
 //! nothing of a line.
 ghost use Rattle.std.specs.Prelude.{◌≡◌, ◌<◌, ◌≤◌, IfSome, length, slice_index, string_bytes, take};
 ghost use Rattle.json.specs.Lex.{between, lex, tokens};
-ghost use Rattle.json.specs.Word.{is_operator};
-ghost use Rattle.rb_history.specs.Blanks.{AreTokens};
+ghost use Rattle.json.specs.Word.{is_operator, is_space};
+ghost use Rattle.rb_history.specs.Blanks.{AreTokens, JoinsTokens};
 
 use crate::fast::number::parse_digits;
 use crate::fast::scan::find_quote;
@@ -58,14 +58,25 @@ fn token_len(text: &[u8]) -> Option<usize>
     number_len(text)
 }
 
-/// How many bytes come before a blank between two tokens, or before the end: at least one token.
+/// Whether a byte is one of the four that JSON has between tokens.
+#[inline(always)]
+fn is_blank(b: u8) -> bool
+    ensures { result ≡ is_space b }
+{
+    b == b' ' || b == b'\t' || b == b'\r' || b == b'\n'
+}
+
+/// How many bytes of the text are tokens right behind one another, before a blank, the end, or a number that a blank
+/// follows: at least one token.
 #[inline(always)]
 fn find_blank(text: &[u8]) -> Option<usize>
     ensures { IfSome result (λ len. (0 < len) × (len ≤ length text.now) × AreTokens (take len text.now)) }
 {
     let mut len = token_len(text)?;
-    while len < text.len() && text[len] != b' ' {
-        let more = token_len(&text[len..])?;
+    while len < text.len() && !is_blank(text[len]) {
+        let Some(more) = token_len(&text[len..]) else {
+            break;
+        };
         len += more;
     }
     Some(len)
@@ -78,10 +89,42 @@ fn skip_blanks(text: &[u8]) -> &[u8]
     ensures shorter { length result.now ≤ length text.now }
 {
     let mut left = text;
-    while 0 < left.len() && left[0] == b' ' {
+    while 0 < left.len() && is_blank(left[0]) {
         left = &left[1..];
     }
     left
+}
+
+/// Adds the number that the text begins with, a blank behind it, and the token behind that, if it is one byte. The text
+/// behind these.
+fn join_number<'a>(joined: &mut Vec<u8>, text: &'a [u8]) -> Option<&'a [u8]>
+    ensures shorter { IfSome result (λ rest. length rest.now < length text.now) }
+    ensures joins { IfSome result (λ rest. JoinsTokens joined.old.items joined.new.items text.now rest.now) }
+{
+    let (_, len) = parse_digits(text)?;
+    if len >= text.len() || !is_blank(text[len]) {
+        return None;
+    }
+    let behind = skip_blanks(&text[len..]);
+    if behind.len() == 0 || !is_mark(behind[0]) {
+        return None;
+    }
+    joined.extend_from_slice(&text[..len]).ok()?;
+    joined.push(behind[0]).ok()?;
+    Some(&behind[1..])
+}
+
+/// Adds the tokens before the next blank, or a number with blanks behind it and the token behind these. The text behind
+/// what is added.
+fn join_some<'a>(joined: &mut Vec<u8>, text: &'a [u8]) -> Option<&'a [u8]>
+    ensures shorter { IfSome result (λ rest. length rest.now < length text.now) }
+    ensures joins { IfSome result (λ rest. JoinsTokens joined.old.items joined.new.items text.now rest.now) }
+{
+    let Some(len) = find_blank(text) else {
+        return join_number(joined, text);
+    };
+    joined.extend_from_slice(&text[..len]).ok()?;
+    Some(&text[len..])
 }
 
 /// The tokens of a line, one right behind the other.
@@ -89,19 +132,14 @@ fn join_tokens(alloc: Global, line: &[u8]) -> Option<Vec<u8>>
     ensures { IfSome result (λ text. tokens text.items ≡ tokens line.now) }
 {
     let mut text = Vec::with_capacity(alloc, line.len()).ok()?;
-    let mut left = line;
+    let mut left = skip_blanks(line);
     while 0 < left.len() {
-        let len = find_blank(left)?;
-        if text.extend_from_slice(&left[..len]).is_err() {
-            return None;
-        }
-        left = skip_blanks(&left[len..]);
+        left = skip_blanks(join_some(&mut text, left)?);
     }
     Some(text)
 }
 
-/// A line without the blanks between its tokens, if it has some, and neither a blank in front nor an escape nor a
-/// word.
+/// A line without the blanks between its tokens, if it has some, and neither an escape nor a word.
 pub fn without_blanks(alloc: Global, line: &str) -> Option<String>
     ensures { IfSome result (λ text. tokens (string_bytes text) ≡ tokens line.now) }
 {

@@ -7,7 +7,7 @@ pub loop-len-preserved : goal.loop-len-preserved
 loop-len-preserved c =
     let text = c.args.text.now in
     let len = c.loop-len.len in
-    let more = c.in_ok-more in
+    let more = c.in-Some in
     let rest = take_rest text len in
     let left = length-drop len text in
     record {

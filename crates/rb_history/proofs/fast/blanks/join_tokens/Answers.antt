@@ -1,23 +1,17 @@
-use Rattle.std.proofs.Common.{◌≡◌, ◌++◌, take, subst, sym, ap, ◌∙◌, arith, rules}
-use Rattle.std.proofs.lemmas.List.{take_rest}
-use Rattle.json.specs.Lex.{between, lex}
-use Rattle.rb_history.specs.Blanks.{AreTokens}
-use Rattle.rb_history.proofs.Blanks.{all_joined, joined, joined_read}
+use Rattle.std.proofs.Common.{refl, ap, ◌∙◌, arith}
+use Rattle.rb_history.proofs.Blanks.{all_joined, joined_read, joined_whole}
 use Rattle.rb_history.proofs.fast.blanks.join_tokens.Goals as goal
 
 pub loop-left-preserved : goal.loop-left-preserved
 loop-left-preserved c =
-    let done = c.loop-left.text.items in
+    let old = c.loop-left.text.items in
+    let new = c.join_some.new.joined.items in
     let left = c.loop-left.left.now in
-    let next = c.in_ok-len in
-    let rest = c.skip_blanks-left.result.now in
-    let more : c.extend_from_slice.new.self.items ≡ done ++ take next.len left = search rules in
-    let whole = joined done left next.len c.loop-left.invariant.whole next.ensures.2 in
+    let some = c.in_ok-join_some in
     record {
-      whole = subst AreTokens (sym more) whole;
-      read = ap (λ l. lex between (l ++ rest)) more
-          ∙ joined_read done left _ rest c.args.line.now next.len (take_rest left next.len) whole c.skip_blanks-left.ensures.same
-          c.loop-left.invariant.read;
+      whole = joined_whole old new left some.field-0.now some.ensures.joins c.loop-left.invariant.whole;
+      read = joined_read old new left some.field-0.now c.skip_blanks-left-in-loop-left.result.now c.args.line.now some.ensures.joins
+          c.loop-left.invariant.whole c.skip_blanks-left-in-loop-left.ensures.same c.loop-left.invariant.read;
     }
 
 pub returns : goal.returns

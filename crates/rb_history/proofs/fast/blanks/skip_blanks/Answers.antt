@@ -1,4 +1,4 @@
-use Rattle.std.proofs.Common.{length, length-drop, ap, ◌∙◌, arith}
+use Rattle.std.proofs.Common.{length, length-drop, ap, sym, ◌∙◌, arith}
 use Rattle.std.proofs.lemmas.List.{take_rest}
 use Rattle.rb_history.proofs.Blanks.{blank_at}
 use Rattle.rb_history.proofs.fast.blanks.skip_blanks.Goals as goal
@@ -9,6 +9,6 @@ loop-left-preserved c =
     let rest = take_rest left 1 in
     let shorter = length-drop 1 left in
     record {
-      same = blank_at left _ rest (omega arith) (omega arith) ∙ c.loop-left.invariant.same;
+      same = blank_at left _ rest (omega arith) (sym c.is_blank.ensures ∙ c.if-is_blank.true) ∙ c.loop-left.invariant.same;
       shorter = omega (arith, shorter, ap length rest, c.loop-left.invariant.shorter);
     }
