@@ -14,13 +14,13 @@ use Rattle.rb_history.specs.Ids.{IsIdOrNone, between_if_any}
 use Rattle.rb_history.proofs.Public.IdText.{id_quoted}
 
 -- the line of a receipt is a brace and its member
-receipt_text : (s : Settings) (m : Message)
+pub receipt_text : (s : Settings) (m : Message)
     → compact_text (event_json s (Receive m)) ≡ 123 ∷ members_text false (receipt_member s m)
 receipt_text s (ShadowMessage v) = refl
 receipt_text s (TokenOnItsWay m) = refl
 
 -- behind another member, a comma and its member
-member_behind : (s : Settings) (m : Message)
+pub member_behind : (s : Settings) (m : Message)
     → members_text true (receipt_member s m) ≡ 44 ∷ members_text false (receipt_member s m)
 member_behind s (ShadowMessage v) = refl
 member_behind s (TokenOnItsWay m) = refl

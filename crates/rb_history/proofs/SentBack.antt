@@ -1,19 +1,22 @@
 -- The line of a message to the sites of a bank is read by them as the message.
-use Rattle.std.proofs.Common.{◌≡◌, List, ℕ, None, Some, true, [], ◌∷◌, codes, refl, ap, ◌∙◌, arith}
+use Rattle.std.proofs.Common.{◌≡◌, List, ℕ, None, Some, true, [], ◌∷◌, ◌++◌, codes, drop, inr, refl, sym, ap, ◌∙◌, append_assoc, arith}
 use Rattle.std.proofs.Common.{bytes_eq}
 use Rattle.std.proofs.lemmas.Slice.Eq.{bytes_eq-Decides}
 use Rattle.std.specs.Prelude.{if◌then◌else◌, option_and_then, option_map}
 use Rattle.serde_json.specs.Data.{string, object, member}
 use Rattle.serde_json.specs.Read.{read}
-use Rattle.serde_json.specs.Written.{compact_text}
+use Rattle.serde_json.specs.Written.{compact_text, members_text}
 use Rattle.rb_money.specs.Settings.{IsConfigured, Settings}
-use Rattle.rb_site.specs.declared.event.Event.TheVariants.{Receive}
+use Rattle.rb_site.specs.declared.event.Event.{Event}
+use Rattle.rb_site.specs.declared.event.Event.TheVariants.{Submit, Batch, Receive, Apply, Pass, Balance, AsOf, Statement}
 use Rattle.rb_site.specs.declared.message.Message.{Message}
 use Rattle.rb_site.specs.declared.message.Message.TheVariants.{Shadow as ShadowMessage, Token as TokenOnItsWay}
-use Rattle.rb_history.specs.Banks.{MessagesAreRead, event_named, event_to, receipt_member, sent_json}
+use Rattle.rb_history.specs.Banks.{MessagesAreRead, event_named, event_to, is_receipt, receipt_member, sent_json}
 use Rattle.rb_history.specs.Entries.{event_json, shadow_json, token_json}
 use Rattle.rb_history.specs.Fits.{IsEvent}
 use Rattle.rb_history.specs.Recorded.{event_at}
+use Rattle.rb_history.specs.Ids.{is_id}
+use Rattle.rb_history.proofs.BankText.{member_behind, receipt_text, sent_line}
 use Rattle.rb_history.proofs.EntryBack.{event_back}
 use Rattle.rb_history.proofs.EntryText.{event_text}
 use Rattle.rb_history.proofs.EventLine.{event_line, without_id}
@@ -62,3 +65,26 @@ sent_read s c me low es m sent [] named = alone_read s c m (sends_fit s c me low
 sent_read s c me low es m sent (b ∷ bs) named =
     let fits = sends_fit s c me low es m sent in
     ap (option_and_then (event_named s (b ∷ bs))) (sent_text s (b ∷ bs) m fits) ∙ sent_named s c (b ∷ bs) m fits
+
+-- the line of a receipt behind a bank's name, read part by part, is the message to the bank
+pub sent_parsed : (s : Settings) → IsConfigured s → (bank : List ℕ) (e : Event) (line inside : List ℕ) → is_id bank ≡ true
+    → is_receipt e ≡ true → IsEvent s e → codes "{" ++ inside ≡ compact_text (event_json s e)
+    → line ≡ codes "{\"bank\":\"" ++ (bank ++ (codes "\"" ++ (codes "," ++ inside))) → event_to s bank line ≡ Some (without_id e)
+sent_parsed s c [] e line inside named receipt fits is e1 = absurd (cc)
+sent_parsed s c (b ∷ bs) (Receive m) line inside named receipt fits is written =
+    let name = b ∷ bs in
+    let behind : codes "," ++ inside ≡ members_text true (receipt_member s m) =
+    ap (λ l. codes "," ++ drop 1 l) (is ∙ receipt_text s m) ∙ sym (member_behind s m) in
+    let whole : line ≡ compact_text (sent_json s name m) =
+    written ∙ ap (λ l. codes "{\"bank\":\"" ++ l) (sym (append_assoc name (codes "\"") (codes "," ++ inside)))
+    ∙ ap (λ l. codes "{\"bank\":\"" ++ ((name ++ codes "\"") ++ l)) behind
+    ∙ sym (append_assoc (codes "{\"bank\":\"") (name ++ codes "\"") (members_text true (receipt_member s m)))
+    ∙ sent_line s name m (inr named) (λ none. cc) in
+    ap (event_to s name) whole ∙ ap (option_and_then (event_named s name)) (sent_text s name m fits) ∙ sent_named s c name m fits
+sent_parsed s c (b ∷ bs) (Submit r) line inside named receipt fits is written = absurd (cc)
+sent_parsed s c (b ∷ bs) (Batch rs) line inside named receipt fits is written = absurd (cc)
+sent_parsed s c (b ∷ bs) (Apply x) line inside named receipt fits is written = absurd (cc)
+sent_parsed s c (b ∷ bs) (Pass to) line inside named receipt fits is written = absurd (cc)
+sent_parsed s c (b ∷ bs) (Balance a) line inside named receipt fits is written = absurd (cc)
+sent_parsed s c (b ∷ bs) (AsOf a n) line inside named receipt fits is written = absurd (cc)
+sent_parsed s c (b ∷ bs) (Statement a) line inside named receipt fits is written = absurd (cc)

@@ -4,15 +4,17 @@
 //! the key to the end of the value: a command has its site beside it, and an item of a batch, an event's line and an
 //! entry an object of its own. An event goes into its place, since a large result is put into memory and read again,
 //! 60 to 140 instructions.
-ghost use Rattle.std.specs.Prelude.{◌≡◌, [], ◌++◌, IfSome, Some};
+ghost use Rattle.std.specs.Prelude.{◌≡◌, [], ◌++◌, codes, true, IfSome, Some};
 ghost use Rattle.serde_json.specs.Written.{compact_text};
 ghost use Rattle.rb_money.specs.Settings.{IsConfigured};
+ghost use Rattle.rb_history.specs.Banks.{event_to, is_receipt};
 ghost use Rattle.rb_history.specs.Entries.{asked_event_of_line, request_json};
 ghost use Rattle.rb_history.specs.Fits.{IsRequest};
 ghost use Rattle.rb_history.specs.Ids.{IsIdOrNone};
 ghost use Rattle.rb_history.specs.Beginnings.{BeginsWithEach, BeginsWithEvent, BeginsWithOwn, BeginsWithRequest};
 ghost use Rattle.rb_history.specs.Beginnings.{EndsWithId};
 
+use crate::bank::BankName;
 use crate::fast::account::{parse_account_behind, parse_account_between, parse_asked};
 use crate::fast::id::parse_id_behind;
 use crate::fast::name::parse_name_behind;
@@ -211,17 +213,30 @@ pub fn parse_own<'a>(
     }
 }
 
-/// A token that comes, as the one member of an object.
+/// A token that comes, as the one member of an object, from behind its brace on.
 #[inline(never)]
 fn parse_token<'a>(config: &Config, text: &'a str, event: &mut Event) -> Option<&'a str>
-    ensures { IfSome result (λ rest. BeginsWithEvent config.now event.new text.now rest.now) }
+    ensures event { IfSome result (λ rest. BeginsWithEvent config.now event.new (codes "{" ++ text.now) rest.now) }
+    ensures receipt { IfSome result (λ _. is_receipt event.new ≡ true) }
 {
-    let (epoch, rest) = parse_word_between(text, spell!("{" token ":["), ",")?;
+    let (epoch, rest) = parse_word_between(text, spell!(token ":["), ",")?;
     let (to, rest) = parse_byte_between(rest, "", ",")?;
     let (red, rest) = parse_word_between(rest, "", "]}")?;
     let token = TokenMessage { epoch, to, red };
     *event = Event::Receive(Message::Token(token));
     Some(rest)
+}
+
+/// A message that comes, as the one member of an object, from behind its brace on.
+#[inline(always)]
+fn parse_message<'a>(config: &Config, text: &'a str, event: &mut Event) -> Option<&'a str>
+    ensures event { IfSome result (λ rest. BeginsWithEvent config.now event.new (codes "{" ++ text.now) rest.now) }
+    ensures receipt { IfSome result (λ _. is_receipt event.new ≡ true) }
+{
+    match text.as_bytes().get(1) {
+        Some(b's') => parse_received(config, text, event),
+        _ => parse_token(config, text, event),
+    }
 }
 
 /// An event of a site's own, as the one member of an object.
@@ -252,10 +267,30 @@ pub fn parse_event<'a>(
 {
     let key = text.as_bytes();
     match (key.get(2), key.get(5)) {
-        (Some(b's'), Some(b'd')) => parse_received(config, text, event),
-        (Some(b't'), Some(b'e')) => parse_token(config, text, event),
+        (Some(b's'), Some(b'd')) | (Some(b't'), Some(b'e')) => {
+            parse_message(config, parse_prefix(text, "{")?, event)
+        }
         _ => parse_object(alloc, config, text, event),
     }
+}
+
+/// A message beside the name of the bank that it is to, in its place, as all of a line. It may be any event if there is
+/// none.
+pub fn parse_sent(config: &Config, bank: &BankName, line: &str, event: &mut Event) -> Option<()>
+    ensures { IfSome result (λ _. event_to config.now bank.now line.now
+        ≡ Some (record { id = []; event = event.new })) }
+{
+    // For a fact alone: its settings are those of a configuration.
+    let _sites = config.sites();
+    let (name, rest) = parse_id_behind(line, spell!("{" bank ":\""))?;
+    if name.as_bytes() != bank.as_bytes() {
+        return None;
+    }
+    let end = parse_message(config, parse_prefix(rest, ",")?, event)?;
+    if end != "" {
+        return None;
+    }
+    Some(())
 }
 
 /// The id with which an object ends, or none, from behind its other member on.
@@ -341,8 +376,9 @@ pub fn parse_asked_line<'a>(
     let _sites = config.sites();
     let key = line.as_bytes();
     match (key.get(2), key.get(5)) {
-        (Some(b's'), Some(b'd')) => parse_no_more(parse_received(config, line, event)?),
-        (Some(b't'), Some(b'e')) => parse_no_more(parse_token(config, line, event)?),
+        (Some(b's'), Some(b'd')) | (Some(b't'), Some(b'e')) => {
+            parse_no_more(parse_message(config, parse_prefix(line, "{")?, event)?)
+        }
         (Some(b'i'), Some(b':')) => parse_id_first(alloc, config, line, event),
         _ => parse_id_last(alloc, config, line, event),
     }

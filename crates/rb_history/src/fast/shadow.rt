@@ -1,5 +1,6 @@
 //! Shadows of a history's line, in one pass. `None` says nothing of a text.
-ghost use Rattle.std.specs.Prelude.{◌≡◌, ◌<◌, ◌^◌, ◌++◌, IfSome};
+ghost use Rattle.std.specs.Prelude.{◌≡◌, ◌<◌, ◌^◌, ◌++◌, codes, true, IfSome};
+ghost use Rattle.rb_history.specs.Banks.{is_receipt};
 ghost use Rattle.rb_history.specs.Fits.{IsKnown};
 ghost use Rattle.rb_history.specs.Beginnings.{BeginsWithEvent};
 ghost use Rattle.rb_history.specs.Receipts.{BeginsWithBack, shadow_front};
@@ -24,16 +25,17 @@ pub struct Back {
     pub kind: Kind,
 }
 
-/// The account and the amount of a shadow that comes, and what follows the bracket before its counts.
+/// The account and the amount of a shadow that comes, from behind the brace of its event on, and what follows the
+/// bracket before its counts.
 #[inline(always)]
 pub fn parse_front<'a>(config: &Config, text: &'a str) -> Option<(Place, u64, &'a str)>
     ensures { IfSome result (λ p. IsKnown config.now p.0 × (p.1 < 2 ^ 64)
-        × (text.now ≡ shadow_front config.now p.0 p.1 ++ p.2.now)) }
+        × (codes "{" ++ text.now ≡ shadow_front config.now p.0 p.1 ++ p.2.now)) }
 {
     let (account, rest) = parse_account_between(
         config,
         text,
-        spell!("{" shadow ":{" account ":\""),
+        spell!(shadow ":{" account ":\""),
         ",",
     )?;
     let (amount, rest) = parse_long_between(rest, spell!(amount ":"), spell!("," deps ":["))?;
@@ -60,10 +62,11 @@ pub fn parse_back<'a>(config: &Config, text: &'a str) -> Option<(Back, &'a str)>
     Some((back, rest))
 }
 
-/// A shadow that comes, as the one member of an object. It may be any event if there is none.
+/// A shadow that comes, as the one member of an object, from behind its brace on. It may be any event if there is none.
 #[inline(never)]
 pub fn parse_received<'a>(config: &Config, text: &'a str, event: &mut Event) -> Option<&'a str>
-    ensures { IfSome result (λ rest. BeginsWithEvent config.now event.new text.now rest.now) }
+    ensures event { IfSome result (λ rest. BeginsWithEvent config.now event.new (codes "{" ++ text.now) rest.now) }
+    ensures receipt { IfSome result (λ _. is_receipt event.new ≡ true) }
 {
     let (account, amount, rest) = parse_front(config, text)?;
     let mut blue = [0; MOST_SITES];

@@ -4,7 +4,7 @@ ghost use Rattle.rb_history.specs.declared.fault.LineFault.TheVariants.{Bad};
 ghost use Rattle.rb_history.specs.Banks.{event_to, is_of_other};
 
 use crate::bank::BankName;
-use crate::fast::event::parse_asked_line;
+use crate::fast::event::{parse_asked_line, parse_sent};
 use crate::fault::LineFault;
 use crate::id::RequestId;
 use crate::read::banked::{event_named, is_receipt};
@@ -59,6 +59,10 @@ pub fn read_event_to(
 {
     let mut event = Event::Pass(0);
     let Some(text) = parse_asked_line(alloc, config, line, &mut event) else {
+        if let Some(()) = parse_sent(config, bank, line, &mut event) {
+            id.clear();
+            return Ok(Some(event));
+        }
         return read_spelled_to(alloc, config, bank, line, id);
     };
     if is_receipt(&event) && !bank.as_bytes().is_empty() {

@@ -39,7 +39,7 @@ fn cut_receipt<'a>(
 {
     // For a fact alone: its settings are those of a configuration.
     let _sites = config.sites();
-    let event = parse_prefix(line, spell!("{" event ":"))?;
+    let event = parse_prefix(line, spell!("{" event ":{"))?;
     let (_account, _amount, list) = parse_front(config, event)?;
     let behind = parse_counts(config.version(), list, counts)?;
     let (_back, end) = parse_back(config, behind)?;

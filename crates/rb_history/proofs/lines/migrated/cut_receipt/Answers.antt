@@ -59,7 +59,8 @@ returns c =
     let counts : BeginsWithCounts s.version blue list behind = subst (λ v. BeginsWithCounts v blue list behind) c.version.ensures.same
     c.in_ok-behind.ensures in
     let line = c.args.line.now in
-    let start = before_counts s front._account front._amount line c.in_ok-event.event.now list c.in_ok-event.ensures front.ensures.2 in
+    let start = before_counts s front._account front._amount line (codes "{" ++ c.in_ok-event.event.now) list
+    c.in_ok-event.ensures front.ensures.2 in
     cut s c.sites-sites.ensures.configured front._account front._amount blue line _ list behind back.end.now back._back
     c.parse_entry_end.new.reply ended._site ended.ensures.site front.ensures.0 front.ensures.1 ended.ensures.value.0 start
     counts back.ensures ended.ensures.value.1 (rw c.as_bytes.ensures.value (before_end line _ list start))
