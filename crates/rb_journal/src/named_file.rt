@@ -126,17 +126,21 @@ fn folder_of(path: &str) -> &str {
     }
 }
 
+/// Syncs the folder of this name, with the name there.
+fn sync_folder_of<R: Files<File = fs::File>>(rt: &R, path: &str) -> io::Result<()> {
+    match fs::File::open(rt, folder_of(path)) {
+        Ok(folder) => folder.sync_all(),
+        Err(error) => Err(error),
+    }
+}
+
 /// Syncs the folder of a file, with its name there; if the name is a link, that of the file that it leads to.
 pub fn sync_folder<R: Files<File = fs::File> + AllocGlobal>(rt: &R, path: &str) -> io::Result<()> {
     if !fs::symlink_metadata(rt, path)?.is_symlink() {
-        return fs::File::open(rt, folder_of(path))?.sync_all();
+        return sync_folder_of(rt, path);
     }
     let path = fs::canonicalize(rt, path)?;
-    let folder = match path.parent() {
-        Some(folder) => fs::File::open(rt, folder)?,
-        None => fs::File::open(rt, "/")?,
-    };
-    folder.sync_all()
+    sync_folder_of(rt, path.as_str())
 }
 
 /// The name of the file that keeps what is cut off the file of this name.
