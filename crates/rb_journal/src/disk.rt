@@ -5,17 +5,18 @@
 //! one byte is there or isn't; a write of the bytes that are there changes none of them; only this process writes the
 //! file, since it has the lock. And no standard stream is the file: `open_disk` puts the file above their descriptors,
 //! so that a closed one isn't the file, and refuses a file that is open at one of them.
-ghost use Rattle.std.specs.Prelude.{◌≡◌, ◌<◌, ◌≤◌, ◌∷◌, [], false, length, string_bytes, true, None, IfErr, IfOk};
-ghost use Rattle.std.specs.Prelude.{IfSome};
+ghost use Rattle.std.specs.Prelude.{◌≡◌, ◌⊎◌, ◌↔◌, ◌<◌, ◌≤◌, ◌∷◌, [], false, length, string_bytes, true, None, IfErr};
+ghost use Rattle.std.specs.Prelude.{IfOk, IfSome};
+ghost use Rattle.std.specs.IoError.{error_kind};
+ghost use Rattle.std.specs.declared.io.ErrorKind.TheVariants.{NotFound};
 ghost use Rattle.rb_journal.specs.Calls.{content_of, output_of, kept_of, knows_disk, leaves, left_since, faults_of};
 ghost use Rattle.rb_journal.specs.CallLaws.{now_counts, now_alone};
 ghost use Rattle.rb_journal.specs.Disk.{IsAskedFor, disk_log};
 ghost use Rattle.rb_journal.specs.Planned.{opened_event};
+ghost use Rattle.rb_journal.specs.declared.open_error.OpenError.TheVariants.{Failed, IsErrors, NoFile};
 
 use crate::call_log::CallLog;
-use crate::named_file::{
-    fits_beside, keep_beside, leads_to, open_file, read_locked, sync_folder, write_again,
-};
+use crate::named_file::{keep_beside, leads_to, open_file, read_locked, sync_folder, write_again};
 use crate::open_error::OpenError;
 use crate::streams::is_errors;
 use crate::{Host, HostError, calls};
@@ -71,6 +72,68 @@ impl<R, P> Disk<R, P> {
     }
 }
 
+/// A file that was opened, locked and read: its name, why it can only be read, if that is so, and its bytes.
+#[derive(Drop)]
+struct Opened {
+    file: fs::File,
+    unwritable: Option<io::Error>,
+    path: String,
+    bytes: Vec<u8>,
+}
+
+/// Why a file isn't opened at this error of the system: `NoFile` if it isn't there, and no new one is asked for.
+fn not_opened(error: io::Error, new: bool) -> OpenError
+    ensures no_file { result ≡ NoFile ↔ (new ≡ false) × (error_kind error ≡ NotFound) }
+    ensures failed { (result ≡ NoFile) ⊎ (result ≡ Failed error) }
+{
+    if !new && error.kind() == io::ErrorKind::NotFound {
+        OpenError::NoFile
+    } else {
+        OpenError::Failed(error)
+    }
+}
+
+/// Why a file isn't read, after this error: `IsErrors` if it may be standard error.
+fn not_read<R: Files + AllocGlobal>(rt: &R, file: &fs::File, error: io::Error) -> OpenError
+    ensures { (result ≡ IsErrors) ⊎ (result ≡ Failed error) }
+{
+    match is_errors(rt, file) {
+        Ok(true) => OpenError::IsErrors,
+        _ => OpenError::Failed(error),
+    }
+}
+
+/// Opens a journal's file, locks it and reads it, for `open_disk`. The output has this descriptor.
+fn open_and_read<R: Files<File = fs::File> + AllocGlobal>(
+    rt: &R,
+    path: &str,
+    new: bool,
+    output: i32,
+) -> Result<Opened, OpenError>
+    ensures path { IfOk result (λ opened. string_bytes opened.path ≡ path.now) }
+    ensures new { IfOk result (λ opened. new ≡ true → opened.bytes.items ≡ []) }
+    ensures asked { IfErr result (IsAskedFor new) }
+{
+    let (mut file, unwritable) = match open_file(rt, path, new) {
+        Ok(opened) => opened,
+        Err(error) => return Err(not_opened(error, new)),
+    };
+    let bytes = match read_locked(rt, &mut file, output) {
+        Ok(bytes) => bytes,
+        Err(error) => return Err(not_read(rt, &file, error)),
+    };
+    if new && !bytes.is_empty() {
+        return Err(OpenError::NotEmpty);
+    }
+    let path = String::from_str(rt.alloc(), path)?;
+    Ok(Opened {
+        file,
+        unwritable,
+        path,
+        bytes,
+    })
+}
+
 /// Opens the file of this name, locks it against other processes, and reads its bytes. Nothing of it is changed, and
 /// nothing is known of the disk: `Host::write_again` comes before all else. If a new file is asked for, it is made,
 /// unless it is there and empty.
@@ -97,38 +160,20 @@ pub fn open_disk<R: Files<File = fs::File> + Clock + AllocGlobal + Copy, P: Prin
     ensures new { IfOk result (λ r. new ≡ true → r.1.items ≡ []) }
     ensures asked { IfErr result (IsAskedFor new) }
 {
-    if new {
-        fits_beside(rt, path)?;
-    }
-    let (mut file, unwritable) = match open_file(rt, path, new) {
-        Ok(opened) => opened,
-        Err(error) => {
-            if !new && error.kind() == io::ErrorKind::NotFound {
-                return Err(OpenError::NoFile);
-            }
-            return Err(OpenError::Failed(error));
-        }
-    };
-    if is_errors(rt, &file)? {
-        return Err(OpenError::IsErrors);
-    }
     let out_descriptor = out.as_fd().as_raw_fd();
-    let bytes = read_locked(rt, &mut file, out_descriptor)?;
-    if new && !bytes.is_empty() {
-        return Err(OpenError::NotEmpty);
-    }
+    let opened = open_and_read(rt, path, new, out_descriptor)?;
     let disk = Disk {
         rt: *rt,
-        file,
-        unwritable,
-        len: bytes.len() as u64,
-        path: String::from_str(rt.alloc(), path)?,
+        file: opened.file,
+        unwritable: opened.unwritable,
+        len: opened.bytes.len() as u64,
+        path: opened.path,
         out,
         out_descriptor,
         failed: None,
-        log: calls::opened(&bytes),
+        log: calls::opened(&opened.bytes),
     };
-    Ok((disk, bytes))
+    Ok((disk, opened.bytes))
 }
 
 /// Says on standard error that bytes behind this number of lines are cut off and kept. A failed write is no fault.

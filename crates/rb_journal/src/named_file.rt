@@ -66,13 +66,16 @@ fn is_regular<R: Files>(rt: &R, path: &str) -> bool {
     }
 }
 
-/// Opens the file of this name, or makes it, if a new one is asked for. One that may not be written is opened to be
-/// read, so that it is refused for what it has; then the error is why.
-pub fn open_file<R: Files<File = fs::File>>(
+/// Opens the file of this name, or makes it, if a new one is asked for, whose name has to be one with `.cut` behind it
+/// too. One that may not be written is opened to be read, so that it is refused for what it has; then the error is why.
+pub fn open_file<R: Files<File = fs::File> + AllocGlobal>(
     rt: &R,
     path: &str,
     new: bool,
 ) -> io::Result<(fs::File, Option<io::Error>)> {
+    if new {
+        fits_beside(rt, path)?;
+    }
     let mut how = OpenOptions::new();
     how.read(true).write(true).create(new);
     let error = match open_above(rt, &how, path) {
@@ -158,7 +161,7 @@ fn of_beside<R: AllocGlobal>(rt: &R, error: io::Error) -> io::Error {
 
 /// An error if no file can have this name with `.cut` behind it, as the name is too long: what a crash leaves couldn't
 /// be kept.
-pub fn fits_beside<R: Files + AllocGlobal>(rt: &R, path: &str) -> io::Result<()> {
+fn fits_beside<R: Files + AllocGlobal>(rt: &R, path: &str) -> io::Result<()> {
     match fs::symlink_metadata(rt, beside(rt, path)?.as_str()) {
         Err(error) if error.kind() == io::ErrorKind::InvalidFilename => Err(of_beside(rt, error)),
         _ => Ok(()),
