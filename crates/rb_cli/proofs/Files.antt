@@ -6,8 +6,8 @@ use Rattle.std.proofs.lemmas.List.{append-nil, append_assoc}
 use Rattle.clap.specs.Lexer.{usize_max}
 use Rattle.clap.specs.Faults.{check_fault, defaults_fault, level_fault, settle_fault, step_fault, turn_fault, values_fault, walk_fault}
 use Rattle.clap.specs.Simple.{Shape, filled, with_index}
-use Rattle.clap.specs.Walk.{Row, Rule, Text, Walk, after_step, idle, nothing_held, positional}
-use Rattle.clap.specs.Walk.{rows_after, used, walk_from, walked, with_default}
+use Rattle.clap.specs.Walk.{Rule, Text, Walk, after_step, idle, nothing_held, positional}
+use Rattle.clap.specs.Walk.{rows_after, used, walked, with_default}
 use Rattle.clap.proofs.OnLiterals.{clap_on_literals}
 use Rattle.rb_cli.specs.Words.{AreValues, files_line, files_rule, texts_at}
 use Rattle.rb_cli.proofs.Closing.{in_range}

@@ -8,7 +8,7 @@ use Rattle.std.proofs.lemmas.Slice.Eq.{bytes_eq-Decides}
 use Rattle.clap.specs.Lexer.{long_of, short_of, without_minus}
 use Rattle.clap.specs.Kinds.{or_else}
 use Rattle.clap.specs.Faults.{check_fault, entered_fault, fault_of, level_fault, other_fault, step_fault, walk_fault, word_fault}
-use Rattle.clap.specs.Simple.{App, Shape, new_app, built, entered, label_of, names_of, built_leaf, filled, inherited}
+use Rattle.clap.specs.Simple.{App, Shape, built, entered, label_of, names_of, built_leaf, filled, inherited}
 use Rattle.clap.specs.Simple.{marked_built, rows_at, subcommand_of, with_index, with_leaf_noted}
 use Rattle.clap.specs.Takes.{is_given}
 use Rattle.clap.specs.Walk.{Held, Names, Outcome, Row, Rule, Step, Text, Waiting, Walk, after_flag, after_step}

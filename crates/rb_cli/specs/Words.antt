@@ -2,18 +2,19 @@
 use Rattle.std.specs.Prelude.{◌≡◌, ◌<◌, ◌≤◌, ◌+◌, ◌*◌, ◌^◌, ◌⊎◌, ℕ, pos, List, [], ◌∷◌, ◌++◌, length, map, take, drop, codes, decimal}
 use Rattle.std.specs.Prelude.{◌&&◌, Bool, true, false, is_some}
 use Rattle.std.specs.Option.{option_map_or}
-use Rattle.std.specs.Prelude.{Option, None, Some, IfSome, Result, if◌then◌else◌, option_map, slice_get, unwrap_or}
+use Rattle.std.specs.Prelude.{Option, None, Some, IfOk, IfSome, Result, if◌then◌else◌, option_map, slice_get, unwrap_or}
 use Rattle.std.specs.Borrow.{Bor}
 use Rattle.std.specs.Str.{bytes_eq}
 use Rattle.std.specs.Str.Parse.{IsNumeral, digits_value, without_leading_plus}
 use Rattle.clap.specs.Lexer.{usize_max}
 use Rattle.clap.specs.Kinds.{or_else}
 use Rattle.clap.specs.Words.{App, FailsBy, Kinds, Row, Rule, Shape, Text, all_of, fault_of, first_of, new_app, new_rule, one_of}
-use Rattle.clap.specs.Words.{subcommand_of, with_rule, with_subcommand}
+use Rattle.clap.specs.Words.{subcommand_of, subcommand_rows_of, with_rule, with_subcommand}
 use Rattle.clap.specs.declared.builder.action.ArgAction.TheVariants.{Append, SetTrue}
 use Rattle.clap.specs.declared.builder.value_parser.ValueParser.{ValueParser}
 use Rattle.clap.specs.declared.error.Error.{Error}
 use Rattle.clap.specs.declared.error.kind.ErrorKind.TheVariants.{ArgumentConflict}
+use Rattle.clap.specs.declared.parser.matches.ArgMatches.{ArgMatches}
 use Rattle.clap.specs.declared.builder.value_parser.ValueParser.TheVariants.{Names, Signed}
 use Rattle.rb_money.specs.declared.limits.TheConstants.{MOST_HISTORY, MOST_SITES}
 use Rattle.rb_cli.specs.declared.recorded.Record.{Record}
@@ -378,6 +379,12 @@ words_of_command name rows =
 abbrev pub words_of_matches : Option (Text × List Row) → Option Asked
 words_of_matches None = None
 words_of_matches (Some met) = words_of_command met.0 met.1
+
+-- what the command line found in the words, or refused them by: the command that they lead to, with its options
+abbrev pub IsMatch : List Text → Result ArgMatches Error → Type 0
+IsMatch words result = (names : TextRefs) × AreRecordWords names
+    × IfOk result (λ m. subcommand_rows_of m ≡ subcommand_of (command_line names) words)
+    × FailsBy (fault_of (command_line names) words) result
 
 -- the words are read as this
 abbrev pub AreReadAs : List Text → Words → Type 0

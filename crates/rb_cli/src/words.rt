@@ -1,11 +1,12 @@
 //! The request of a command line.
-ghost use Rattle.std.specs.Prelude.{◌≡◌, codes, map, option_map, IfErr, IfOk, IfSome, Some};
+ghost use Rattle.std.specs.Prelude.{◌≡◌, codes, map, option_map, IfErr, IfOk, IfSome, IsSome, Some};
 ghost use Rattle.clap.specs.Words.{FailsBy, found_of, kind_of, rows_of, subcommand_rows_of};
 ghost use Rattle.clap.specs.declared.error.kind.ErrorKind.TheVariants.{ArgumentConflict, OutOfMemory};
 ghost use Rattle.rb_cli.specs.Words.{AreFit, AreReadAs, Ask, FailsByWords, FitsWithin, HasSwitchWord, IsAsUsual};
-ghost use Rattle.rb_cli.specs.Words.{IsInRange, as_asked, choice_at, close_asked, conflict_of, names_bank_to_seal};
-ghost use Rattle.rb_cli.specs.Words.{number_at, of_input, record_of, seals_bank, site_asked, switch_at, task_asked};
-ghost use Rattle.rb_cli.specs.Words.{texts_at, threads_asked, words_of_command, words_of_matches};
+ghost use Rattle.rb_cli.specs.Words.{IsInRange, IsMatch, as_asked, choice_at, close_asked, conflict_of};
+ghost use Rattle.rb_cli.specs.Words.{names_bank_to_seal, number_at, of_input, record_of, seals_bank, site_asked};
+ghost use Rattle.rb_cli.specs.Words.{switch_at, task_asked, texts_at, threads_asked, words_of_command};
+ghost use Rattle.rb_cli.specs.Words.{words_of_matches};
 
 use crate::command_line::{command_line, site as site_line};
 use crate::{Record, Task, texts};
@@ -210,14 +211,11 @@ fn names_bank_to_seal(given: &ArgMatches) -> bool
     }
 }
 
-/// Whether the command that was met, with its options, names a bank to a seal.
-fn seals_bank(matches: &ArgMatches) -> bool
-    requires { IfSome (subcommand_rows_of matches.now) (λ met. AreFit met.0 met.1) }
-    ensures { result ≡ seals_bank (subcommand_rows_of matches.now) }
+/// Whether the command of this name, with its options, names a bank to a seal.
+fn seals_bank(name: &str, given: &ArgMatches) -> bool
+    requires { AreFit name.now (rows_of (found_of given.now)) }
+    ensures { result ≡ seals_bank (Some (name.now, rows_of (found_of given.now))) }
 {
-    let Some((name, given)) = matches.subcommand() else {
-        return false;
-    };
     match name {
         "site" => names_bank_to_seal(given),
         _ => false,
@@ -255,20 +253,31 @@ fn asked_of<'a>(
 }
 
 /// The request of the command that was met, with its options. It is refused if it names a bank to a seal.
-fn asked_by<'a>(alloc: Global, matches: &ArgMatches<'a>) -> Result<Option<Words<'a>>, Error>
-    requires { IfSome (subcommand_rows_of matches.now) (λ met. AreFit met.0 met.1) }
-    ensures ok { IfOk result
-        (λ asked. option_map as_asked asked ≡ words_of_matches (subcommand_rows_of matches.now)) }
+fn asked_by<'a>(alloc: Global, matches: &ArgMatches<'a>) -> Result<Words<'a>, Error>
+    requires asks { IsSome (words_of_matches (subcommand_rows_of matches.now)) }
+    requires fit { IfSome (subcommand_rows_of matches.now) (λ met. AreFit met.0 met.1) }
+    ensures ok { IfOk result (λ asked. Some (as_asked asked) ≡ words_of_matches (subcommand_rows_of matches.now)) }
     ensures kinds { FailsBy (conflict_of (subcommand_rows_of matches.now)) result }
 {
-    if seals_bank(matches) {
+    let Some((name, given)) = matches.subcommand() else {
+        unreachable!()
+    };
+    if seals_bank(name, given) {
         return Err(conflict(alloc)?);
     }
-    let Some((name, given)) = matches.subcommand() else {
-        return Ok(None);
-    };
-    let asked = asked_of(alloc, name, given)?;
-    Ok(asked)
+    match asked_of(alloc, name, given)? {
+        Some(asked) => Ok(asked),
+        None => unreachable!(),
+    }
+}
+
+/// What the command line finds in the words after the program's name: one of its commands, with the options that it
+/// needs.
+fn matched<'a>(alloc: Global, words: &'a [&'a str]) -> Result<ArgMatches<'a>, Error>
+    ensures { IsMatch (map (λ word. word.now) words.entry.now) result }
+{
+    let command = command_line(alloc)?;
+    command.try_get_matches_from(words)
 }
 
 /// The request of the words after the program's name. The error has the text to show: `ErrorKind::DisplayHelp` is help
@@ -286,12 +295,6 @@ pub fn read_words<'a>(alloc: Global, words: &'a [&'a str]) -> Result<Words<'a>, 
     ensures err { IfErr result
         (λ e. (asked : Words) → Ask (map (λ word. word.now) words.entry.now) asked → kind_of e ≡ OutOfMemory) }
 {
-    let mut command = command_line(alloc)?;
-    let matches = command.try_get_matches_from_mut(words)?;
-    let asked = asked_by(alloc, &matches)?;
-    match asked {
-        Some(asked) => Ok(asked),
-        // Words that the command line takes have one of its commands, with the options that it needs.
-        None => unreachable!(),
-    }
+    let matches = matched(alloc, words)?;
+    asked_by(alloc, &matches)
 }
