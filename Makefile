@@ -89,7 +89,7 @@ install:
 	@examples/tools/from_help.py "$(UNDER)/bin/rbbank" "$(UNDER)"
 	@examples/tools/from_format.py "$(UNDER)"
 	@install -d "$(UNDER)/share/rbbank"
-	@install -m 644 docs/FORMAT.md $(MODULES:%=examples/tools/%.py) "$(UNDER)/share/rbbank"
+	@install -m 644 docs/FORMAT.md examples/tools/commands.json $(MODULES:%=examples/tools/%.py) "$(UNDER)/share/rbbank"
 	@install -m 755 $(TOOLS:%=examples/tools/%.py) "$(UNDER)/share/rbbank"
 	@for tool in $(TOOLS); do ln -sf "../share/rbbank/$$tool.py" "$(UNDER)/bin/rbbank-$$tool" || exit 1; done
 

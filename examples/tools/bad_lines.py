@@ -14,7 +14,6 @@ LINE_LIMIT = 1_048_576
 ALIKE = 0.65  # how much a known word has to have of another one to be meant: "call" and "once" aren't "cancel"
 SITES_OF_VERSION = {1: 8, 2: 16}
 LIMITS = {"blue": 1_000_000, "red": 1_000_000, "inbox": 4_096, "history": 100_000_000, "epoch": 4_000_000_000}
-KINDS = ("deposit", "withdraw", "declined", "interest", "cancel", "transfer")
 CONFIGURATION = '{"accounts":[["ann",0]],"sites":2,"version":1}'
 MARKS = {b"\xef\xbb\xbf": "a byte-order mark", b"\xff\xfe": "a mark of UTF-16", b"\xfe\xff": "a mark of UTF-16"}
 NAMES = {"object": "an object", "list": "a list", "text": "a text", "number": "a number", "word": "a word"}
@@ -101,31 +100,25 @@ def members(node, what, checks, optional=()):
             raise Fault(node.end - 1, f'the key "{key}" of {what} is missing')
 
 
-CENTS = number("an amount in cents", LONG)
-REQUESTS = {
-    "deposit": items("[account, amount] of a deposit", text("the account"), CENTS),
-    "withdraw": items("[account, amount] of a withdrawal", text("the account"), CENTS),
-    "interest": items("[account, rate] of interest", text("the account"), number("a rate in basis points", WORD)),
-    "transfer": items("[from, to, amount] of a transfer", text("an account"), text("an account"), CENTS),
-    "cancel": name,
-}
-
-
 def request(node):
     """A request of a batch."""
     is_a(node, "object", "a request of a batch")
-    one_of(node, "a request of a batch", REQUESTS)
+    one_of(node, "a request of a batch", {verb: COMMANDS[verb] for verb in bank.REQUESTS})
 
 
-EVENTS = REQUESTS | {
-    "batch": every("a batch", request),
-    "apply": name,
-    "pass": number("the site that the token is passed to", BYTE),
-    "balance": text("the account"),
-    "asof": items("[account, position] of asof", text("the account"), number("a position", WORD)),
-    "statement": text("the account"),
-}
-COMMANDS = EVENTS | {"deliver": number("a message's number", WORD)}
+def value(verb, takes):
+    """A check for a command's value."""
+    of_account = text("an account" if "to" in takes else "the account")
+    checks = [FIELDS.get(field, of_account) for field in takes]
+    return items(bank.COMMANDS[verb]["list"], *checks) if len(checks) > 1 else checks[0]
+
+
+CENTS = number("an amount in cents", LONG)
+FIELDS = {"cents": CENTS, "rate": number("a rate in basis points", WORD), "name": name,
+          "requests": every("a batch", request), "next": number("the site that the token is passed to", BYTE),
+          "position": number("a position", WORD), "message": number("a message's number", WORD)}
+COMMANDS = {verb: value(verb, takes) for verb, takes in bank.TAKES.items()}
+EVENTS = {verb: check for verb, check in COMMANDS.items() if verb != "deliver"}
 QUESTIONS = {"about": word("thing to ask about", ("site",)),
              "resend": number("the number of entries", LIMITS["history"])}
 WHYS = {6: ["position"], 9: ["seen", "needed"], 13: ["index", "cause"], 17: ["why"]}
@@ -216,7 +209,7 @@ def shadow(version):
         kind = node.get("kind")
         clock = items("the clock", counts(version), number("the number of red operations", WORD))
         checks = {"account": text("the account"), "amount": CENTS, "deps": clock, "home": number("the home", BYTE),
-                  "kind": word("kind", KINDS), "name": name}
+                  "kind": word("kind", bank.KINDS), "name": name}
         if kind and kind.value == "cancel":
             checks["target"] = name
         if kind and kind.value == "transfer":
@@ -249,7 +242,7 @@ def flag(node):
 
 
 MOVED = number("what a row moved", 2**63 - 1, -(2**63), sign=True)
-ROW = items("a row", number("a position", WORD), name, word("kind", KINDS), MOVED, flag, number("a balance", LONG))
+ROW = items("a row", number("a position", WORD), name, word("kind", bank.KINDS), MOVED, flag, number("a balance", LONG))
 EPOCH = number("an epoch", WORD)
 REPLIES = {
     "held": name,
@@ -268,7 +261,7 @@ def reply(node):
     if "refused" in node.members:
         refused(node)
     elif "kind" in node.members or "name" in node.members:
-        members(node, "what was made", {"kind": word("kind", KINDS), "name": name})
+        members(node, "what was made", {"kind": word("kind", bank.KINDS), "name": name})
     elif "rows" in node.members or "start" in node.members:
         cents = number("a balance", LONG)
         members(node, "a statement", {"start": cents, "rows": every("the value of rows", ROW), "balance": cents})
@@ -304,7 +297,7 @@ def site_line(node, version):
     one_of(node, "an event", EVENTS | receipts(version) | QUESTIONS, beside)
     if beside:
         id_of(node.get("id"))
-        if not set(node.members) & {*REQUESTS, "batch"}:
+        if not set(node.members) & {*bank.REQUESTS, "batch"}:
             raise Fault(node.members["id"][0], "an id is that of an operation or a batch that is asked for")
 
 

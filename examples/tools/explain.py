@@ -42,16 +42,11 @@ def options():
 
 
 def request(event):
-    """A request in words."""
-    if "transfer" in event:
-        return "transfer {2} from {0} to {1}".format(*event["transfer"])
-    if "interest" in event:
-        return f"interest of {event['interest'][1] / 100:g} % for {event['interest'][0]}"
-    if "cancel" in event:
-        return f"cancel {event['cancel']}"
-    if "deposit" in event:
-        return "deposit {1} to {0}".format(*event["deposit"])
-    return "withdraw {1} from {0}".format(*event["withdraw"])
+    """A request in words, or another command that has some."""
+    found = bank.fields(event)
+    if "rate" in found:
+        found["rate"] = f"{found['rate'] / 100:g} %"
+    return next(row["words"] for verb, row in bank.COMMANDS.items() if verb in event).format(**found)
 
 
 def message(found, step):
@@ -71,10 +66,6 @@ def asked(found, step):
         return f"{message(found, step)} comes"
     if step.verb == "batch":
         return f"a batch: {'; '.join(map(request, event['batch'])) or 'no request'}"
-    words = {"apply": "apply {}", "pass": "pass the token to site {}", "balance": "the balance of {}",
-             "statement": "the statement of {}"}
-    if step.verb in words:
-        return words[step.verb].format(event[step.verb])
     if step.verb == "asof":
         account, count = event["asof"]
         when = {0: "before the first operation", 1: "after the first operation"}

@@ -3,17 +3,21 @@
 
 usage: from_help.py PROGRAM PREFIX     writes them below PREFIX: share/man, share/bash-completion, share/zsh, share/fish
        from_help.py --check [PROGRAM]  makes them from the help in tests/help, and compares them with what is there;
-                                       with PROGRAM it also compares that help with the program's own
+                                       with PROGRAM it also compares that help with the program's own; beside it
+                                       commands.json is compared with the commands and kinds that the program has
        from_help.py --write PROGRAM    stores the program's help in tests/help, and what is made from it
 
 It asks for `PROGRAM --help`, and for `PROGRAM WORD --help` of each command that is listed there. --check ends in 1
 where something differs.
 """
+import json
 import os
 import re
 import subprocess
 import sys
 from typing import NamedTuple, Optional
+
+import bank
 
 ROOT = os.path.dirname(os.path.dirname(os.path.dirname(os.path.abspath(__file__))))
 STORED = os.path.join(ROOT, "tests", "help")
@@ -317,6 +321,18 @@ BASH_CASES = [
 ]
 
 
+def other_commands(page):
+    """The commands and kinds that commands.json has otherwise than this page and tests/cases."""
+    examples = page.split("The commands, an example each.")[1].split("\n\n")[1]
+    shown = {verb: tuple(map(type, value if isinstance(value, list) and verb != "batch" else [value]))
+             for line in re.findall(r"(?m)^  (\{.*?\})(?: |$)", examples)
+             for verb, value in json.loads(line).items() if verb != "site"}
+    types = {"account": str, "to": str, "name": str, "requests": list}
+    known = {verb: tuple(types.get(field, int) for field in takes) for verb, takes in bank.TAKES.items()}
+    kinds = re.search("is no kind: there are: (.*)", read(os.path.join(ROOT, "tests", "cases", "reasons.cases")))[1]
+    return {verb for verb, _ in shown.items() ^ known.items()} | set(kinds.split(", ")) ^ set(bank.KINDS)
+
+
 def differences(program):
     """The names of what differs."""
     texts = stored()
@@ -325,7 +341,7 @@ def differences(program):
     if program:
         now = asked(program)
         found += [f"{name}.txt" for name in {**texts, **now} if texts.get(name) != now.get(name)]
-    return found
+    return found + [f"{verb} of commands.json" for verb in other_commands(texts["script"])]
 
 
 def main(words):
@@ -335,7 +351,7 @@ def main(words):
     if words[:1] == ["--check"] and len(words) <= 2:
         found = differences(words[1] if len(words) == 2 else None)
         for name in found:
-            print(f"DIFFERENT {name}: tests/help isn't what is made now; see from_help.py --write")
+            print(f"DIFFERENT {name}: not as the program has it now; see from_help.py --help")
         return 1 if found else 0
     if words[:1] == ["--write"] and len(words) == 2:
         texts = asked(words[1])

@@ -17,6 +17,8 @@ import re
 import sys
 import textwrap
 
+import bank
+
 EXAMPLES = os.path.dirname(os.path.dirname(os.path.abspath(__file__)))
 ROOT = os.path.dirname(EXAMPLES)
 SCRIPTS = os.path.join(EXAMPLES, "scripts")
@@ -115,14 +117,15 @@ class Bank:
     def place(self, name):
         return self.places.get(name, "NOWHERE")
 
+    def asking(self, name, asked):
+        """The term of this name for what is asked."""
+        terms = {"account": self.place, "to": self.place, "name": name_of, "cents": lambda n: part(over(n, CENTS)),
+                 "rate": lambda n: part(over(n, RATE))}
+        values = (terms.get(field, str)(value) for field, value in bank.fields(asked).items())
+        return f"({' '.join([name, *values])})"
+
     def request(self, asked):
-        ((kind, given),) = asked.items()
-        if kind == "cancel":
-            return f"(AskCancel {name_of(given)})"
-        if kind == "transfer":
-            return f"(AskTransfer {self.place(given[0])} {self.place(given[1])} {part(over(given[2], CENTS))})"
-        amount = over(given[1], RATE if kind == "interest" else CENTS)
-        return f"(Ask{kind.capitalize()} {self.place(given[0])} {part(amount)})"
+        return self.asking(f"Ask{''.join(asked).capitalize()}", asked)
 
     def shadow(self, it):
         blue, red = it["deps"]
@@ -148,15 +151,9 @@ class Bank:
             return f"(Receive (TokenOnItsWay (record {{ epoch = {epoch}; to = {to}; red = {red} }})))"
         if kind == "batch":
             return f"(Batch ({listed(map(self.request, given))}))"
-        if kind == "apply":
-            return f"(Apply {name_of(given)})"
-        if kind == "pass":
-            return f"(Pass {given})"
-        if kind == "asof":
-            return f"(AsOf {self.place(given[0])} {given[1]})"
-        if kind in ("balance", "statement"):
-            return f"({'Balance' if kind == 'balance' else 'AskStatement'} {self.place(given)})"
-        return f"(Submit {self.request(asked)})"
+        if kind in bank.REQUESTS:
+            return f"(Submit {self.request(asked)})"
+        return self.asking({"asof": "AsOf", "statement": "AskStatement"}.get(kind, kind.capitalize()), asked)
 
     def command(self, line):
         asked = json.loads(line)

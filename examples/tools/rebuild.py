@@ -199,14 +199,11 @@ class Rebuilding:
 
     def request(self, shadow: Json) -> Json:
         """A request of which the lost site makes this operation."""
-        kind, account, amount = shadow["kind"], shadow["account"], shadow["amount"]
-        if kind == "cancel":
-            return {"cancel": shadow["target"]}
-        if kind == "transfer":
-            return {"transfer": [account, shadow["to"], amount]}
-        if kind == "interest":
-            return {"interest": [account, self.rate(account, amount)]}
-        return {"withdraw" if kind == "declined" else kind: [account, amount]}
+        verb = "withdraw" if shadow["kind"] == "declined" else shadow["kind"]
+        values = shadow | {"cents": shadow["amount"], "name": shadow.get("target")}
+        if "rate" in bank.TAKES[verb]:
+            values["rate"] = self.rate(shadow["account"], shadow["amount"])
+        return bank.command(verb, values)
 
     def rate(self, account: str, amount: int) -> int:
         """The least rate at which the balance brings this interest, if any brings it."""

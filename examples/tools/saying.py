@@ -2,7 +2,7 @@
 import re
 from typing import NamedTuple
 
-from bank import refusal
+from bank import TAKES, fields, refusal
 
 
 class Said(NamedTuple):
@@ -27,14 +27,9 @@ def colour_of(name):
 
 def request(event):
     """A request in short."""
-    if "transfer" in event:
-        return "transfer {} → {} {}".format(*event["transfer"])
-    if "interest" in event:
-        return f"interest {event['interest'][0]} {event['interest'][1] / 100:g}\u00a0%"
-    if "cancel" in event:
-        return f"cancel {event['cancel']}"
-    verb = next(verb for verb in ("deposit", "withdraw") if verb in event)
-    return f"{verb} {event[verb][0]} {event[verb][1]}"
+    said = {"rate": lambda rate: f"{rate / 100:g}\u00a0%", "to": lambda account: f"→ {account}"}
+    parts = (said.get(field, str)(part) for field, part in fields(event).items())
+    return " ".join([next(verb for verb in TAKES if verb in event), *parts])
 
 
 def asked(step):
@@ -45,10 +40,8 @@ def asked(step):
         "deliver": lambda: f"message {event['deliver']}",
         "shadow": lambda: f"{event['shadow']['name']} comes",
         "token": lambda: f"token {event['token'][0]} comes",
-        "apply": lambda: f"apply {event['apply']}",
         "pass": lambda: f"pass to site {event['pass']}",
         "balance": lambda: event["balance"],
-        "statement": lambda: f"statement {event['statement']}",
         "asof": lambda: "{} after {}".format(*event["asof"]),
     }
     return short[verb]() if verb in short else request(event)

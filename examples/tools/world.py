@@ -9,10 +9,9 @@ import json
 from collections import Counter
 from dataclasses import dataclass, field
 
-from bank import compact
+from bank import TAKES, compact, fields
 
-REQUESTS = ("deposit", "withdraw", "interest", "transfer", "cancel")
-VERBS = (*REQUESTS, "batch", "deliver", "apply", "pass", "balance", "asof", "statement", "shadow", "token")
+VERBS = (*TAKES, "shadow", "token")
 LARGEST_HISTORY = 100_000_000
 
 
@@ -95,14 +94,9 @@ def are_histories(lines):
 
 def named_in(event):
     """The accounts that an event names."""
-    for verb in ("deposit", "withdraw", "interest", "balance", "statement", "asof"):
-        if verb in event:
-            yield event[verb] if isinstance(event[verb], str) else event[verb][0]
-    if "transfer" in event:
-        yield from event["transfer"][:2]
-    if "shadow" in event:
-        yield from (event["shadow"][key] for key in ("account", "to") if key in event["shadow"])
-    for request in event.get("batch", []):
+    found = fields(event) | event.get("shadow", {})
+    yield from (found[key] for key in ("account", "to") if key in found)
+    for request in found.get("requests", []):
         yield from named_in(request)
 
 
@@ -309,18 +303,17 @@ def made_as(world, queues, at, name):
     """What is known of an operation from the entry that made it, by the keys of a received operation."""
     step = world.steps[at]
     request = step.event["batch"][step.changed.index(name)] if "batch" in step.event else step.event
-    verb = next(verb for verb in VERBS if verb in request)
+    verb, found = next(verb for verb in VERBS if verb in request), fields(request)
     known = {"kind": step.reply.get("kind", verb), "deps": clock_before(world, queues[step.site], step, name)}
-    if verb == "cancel":
-        target = next((n for n, (_, what) in enumerate(world.senders) if what == request["cancel"]), None)
+    if "name" in found:
+        target = next((n for n, (_, what) in enumerate(world.senders) if what == found["name"]), None)
         of_target = made_as(world, queues, *world.senders[target]) if target is not None else {}
         money = {key: of_target[key] for key in ("account", "amount") if key in of_target}
-        return known | {"target": request["cancel"]} | money
-    if known["kind"] == "transfer":
-        known["to"] = request["transfer"][1]
-    if verb == "interest":
-        return known | {"account": request[verb][0]} | {"amount": row[2] for row in step.rows.get(name, [])}
-    return known | {"account": request[verb][0], "amount": request[verb][-1]}
+        return known | {"target": found["name"]} | money
+    if "to" in found and known["kind"] == verb:
+        known["to"] = found["to"]
+    amounts = [found["cents"]] if "cents" in found else [row[2] for row in step.rows.get(name, [])]
+    return known | {"account": found["account"]} | {"amount": amount for amount in amounts}
 
 
 def difference(world, queues, step):
