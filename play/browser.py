@@ -22,10 +22,6 @@ except ImportError:
     sys.exit(77)
 
 Json = dict[str, Any]
-FIELDS = {
-    "deposit": ["account", "cents"], "withdraw": ["account", "cents"], "interest": ["account", "rate"],
-    "transfer": ["account", "to", "cents"], "cancel": ["name"], "pass": ["next"], "balance": ["account"],
-    "statement": ["account"], "asof": ["account", "position"]}
 # what the page's own files know, for questions
 INSIDE = ("import * as state from '/state.js'; import * as program from '/program.js'; "
           "import * as basics from '/basics.js'; window.inside = {...state, ...program, ...basics};")
@@ -165,9 +161,8 @@ class Page:
         value = command[verb]
         if not self.all("#act [data-field]"):
             return self.typed(command)
-        for key, each in zip(FIELDS[verb], value if isinstance(value, list) else [value]):
-            if not self.put(key, each):
-                return self.typed(command)
+        if not all(self.put(key, each) for key, each in bank.fields(command).items()):
+            return self.typed(command)
         return self.sent()
 
     def batch(self, command: Json) -> str:
@@ -176,9 +171,8 @@ class Page:
         self.one(f"#act [data-site='{command['site']}']").click()
         self.one("#act [data-verb='batch']").click()
         for each in command["batch"]:
-            (verb, value), = each.items()
-            self.one(f"#act [data-verb='{verb}']").click()
-            if not all(self.put(key, part) for key, part in zip(FIELDS[verb], value)):
+            self.one(f"#act [data-verb='{''.join(each)}']").click()
+            if not all(self.put(key, part) for key, part in bank.fields(each).items()):
                 self.one("#act [data-verb='batch']").click()
                 return self.typed(command)
             self.one("#do").click()

@@ -6,6 +6,7 @@ had. If the page goes back, it is started again on fewer lines: the replies to a
 
   GET  /, /page.css, /*.js     the page           POST /world         a script or histories: what happened, as JSON
   GET  /puzzles.json           its puzzles        POST /histories     a script: the histories of its sites
+  GET  /commands.js            what can be asked
   GET  /examples               what examples/ has POST /migrated      histories of version 1, in version 2
   GET  /examples/NAME          its text           POST /picture       a script or histories: as draw.py draws it
                                                   POST /crash/SITE    a script: its site, started from its journal
@@ -121,6 +122,8 @@ class Handler(http.server.BaseHTTPRequestHandler):
             self.answer(json.dumps(asked), "application/json")
         elif example:
             self.answer(bank.read(example["file"]).decode("utf-8", "replace"))
+        elif name == "commands.js":
+            self.answer(f"export default {json.dumps(bank.COMMANDS)};", KINDS[".js"])
         elif name in os.listdir(PAGE):
             self.answer(bank.read(os.path.join(PAGE, name)).decode(), KINDS[os.path.splitext(name)[1]])
         else:

@@ -2,16 +2,11 @@
 import {$, escaped, lineOf} from './basics.js';
 import {S, accounts, described, fold} from './state.js';
 import {act} from './program.js';
+import COMMANDS from './commands.js';
 
 const MOST_OPTIONS = 40; // accounts in a list to choose from; more are typed, with hints
-export const VERBS = [['deposit', 'd'], ['interest', 'i'], ['withdraw', 'w'], ['transfer', 't'], ['cancel', 'c'],
-  ['pass', 'p'], ['balance', 'b'], ['asof', 'o'], ['statement', 's'], ['batch', 'm']];
-const REQUESTS = VERBS.slice(0, 5).map(([verb]) => verb);
-const FIELDS = {
-  deposit: ['account', 'cents'], withdraw: ['account', 'cents'], interest: ['account', 'rate'], cancel: ['name'],
-  transfer: ['account', 'to', 'cents'], pass: ['next'], balance: ['account'], statement: ['account'],
-  asof: ['account', 'position'],
-};
+export const VERBS = Object.entries(COMMANDS).filter(([, {key}]) => key).map(([verb, {key}]) => [verb, key]);
+export const isRequest = (verb) => 'moves' in COMMANDS[verb];
 const TEXTS = ['account', 'to', 'name']; // fields that are texts in a line
 
 function pick(key, values, named = (each) => each) {
@@ -71,23 +66,23 @@ export function drawForm() {
 }
 function drawFields() {
   const sites = Array.from({length: S.world.config.sites}, (_, at) => at), known = fields(sites);
-  const isRequest = REQUESTS.includes(S.verb), names = accounts();
-  const does = S.batch ? isRequest ? 'Add it' : 'Not in a batch' : 'Do it';
+  const isOut = Boolean(S.batch) && !isRequest(S.verb), names = accounts();
+  const does = isOut ? 'Not in a batch' : S.batch ? 'Add it' : 'Do it';
   const all = names.length > MOST_OPTIONS ? `<datalist id="names-of-all">${names.map((name) =>
     `<option value="${escaped(name)}">`).join('')}</datalist>` : '';
-  $('act').innerHTML = `${siteButtons(sites)}${verbButtons()}<div class="fields">${FIELDS[S.verb].map((key) =>
+  $('act').innerHTML = `${siteButtons(sites)}${verbButtons()}<div class="fields">${COMMANDS[S.verb].takes.map((key) =>
     known[key]()).join('')}${all}</div><input id="line" class="mono" aria-label="The line" spellcheck="false">
     <div class="bar tight"><button class="on" id="do">${does} ⏎</button>${S.batch
       ? '<button type="button" id="make">Make the batch</button>' : ''}<span class="gap"></span>
       <button type="button" id="crash" title="end site ${S.site}, and start it from its journal (x)">crash</button>
       <button type="button" id="everything">deliver everything</button></div>`;
-  $('do').disabled = Boolean(S.batch) && !isRequest;
+  $('do').disabled = isOut;
   $('act').inert = S.text !== null;
   spell();
 }
 /** What the form says, as the text of a request or a question. */
 function asked() {
-  const parts = FIELDS[S.verb].map((key) => {
+  const parts = COMMANDS[S.verb].takes.map((key) => {
     const value = document.querySelector(`#act [data-field=${key}]`)?.value.trim() ?? '';
     return TEXTS.includes(key) ? JSON.stringify(value) : value;
   });

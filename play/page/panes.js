@@ -2,8 +2,11 @@
 import {$, escaped, shape, sorted} from './basics.js';
 import {S} from './state.js';
 import {drawPuzzles} from './puzzles.js';
+import {VERBS, isRequest} from './form.js';
 
-const KEYS = [['0 … 9', 'choose a site'], ['d i w t c', 'deposit, interest, withdraw, transfer, cancel'],
+const requests = VERBS.filter(([verb]) => isRequest(verb));
+const KEYS = [['0 … 9', 'choose a site'],
+  [requests.map(([, key]) => key).join(' '), requests.map(([verb]) => verb).join(', ')],
   ['p b o s', 'pass the token; balance, as of, statement'], ['m', 'begin a batch, or leave it'],
   ['Enter', 'do what the form says'], ['n', 'the next message comes to the chosen site'],
   ['y', 'apply what is ready there'],

@@ -40,11 +40,9 @@ export function past(name) {
 }
 export const isBefore = (one, name) => number(one) <= (past(name)[maker(one)] || 0);
 export function described(name) {
-  const known = S.world.operations[name];
-  if (!known) return '';
-  if (known.kind === 'cancel') return `cancel of ${known.target}`;
-  if (known.kind === 'transfer') return `transfer ${known.account} → ${known.to} ${known.amount}`;
-  return `${known.kind} ${known.account} ${known.amount ?? ''}`;
+  const {kind, account, to, target, amount} = S.world.operations[name] ?? {};
+  if (target) return `${kind} of ${target}`;
+  return kind ? `${kind} ${account} ${to ? `→ ${to} ` : ''}${amount ?? ''}` : '';
 }
 /** The operations that a site has to apply before this one, the first 20 of each maker. */
 export const waits = (site, name) => Object.entries(past(name)).flatMap(([who, n]) => {
