@@ -2,7 +2,8 @@
 """Compares the two ways in which `rbbank` reads a command and an entry of a history: in one pass, and by JSON values.
 
 Odd lines go through the program as they are, and again with a space in front of each, which changes no line's meaning
-and which the reading in one pass doesn't know. What is written, the message and the status have to be the same.
+and which the reading in one pass doesn't know. What is written, the message and the status have to be the same,
+but for the lines below the message, which name a column.
 A script or an audit ends at its first bad line, so the lines behind it go into the next.
 """
 import argparse
@@ -152,7 +153,7 @@ class Odd:
 def answer(args, lines, front):
     told = CONFIG + b"".join(front + line + b"\n" for line in lines)
     done = subprocess.run([args.program, args.command], input=told, capture_output=True)
-    return done.stdout, done.stderr, done.returncode
+    return done.stdout, done.stderr.partition(b"\n")[0], done.returncode
 
 
 def main():
