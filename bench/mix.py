@@ -6,9 +6,9 @@ is accepted but for those that repeat. A command costs the same time here howeve
 import random
 
 from limits import LIMITS
+from bank import COMMANDS
 
 MOST = LIMITS["MOST_CENTS"]
-VERBS = ("deposit", "withdraw", "interest", "cancel", "balance", "pass", "transfer")
 DEFAULT_MIX = "deposit=6,withdraw=3,interest=1,cancel=1,balance=4,pass=1,transfer=1"
 # Of the deliveries, one in this number is of a message that came before.
 REPEATS = 50
@@ -70,17 +70,11 @@ class Site:
 
     def changes(self, operation):
         """The accounts on which the operation would move something here, and what."""
-        if operation.kind == "declined":
-            return []
-        if operation.kind == "withdraw":
-            return [(operation.account, -operation.amount)]
-        if operation.kind == "transfer":
-            return [(operation.account, -operation.amount), (operation.to, operation.amount)]
-        if operation.kind != "cancel":
-            return [(operation.account, operation.amount)]
-        if operation.target.name in self.cancelled:
-            return []
-        return [(account, -moved) for account, moved in self.changes(operation.target)]
+        if operation.kind == "cancel":
+            is_gone = operation.target.name in self.cancelled
+            return [] if is_gone else [(account, -moved) for account, moved in self.changes(operation.target)]
+        moved = COMMANDS[operation.kind]["moves"] * operation.amount
+        return [(operation.account, moved)] + ([] if operation.to is None else [(operation.to, -moved)])
 
     def apply(self, operation):
         for account, moved in self.changes(operation):
@@ -252,8 +246,8 @@ class Mix:
 def weights_of(text):
     """The weights that a text such as `deposit=6,balance=4` gives."""
     pairs = [part.split("=") for part in text.split(",")]
-    if any(len(pair) != 2 or pair[0] not in VERBS or not pair[1].isdigit() for pair in pairs):
-        raise ValueError(f"weights of {', '.join(VERBS)} are wanted, as {DEFAULT_MIX}")
+    if any(len(pair) != 2 or not hasattr(Mix, f"make_{pair[0]}") or not pair[1].isdigit() for pair in pairs):
+        raise ValueError(f"weights are wanted, as {DEFAULT_MIX}")
     return {verb: int(weight) for verb, weight in pairs}
 
 

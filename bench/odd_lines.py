@@ -14,6 +14,7 @@ import sys
 
 sys.dont_write_bytecode = True
 from limits import LIMITS
+from bank import KINDS, REQUESTS, TAKES
 
 CONFIG = b'{"accounts":[["ann",500],["bob",0]],"sites":3,"version":1}\n'
 NUMBERS = ["0", "1", "2", "7", "50", "255", "256", "4294967295", "4294967296",
@@ -22,10 +23,8 @@ NUMBERS = ["0", "1", "2", "7", "50", "255", "256", "4294967295", "4294967296",
 ODD_NUMBERS = ["-1", "-0", "01", "1.0", "1e2", "1E0", "+1", "0x1", "", "null", "true", '"1"', "[1]"]
 NAMES = ["ann", "bob", "eve", "", "a b", "\u00e9", "B0.1", "R1", "\u007f"]
 OPERATIONS = ["B0.1", "B0.2", "B1.1", "R1", "R2", "B00.1", "r1", "B255.4294967295", "B256.1", "R4294967296", "R0", ""]
-PAIRS = ["deposit", "withdraw", "interest", "asof"]
-REQUESTS = ["deposit", "withdraw", "interest", "cancel", "transfer"]
-KEYS = PAIRS + ["cancel", "transfer", "apply", "balance", "statement", "pass", "deliver", "batch"]
-LABELS = ["deposit", "withdraw", "declined", "interest", "cancel", "transfer", "lend"]
+KEYS = list(TAKES)
+LABELS = [*KINDS, "lend"]
 # What replies tell: the kinds of their members' values, by their keys.
 REPLIES = [{"kind": "label", "name": "name"}, {"held": "name"}, {"already": "name"}, {"applied": "name"},
            {"names": "names"}, {"taken": "number"}, {"stale": "number"}, {"passed": "number"}, {"balance": "number"},
@@ -68,18 +67,16 @@ class Odd:
         told = [self.text(key) + self.gap() + ":" + self.gap() + value for key, value in members]
         return "{" + self.gap() + (self.gap() + "," + self.gap()).join(told) + self.gap() + "}"
 
-    def value(self, key):
-        if key == "batch":
+    def field(self, field):
+        if field == "requests":
             count = self.random.randrange(4)
             return self.listed([self.members([self.member(self.random.choice(REQUESTS))]) for _ in range(count)])
-        if key in PAIRS:
-            return self.listed([self.text(self.random.choice(NAMES)), self.number()])
-        if key == "transfer":
-            names = [self.text(self.random.choice(NAMES)) for _ in range(1 if self.one_in(40) else 2)]
-            return self.listed([*names, self.number()])
-        if key in ("pass", "deliver"):
-            return self.number()
-        return self.text(self.random.choice(OPERATIONS if key in ("cancel", "apply") else NAMES))
+        names = {"account": NAMES, "to": NAMES, "name": OPERATIONS}.get(field)
+        return self.text(self.random.choice(names)) if names else self.number()
+
+    def value(self, key):
+        parts = list(map(self.field, TAKES[key]))
+        return parts[0] if len(parts) == 1 else self.listed(parts[1:] if self.one_in(40) else parts)
 
     def member(self, key):
         return key, self.value(self.random.choice(KEYS) if self.one_in(60) else key)
@@ -91,7 +88,7 @@ class Odd:
             "name": lambda: self.text(self.random.choice(OPERATIONS if self.one_in(20) else OPERATIONS[:5])),
             "names": lambda: self.listed([self.part("name") for _ in range(self.random.randrange(3))]),
             "account": lambda: self.text(self.random.choice(NAMES + ["?"])),
-            "label": lambda: self.text(self.random.choice(LABELS if self.one_in(20) else LABELS[:6])),
+            "label": lambda: self.text(self.random.choice(LABELS if self.one_in(20) else KINDS)),
             "refusal": lambda: str(self.random.randrange(26)),
             "cause": lambda: self.part("label" if self.one_in(2) else "number"),
             "deps": lambda: self.listed([self.part("counts"), self.part("number")]),

@@ -12,28 +12,17 @@ import sys
 import tempfile
 
 sys.dont_write_bytecode = True
+import limits  # noqa: F401  (which finds bank.py)
 import measure
+from bank import KINDS, TAKES, command
 
 COPIES = 200
-LABELS = ["deposit", "withdraw", "declined", "interest", "cancel", "transfer"]
-# What is a command and an event, what is a command alone, and an event alone.
-ASKED = [
-    {"deposit": ["ann", 5]},
-    {"withdraw": ["ann", 5]},
-    {"interest": ["ann", 50]},
-    {"cancel": "B1.1"},
-    {"transfer": ["ann", "bob", 5]},
-    {"batch": [{"deposit": ["ann", 5]}, {"cancel": "R1"}]},
-    {"apply": "B1.1"},
-    {"pass": 1},
-    {"balance": "ann"},
-    {"asof": ["ann", 0]},
-    {"statement": "bob"},
-]
-DELIVERY = {"deliver": 1}
-TOKEN = {"token": [1, 1, 0]}
+VALUES = {"account": "ann", "to": "bob", "cents": 5, "rate": 50, "name": "B1.1", "next": 1, "position": 0, "message": 1,
+          "requests": [{"deposit": ["ann", 5]}, {"cancel": "R1"}]}
+COMMANDS = {verb: command(verb, VALUES) for verb in TAKES}
+EVENTS = {key: event for key, event in COMMANDS.items() if key != "deliver"} | {"token": {"token": [1, 1, 0]}}
 REPLIES = [
-    *({"kind": label, "name": "B0.1"} for label in LABELS),
+    *({"kind": kind, "name": "B0.1"} for kind in KINDS),
     {"names": ["B0.1", "R1"]},
     {"held": "B0.1"},
     {"already": "B0.1"},
@@ -43,7 +32,7 @@ REPLIES = [
     {"passed": 1},
     {"balance": 5},
     {"balance": 0, "rows": [], "start": 0},
-    *({"balance": 5, "rows": [[1, "R1", label, -5, False, 5]], "start": 0} for label in LABELS),
+    *({"balance": 5, "rows": [[1, "R1", kind, -5, False, 5]], "start": 0} for kind in KINDS),
     {"refused": 1},
     {"position": 1, "refused": 6},
     {"needed": 1, "refused": 9, "seen": 0},
@@ -74,15 +63,15 @@ def repeated(version):
 
 def forms():
     """Of each form the program's command, the version of the lines, the lines before, and the line."""
-    for command in [*ASKED, DELIVERY]:
-        yield "script", 1, [], command | {"site": 0}
-        yield "script", 1, [], {"site": 0} | command
-    for event in [*ASKED, TOKEN]:
+    for asked in COMMANDS.values():
+        yield "script", 1, [], asked | {"site": 0}
+        yield "script", 1, [], {"site": 0} | asked
+    for event in EVENTS.values():
         yield "migrate", 1, [], entry(event, {"refused": 1})
     for reply in REPLIES:
         yield "migrate", 1, [], entry({"pass": 1}, reply)
     for version in (1, 2):
-        for label in LABELS:
+        for label in KINDS:
             yield "migrate", version, [], entry(shadow(version, label), {"held": "B0.1"})
         yield "audit", version, *repeated(version)
 
