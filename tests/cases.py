@@ -52,7 +52,7 @@ TELLERS_BANK = (
     '{"accounts":[["a0",1000],["a1",1000],["a2",1000],["a3",1000]],'
     '"blue":1000000,"epoch":4000000000,"history":100000000,"inbox":4096,"red":1000000'
 )
-CALL = re.compile(r'\{"event":\{"(deposit|withdraw|interest|cancel|pass)"')
+CALL = re.compile(r'\{"event":\{"(?!apply"|shadow"|token")')
 # an operation that a site made or applied: which of the two, the operation's name and the site's number
 HAS = re.compile(r'"reply":\{"(applied|kind":"\w+","name)":"([^"]+)"\},"site":(\d+)\}$')
 TOKEN = re.compile(r'"reply":\{"(passed|taken)":(\d+)\}')

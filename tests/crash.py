@@ -35,6 +35,9 @@ import books
 import lost_disk
 from site_process import Failed, Site, compact, name_of, names_of, read, without_bank
 
+sys.path.append(os.path.join(books.ROOT, "examples", "tools"))
+from bank import COMMANDS, REQUESTS, command  # noqa: E402
+
 LOST, REPEATED = 0.05, 0.1  # of the messages, how many the router loses, and how many it delivers once more
 LONGEST = 300  # messages on their way to a site, beyond which the router loses them
 MOST_BYTES = 40_000  # of the lines that are given at once, so that a pipe takes them
@@ -72,19 +75,11 @@ class Clients:
         self.operations = {}    # what requests made, by the operations' names, as their answers have them
 
     def request(self, site):
-        pick, accounts = self.pick, list(self.starts)
-        account = pick.choice(accounts)
-        weights = [4, 4, 1, 3, 3] if site == self.holder else [6, 1, 1, 1, 1]
-        verb = pick.choices(["deposit", "withdraw", "interest", "transfer", "cancel"], weights)[0]
-        if verb == "cancel" and self.names:
-            return {"cancel": pick.choice(self.names[-40:])}
-        if verb == "transfer":
-            return {"transfer": [account, pick.choice(accounts), pick.randrange(400)]}
-        if verb == "withdraw":
-            return {"withdraw": [account, pick.randrange(400)]}
-        if verb == "interest":
-            return {"interest": [account, pick.randrange(30)]}
-        return {"deposit": [account, 1 + pick.randrange(900)]}
+        pick, accounts, names = self.pick, list(self.starts), self.names[-40:] or ["B0.1"]
+        weights = [4 if verb == "deposit" or site == self.holder else 1 for verb in REQUESTS]
+        values = {"account": pick.choice(accounts), "to": pick.choice(accounts), "cents": pick.randrange(600),
+                  "rate": pick.randrange(30), "name": pick.choice(names)}
+        return command(pick.choices(REQUESTS, weights)[0], values)
 
     def asked(self, request):
         """A request with an id that no other has."""
@@ -117,12 +112,11 @@ class Clients:
     def balances(self):
         """The cents of each account, if just these operations were made, each once."""
         cancelled, found = {it.get("target") for it in self.operations.values()}, dict(self.starts)
-        signs = {"deposit": 1, "interest": 1, "withdraw": -1, "transfer": -1}
         for name, it in self.operations.items():
-            if name not in cancelled:
-                found[it["account"]] += signs.get(it["kind"], 0) * it["amount"]
-                if it["kind"] == "transfer":
-                    found[it["to"]] += it["amount"]
+            moved = 0 if name in cancelled else COMMANDS[it["kind"]]["moves"] * it["amount"]
+            found[it["account"]] += moved
+            if "to" in it:
+                found[it["to"]] -= moved
         return found
 
     def hear(self, site, reply):
