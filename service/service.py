@@ -20,12 +20,12 @@ from typing import Any
 from aiohttp import web
 from aiohttp.typedefs import Handler
 
-from site_child import Desk, Fault, Json, Site, compact, last_period, load, requests_of, until
+from site_child import REQUESTS, Desk, Fault, Json, Site, compact, last_period, load, requests_of, until
 from wires import Wires, together
 
 HERE = os.path.dirname(os.path.abspath(__file__))
-MAY = dict.fromkeys(("balance", "statement", "asof"), "read") | {"cancel": "cancel"} | dict.fromkeys(
-    ("deposit", "withdraw", "interest", "transfer", "batch", "pass"), "ask")  # what a client has to be allowed
+MAY = dict.fromkeys((*REQUESTS, "pass"), "ask") | {"cancel": "cancel"} | dict.fromkeys(
+    ("balance", "statement", "asof"), "read")  # what a client has to be allowed
 PATHS = {"": None, "health": None, "events": set[str](), "closing": {"close"}, "journals": {"close"}}  # else `read`
 MOST_WAITING = 20_000  # events that wait for the site, beyond which clients are sent away
 MOST_UNCONFIRMED = 1_000_000  # messages that wait for the broker, the same

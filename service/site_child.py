@@ -30,7 +30,7 @@ from typing import Any, NamedTuple
 
 from view import KEPT, Json as Json, View
 
-REQUESTS = {"deposit", "withdraw", "interest", "transfer", "cancel", "batch"}  # what has an id
+REQUESTS = ("deposit", "withdraw", "interest", "transfer", "cancel", "batch")  # what has an id
 LEAVE_NO_ENTRY = {"refused", "balance", "already", "stale", "about", "resent"}
 HOLD = 0.1  # seconds that a site keeps the token for its own clients
 HEARD = 3.0  # seconds for which a site is taken to want the token after it said so
@@ -158,7 +158,7 @@ class Site:
 
     def ask(self, event: Json) -> asyncio.Future[Json]:
         """An event for the site. The future has its answer, once that is on the disk."""
-        if "id" not in event and not REQUESTS.isdisjoint(event):
+        if "id" not in event and not event.keys().isdisjoint(REQUESTS):
             event = event | {"id": secrets.token_hex(12)}
         future: asyncio.Future[Json] = asyncio.get_running_loop().create_future()
         self.asked.append((event, future))

@@ -26,6 +26,8 @@ COMMAND = re.compile(r"  (\S+)(?:\s+(.*))?$")
 VALUE = re.compile(r"  [<\[]([^>\]]+)[>\]](?:\.\.\.)?(?:\s\s+(.*))?$")
 OPTION = re.compile(r"\s+(?:-(\w), )?--([\w-]+)(?: <([^>]+)>)?(?:\s\s+(.*))?$")
 FILES = ("FILE", "JOURNAL")  # the names of values that are files'
+# the lists of requests that service/ has for itself, since it is installed alone
+SERVICE = {"service/site_child.py": r"\nREQUESTS = \((.*?)\)", "service/console.html": r"const VERBS = \{(.*?)\};"}
 
 
 class Option(NamedTuple):
@@ -322,7 +324,7 @@ BASH_CASES = [
 
 
 def other_commands(page):
-    """The commands and kinds that commands.json has otherwise than this page and tests/cases."""
+    """The commands and kinds that commands.json has otherwise than this page and tests/cases, or service/ hasn't."""
     examples = page.split("The commands, an example each.")[1].split("\n\n")[1]
     shown = {verb: tuple(map(type, value if isinstance(value, list) and verb != "batch" else [value]))
              for line in re.findall(r"(?m)^  (\{.*?\})(?: |$)", examples)
@@ -330,7 +332,10 @@ def other_commands(page):
     types = {"account": str, "to": str, "name": str, "requests": list}
     known = {verb: tuple(types.get(field, int) for field in takes) for verb, takes in bank.TAKES.items()}
     kinds = re.search("is no kind: there are: (.*)", read(os.path.join(ROOT, "tests", "cases", "reasons.cases")))[1]
-    return {verb for verb, _ in shown.items() ^ known.items()} | set(kinds.split(", ")) ^ set(bank.KINDS)
+    others = {verb for verb, _ in shown.items() ^ known.items()} | set(kinds.split(", ")) ^ set(bank.KINDS)
+    lists = {path: re.search(f"(?s){of}", read(os.path.join(ROOT, path)))[1] for path, of in SERVICE.items()}
+    lacks = [f"{verb} of {path}" for path, text in lists.items() for verb in bank.REQUESTS if verb not in text]
+    return [f"{verb} of commands.json" for verb in others] + lacks
 
 
 def differences(program):
@@ -341,7 +346,7 @@ def differences(program):
     if program:
         now = asked(program)
         found += [f"{name}.txt" for name in {**texts, **now} if texts.get(name) != now.get(name)]
-    return found + [f"{verb} of commands.json" for verb in other_commands(texts["script"])]
+    return found + other_commands(texts["script"])
 
 
 def main(words):
