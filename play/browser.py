@@ -166,7 +166,7 @@ class Page:
         return self.sent()
 
     def batch(self, command: Json) -> str:
-        if any(verb not in ("deposit", "withdraw", "interest") for each in command["batch"] for verb in each):
+        if any(len(bank.fields(each)) != 2 for each in command["batch"]):
             return self.typed(command)
         self.one(f"#act [data-site='{command['site']}']").click()
         self.one("#act [data-verb='batch']").click()
