@@ -1,21 +1,17 @@
-use Rattle.std.proofs.Common.{◌≡◌, ◌++◌, [], codes, ap, sym, ◌∙◌}
+use Rattle.std.proofs.Common.{◌≡◌, ◌++◌, [], ap, sym, ◌∙◌}
 use Rattle.std.specs.Prelude.{map}
-use Rattle.serde_json.specs.Written.{compact_text}
 use Rattle.rb_site.specs.Events.{reply_to, sent_at}
-use Rattle.rb_site.specs.Seen.{entry, next_site}
-use Rattle.rb_history.specs.Entries.{entry_json}
-use Rattle.rb_history.proofs.Public.Appended.{both, front_stays}
+use Rattle.rb_site.specs.Seen.{next_site}
 use Rattle.rb_node.specs.Answers.{SeenNode}
 use Rattle.rb_node.specs.Asked.{SeenAsked, asked_state, without_ids, with_id, with_more}
 use Rattle.rb_node.proofs.Failed.{kept}
 use Rattle.rb_node.proofs.Recorded.{recorded}
 use Rattle.rb_node.proofs.node.Node.step_within_limit.Goals as goal
 
-pub returns-in_err-append : goal.returns-in_err-append
-returns-in_err-append c = record {
-  recorded = kept c.from_residual-in_err-append.result _ c.from_residual-in_err-append.ensures.0
-      (front_stays c.args.entries.now.items c.append_line.new.out.items c.append.new.out.items _ c.in_ok-append_line.ensures.ok
-      c.in_err-append.ensures);
+pub returns-in_err-append_with_feed : goal.returns-in_err-append_with_feed
+returns-in_err-append_with_feed c = record {
+  recorded = kept c.from_residual-in_err-append_with_feed.result _ c.from_residual-in_err-append_with_feed.ensures.0
+      c.in_err-append_with_feed.ensures;
 }
 
 pub returns : goal.returns
@@ -32,14 +28,12 @@ returns c =
     ∙ ap (λ (y : SeenAsked). with_more y (map (with_id []) ok.0)) seen in
     record {
       recorded = (
-        recorded old c.answer.new.self event reply ok.0 config c.me.result entries c.append.new.out.items c.requires is
+        recorded old c.answer.new.self event reply ok.0 config c.me.result entries c.append_with_feed.new.out.items c.requires is
             (ok.2 ∙ ap (λ (y : SeenAsked). next_site (without_ids y) event) seen)
             (ok.3 ∙ ap (λ (y : SeenAsked). reply_to y.settings (asked_state y) event) seen)
             (sym c.self.invariant ∙ ap (λ (y : SeenAsked). y.settings) seen)
             (c.me.ensures ∙ ap (λ (y : SeenAsked). y.me) is)
-            (both entries c.append_line.new.out.items c.append.new.out.items
-            (compact_text (entry_json config c.me.result (entry event reply)))
-            (codes "\n") c.in_ok-append_line.ensures.ok c.in_ok-append.ensures),
+            c.in_ok-append_with_feed.ensures,
         ok.4 ∙ ap (λ (v : SeenNode). v.sent ++ sent_at v.site.settings (asked_state v.site) event) c.self.view_is,
       );
     }
