@@ -69,15 +69,28 @@ impl<
     {
         let mut handles = Vec::with_capacity(self.alloc, usize::from(tellers))?;
         for t in 0..tellers {
-            let Ok(seat) = self.branch.seat(self.rt, t % self.sites) else {
-                return Err(TellersFault::OutOfMemory);
-            };
-            let own = outbox.try_copy(self.alloc)?;
-            let first = u64::from(seed) + u64::from(t);
-            let handle = self.start_teller(seat, own, first)?;
+            let handle = self.hire_teller(outbox, t, seed)?;
             handles.push_reserved(handle);
         }
         Ok(handles)
+    }
+
+    /// The thread of the teller of this number, with a seat and an outbox of its own.
+    fn hire_teller(
+        &self,
+        outbox: &Outbox,
+        t: u8,
+        seed: u32,
+    ) -> Result<TellerHandle<E, R>, TellersFault>
+        requires { 0 < self.now.sites }
+        ensures { IfOk result (λ h. h.promise
+            ≡ record { first = seed + t; site = t % self.now.sites; sites = self.now.sites }) }
+    {
+        let Ok(seat) = self.branch.seat(self.rt, t % self.sites) else {
+            return Err(TellersFault::OutOfMemory);
+        };
+        let own = outbox.try_copy(self.alloc)?;
+        self.start_teller(seat, own, u64::from(seed) + u64::from(t))
     }
 
     /// A serving thread for each site, in order.
@@ -89,14 +102,22 @@ impl<
     {
         let mut handles = Vec::with_capacity(self.alloc, usize::from(self.sites))?;
         for site in 0..self.sites {
-            let Ok(seat) = self.branch.seat(self.rt, site) else {
-                return Err(TellersFault::OutOfMemory);
-            };
             let inlet = inlets.remove(0);
-            let handle = self.start_server(seat, inlet)?;
+            let handle = self.hire_server(site, inlet)?;
             handles.push_reserved(handle);
         }
         Ok(handles)
+    }
+
+    /// The serving thread of a site, with a seat of its own.
+    fn hire_server(&self, site: u8, inlet: Inlet) -> Result<ServerHandle<E, R>, TellersFault>
+        requires { site < self.now.sites }
+        ensures { IfOk result (λ h. h.promise ≡ record { site = site }) }
+    {
+        match self.branch.seat(self.rt, site) {
+            Ok(seat) => self.start_server(seat, inlet),
+            Err(_) => Err(TellersFault::OutOfMemory),
+        }
     }
 
     /// Starts a teller's thread.

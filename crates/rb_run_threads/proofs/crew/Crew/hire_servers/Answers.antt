@@ -2,7 +2,6 @@
 use Rattle.std.proofs.Common.{◌≡◌, length, sym, ap, ◌∙◌, arith}
 use Rattle.std.specs.Prelude.{slice_get}
 use Rattle.std.proofs.lemmas.Result.{IfOk-from_err}
-use Rattle.rb_branch.specs.Seats.{SeenSeat}
 use Rattle.rb_run_threads.proofs.Rows.{promise_push, server_at}
 use Rattle.rb_run_threads.proofs.crew.Crew.hire_servers.Goals as goal
 
@@ -18,17 +17,13 @@ returns-in_err-handle-clause-len g c = IfOk-from_err c.from_residual-in_err-hand
 pub returns-in_err-handle-clause-each : goal.returns-in_err-handle-clause-each
 returns-in_err-handle-clause-each g c = IfOk-from_err c.from_residual-in_err-handle.result _ c.from_residual-in_err-handle.ensures.0
 
-pub start_server-requires-after_bounds : goal.start_server-requires-after_bounds
-start_server-requires-after_bounds g c = λ _ _. ap (λ (s : SeenSeat). s.receipts) c.in-Ok.ensures.ok.0
-
 pub push_reserved-requires : goal.push_reserved-requires
 push_reserved-requires g c = omega (arith, c.loop-site.invariant.0, c.loop-site.invariant.1)
 
 pub loop-site-preserved : goal.loop-site-preserved
 loop-site-preserved g c =
     let len : length c.loop-site.handles.items ≡ c.loop-site.site = sym c.loop-site.handles.ok.0 ∙ c.loop-site.invariant.0 in
-    let site = ap (λ (s : SeenSeat). s.site) c.in-Ok.ensures.ok.0 in
-    let here : c.in_ok-handle.handle.promise ≡ server_at c.loop-site.site = cc (c.in_ok-handle.ensures, site) in (
+    let here : c.in_ok-handle.handle.promise ≡ server_at c.loop-site.site = c.in_ok-handle.ensures in (
       omega (arith, c.loop-site.invariant.0, c.push_reserved.ensures.len),
       omega (arith, c.loop-site.invariant.1, c.push_reserved.ensures.capacity),
       omega (arith, c.loop-site.invariant.2, c.remove-inlet.ensures.len),
@@ -38,12 +33,6 @@ loop-site-preserved g c =
 
 pub returns-clause-each : goal.returns-clause-each
 returns-clause-each g c = c.loop-site.invariant.3
-
-pub returns-in_default-clause-len : goal.returns-in_default-clause-len
-returns-in_default-clause-len g c = tt
-
-pub returns-in_default-clause-each : goal.returns-in_default-clause-each
-returns-in_default-clause-each g c = tt
 
 pub loop-site-init : goal.loop-site-init
 loop-site-init g c = (

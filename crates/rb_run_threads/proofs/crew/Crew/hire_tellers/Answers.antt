@@ -2,7 +2,6 @@
 use Rattle.std.proofs.Common.{◌≡◌, length, sym, ap, ◌∙◌, arith}
 use Rattle.std.specs.Prelude.{slice_get}
 use Rattle.std.proofs.lemmas.Result.{IfOk-from_err}
-use Rattle.rb_branch.specs.Seats.{SeenSeat}
 use Rattle.rb_run_threads.proofs.Rows.{promise_push, teller_at}
 use Rattle.rb_run_threads.proofs.crew.Crew.hire_tellers.Goals as goal
 
@@ -11,12 +10,6 @@ returns-in_err-handles-clause-len g c = IfOk-from_err c.from_residual.result _ c
 
 pub returns-in_err-handles-clause-each : goal.returns-in_err-handles-clause-each
 returns-in_err-handles-clause-each g c = IfOk-from_err c.from_residual.result _ c.from_residual.ensures.0
-
-pub returns-in_err-own-clause-len : goal.returns-in_err-own-clause-len
-returns-in_err-own-clause-len g c = IfOk-from_err c.from_residual-in_err-own.result _ c.from_residual-in_err-own.ensures.0
-
-pub returns-in_err-own-clause-each : goal.returns-in_err-own-clause-each
-returns-in_err-own-clause-each g c = IfOk-from_err c.from_residual-in_err-own.result _ c.from_residual-in_err-own.ensures.0
 
 pub returns-in_err-handle-clause-len : goal.returns-in_err-handle-clause-len
 returns-in_err-handle-clause-len g c = IfOk-from_err c.from_residual-in_err-handle.result _ c.from_residual-in_err-handle.ensures.0
@@ -30,9 +23,7 @@ push_reserved-requires g c = omega (arith, c.loop-t.invariant.0, c.loop-t.invari
 pub loop-t-preserved : goal.loop-t-preserved
 loop-t-preserved g c =
     let len : length c.loop-t.handles.items ≡ c.loop-t.t = sym c.loop-t.handles.ok.0 ∙ c.loop-t.invariant.0 in
-    let site = ap (λ (s : SeenSeat). s.site) c.in-Ok.ensures.ok.0 in
-    let here : c.in_ok-handle.handle.promise ≡ teller_at c.args.seed c.args.self.now.sites c.loop-t.t =
-    cc (c.in_ok-handle.ensures, site, c.from-in-loop-t.ensures, c.from-in-loop-t-2.ensures) in (
+    let here : c.in_ok-handle.handle.promise ≡ teller_at c.args.seed c.args.self.now.sites c.loop-t.t = c.in_ok-handle.ensures in (
       omega (arith, c.loop-t.invariant.0, c.push_reserved.ensures.len),
       omega (arith, c.loop-t.invariant.1, c.push_reserved.ensures.capacity),
       promise_push (teller_at c.args.seed c.args.self.now.sites) c.loop-t.handles.items c.push_reserved.new.self.items
@@ -41,18 +32,6 @@ loop-t-preserved g c =
 
 pub returns-clause-each : goal.returns-clause-each
 returns-clause-each g c = c.loop-t.invariant.2
-
-pub start_teller-requires-clause-fresh : goal.start_teller-requires-clause-fresh
-start_teller-requires-clause-fresh g c = λ _ _. ap (λ (s : SeenSeat). s.receipts) c.in-Ok.ensures.ok.0
-
-pub start_teller-requires-clause-within : goal.start_teller-requires-clause-within
-start_teller-requires-clause-within g c = λ _ _. omega (arith, ap (λ (s : SeenSeat). s.site) c.in-Ok.ensures.ok.0)
-
-pub returns-in_default-clause-len : goal.returns-in_default-clause-len
-returns-in_default-clause-len g c = tt
-
-pub returns-in_default-clause-each : goal.returns-in_default-clause-each
-returns-in_default-clause-each g c = tt
 
 pub loop-t-init : goal.loop-t-init
 loop-t-init g c = (
