@@ -1,9 +1,9 @@
 #!/usr/bin/env python3
 """Says which lines `rbbank` reads in one pass: how many instructions a command, or a line of a history, takes.
 
-Copies of a line of each form go through the program as they are, and again with a space in front of each, which the
-reading in one pass doesn't know. Ends in status 1 where a line as it is takes more than half of the instructions of
-one that is read by its JSON value. It needs valgrind.
+Copies of a line of each form go through the program as they are, and again with the first letter of the first key
+written as an escape, which the reading in one pass doesn't know. Ends in status 1 where a line as it is takes more than
+half of the instructions of one that is read by its JSON value. It needs valgrind.
 """
 import argparse
 import json
@@ -80,6 +80,12 @@ def text(line):
     return json.dumps(line, separators=(",", ":"))
 
 
+def escaped(line):
+    """The text with the first letter of the first key as an escape."""
+    found = text(line)
+    return f'{found[:2]}\\u{ord(found[2]):04x}{found[3:]}'
+
+
 def instructions(program, path, word, lines):
     """How many the program takes for these lines."""
     with open(path, "w", encoding="utf-8") as file:
@@ -101,7 +107,7 @@ def main():
             bank = {"accounts": [["ann", 500], ["bob", 0]], "sites": 2, "version": version}
             front = [text(given) for given in (bank, *before)]
             least = instructions(program, path, word, front)
-            ways = [[text(line)] * COPIES, [" " + text(line)] * COPIES]
+            ways = [[text(line)] * COPIES, [escaped(line)] * COPIES]
             usual, value = ((instructions(program, path, word, front + way) - least) // COPIES for way in ways)
             slow += usual * 2 > value
             print(f"{usual:8,} {value:8,} {'SLOW' if usual * 2 > value else '    '} {word} {text(line)}", flush=True)
