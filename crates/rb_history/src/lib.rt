@@ -1,5 +1,5 @@
-//! Lines as JSON: of scripts, their configuration, commands and replies; of histories, their entries; and the verdicts
-//! of an audit, or of closing the books.
+//! The codec of lines, as JSON: of scripts, their configuration, commands and replies; of histories, their entries; and
+//! the verdicts of an audit, or of closing the books. Histories themselves are rb_site's.
 //!
 //! They are written in [`write`]. There are two readers: `fast` reads in one pass a line as programs spell it, and
 //! `read` the JSON value of any line. In `lines` a line is given to the first, and then to the second. Words, ids,

@@ -3,7 +3,7 @@ ghost use Rattle.std.specs.Prelude.{◌≡◌, ◌<◌, ◌^◌, ◌++◌, IfSom
 ghost use Rattle.rb_history.specs.Fits.{IsKnown};
 ghost use Rattle.rb_history.specs.Beginnings.{IsBetween, account_behind_quote};
 
-use crate::fast::number::parse_long_between;
+use crate::fast::number::parse_u64_between;
 use crate::fast::scan::{parse_prefix, parse_string};
 use rb_money::{Config, Place};
 
@@ -59,6 +59,6 @@ pub fn parse_asked<'a>(config: &Config, text: &'a str, front: &str) -> Option<(P
         ++ ((account_behind_quote config.now p.0 ++ (codes "," ++ (decimal p.1 ++ codes "]"))) ++ p.2.now))) }
 {
     let (place, rest) = parse_account_between(config, text, front, ",")?;
-    let (n, rest) = parse_long_between(rest, "", "]")?;
+    let (n, rest) = parse_u64_between(rest, "", "]")?;
     Some((place, n, rest))
 }

@@ -17,7 +17,7 @@ use crate::fast::blanks::without_blanks;
 use crate::fast::event::{
     parse_cancel, parse_deposit, parse_interest, parse_own, parse_transfer, parse_withdraw,
 };
-use crate::fast::number::{parse_byte, parse_word};
+use crate::fast::number::{parse_u8, parse_u32};
 use crate::fast::scan::parse_prefix;
 use crate::keys::{behind_quote, spell};
 use rb_money::{Config, Place};
@@ -43,7 +43,7 @@ fn parse_end(text: &str) -> Option<()>
 fn parse_last_site(text: &str) -> Option<u8>
     ensures { IfSome result (λ site. text.now ≡ codes ",\"site\":" ++ (decimal site ++ codes "}")) }
 {
-    let (site, rest) = parse_byte(parse_prefix(text, spell!("," site ":"))?)?;
+    let (site, rest) = parse_u8(parse_prefix(text, spell!("," site ":"))?)?;
     parse_end(rest)?;
     Some(site)
 }
@@ -70,7 +70,7 @@ fn parse_first_site(text: &str) -> Option<(Option<u8>, &str)>
     let Some(number) = parse_prefix(text, behind_quote!(site ":")) else {
         return Some((None, text));
     };
-    let (site, rest) = parse_byte(number)?;
+    let (site, rest) = parse_u8(number)?;
     Some((Some(site), parse_prefix(rest, ",\"")?))
 }
 
@@ -92,7 +92,7 @@ pub fn parse_delivery(config: &Config, first: Option<u8>, text: &str) -> Option<
     ensures { IfSome result
         (λ p. command_at config.now (codes "{\"" ++ behind_site first text.now) ≡ Some (Deliver p.0 p.1)) }
 {
-    let (message, rest) = parse_word(parse_prefix(text, behind_quote!(deliver ":"))?)?;
+    let (message, rest) = parse_u32(parse_prefix(text, behind_quote!(deliver ":"))?)?;
     let site = parse_site(first, rest)?;
     Some((site, message))
 }

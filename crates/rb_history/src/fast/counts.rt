@@ -8,7 +8,7 @@ ghost use Rattle.rb_history.specs.Counts.{numbered_json};
 ghost use Rattle.rb_history.specs.Beginnings.{BeginsWithCounts, BeginsWithEach, BeginsWithNumbered};
 
 use crate::counts::widened;
-use crate::fast::number::{parse_byte, parse_word, parse_word_between};
+use crate::fast::number::{parse_u8, parse_u32, parse_u32_between};
 use crate::fast::scan::parse_prefix;
 use rb_money::{MOST_SITES, MOST_SITES_OF_VERSION_1};
 
@@ -18,10 +18,10 @@ fn parse_first<'a>(text: &'a str, counts: &mut [u32]) -> Option<&'a str>
     requires { 0 < length counts.old }
     ensures { IfSome result (λ rest. BeginsWithEach number_json (λ n. n < 2 ^ 32) counts.new text.now rest.now) }
 {
-    let (first, mut left) = parse_word(text)?;
+    let (first, mut left) = parse_u32(text)?;
     counts[0] = first;
     for site in 1..counts.len() {
-        let (count, rest) = parse_word(parse_prefix(left, ",")?)?;
+        let (count, rest) = parse_u32(parse_prefix(left, ",")?)?;
         counts[site] = count;
         left = rest;
     }
@@ -35,8 +35,8 @@ fn parse_numbered_one(text: &str, least: usize) -> Option<(usize, u32, &str)>
     ensures some { IfSome result (λ p. (0 < p.1) × (p.1 < 2 ^ 32)) }
     ensures written { IfSome result (λ p. text.now ≡ compact_text (numbered_json (p.0, p.1)) ++ p.2.now) }
 {
-    let (site, rest) = parse_byte(parse_prefix(text, "[")?)?;
-    let (count, rest) = parse_word_between(rest, ",", "]")?;
+    let (site, rest) = parse_u8(parse_prefix(text, "[")?)?;
+    let (count, rest) = parse_u32_between(rest, ",", "]")?;
     let site = usize::from(site);
     if least <= site && site < MOST_SITES && 1 <= count {
         Some((site, count, rest))

@@ -9,7 +9,7 @@ ghost use Rattle.rb_history.specs.Fits.{IsReply};
 
 use crate::fast::event::parse_event;
 use crate::fast::id::parse_id_behind;
-use crate::fast::number::parse_byte_between;
+use crate::fast::number::parse_u8_between;
 use crate::fast::reply::parse_reply;
 use crate::fast::scan::parse_prefix;
 use crate::id::may_be_asked;
@@ -28,7 +28,7 @@ pub fn parse_entry_end(alloc: Global, config: &Config, text: &str, reply: &mut R
         ++ (codes ",\"site\":" ++ (decimal site ++ codes "}"))))) }
 {
     let rest = parse_reply(alloc, parse_prefix(text, spell!("," reply ":"))?, reply)?;
-    let (site, rest) = parse_byte_between(rest, spell!("," site ":"), "}")?;
+    let (site, rest) = parse_u8_between(rest, spell!("," site ":"), "}")?;
     if !rest.is_empty() || config.sites() <= site {
         return None;
     }

@@ -18,7 +18,7 @@ use crate::bank::BankName;
 use crate::fast::account::{parse_account_behind, parse_account_between, parse_asked};
 use crate::fast::id::parse_id_behind;
 use crate::fast::name::parse_name_behind;
-use crate::fast::number::{narrow, parse_byte, parse_byte_between, parse_word_between};
+use crate::fast::number::{narrow, parse_u8, parse_u8_between, parse_u32_between};
 use crate::fast::scan::parse_prefix;
 use crate::fast::shadow::parse_received;
 use crate::id::may_have_id;
@@ -158,7 +158,7 @@ fn parse_apply<'a>(config: &Config, text: &'a str, event: &mut Event) -> Option<
 fn parse_pass<'a>(config: &Config, text: &'a str, event: &mut Event) -> Option<&'a str>
     ensures { IfSome result (λ rest. BeginsWithOwn config.now event.new text.now rest.now) }
 {
-    let (to, rest) = parse_byte(parse_prefix(text, behind_quote!(pass ":"))?)?;
+    let (to, rest) = parse_u8(parse_prefix(text, behind_quote!(pass ":"))?)?;
     *event = Event::Pass(to);
     Some(rest)
 }
@@ -219,9 +219,9 @@ fn parse_token<'a>(config: &Config, text: &'a str, event: &mut Event) -> Option<
     ensures event { IfSome result (λ rest. BeginsWithEvent config.now event.new (codes "{" ++ text.now) rest.now) }
     ensures receipt { IfSome result (λ _. is_receipt event.new ≡ true) }
 {
-    let (epoch, rest) = parse_word_between(text, spell!(token ":["), ",")?;
-    let (to, rest) = parse_byte_between(rest, "", ",")?;
-    let (red, rest) = parse_word_between(rest, "", "]}")?;
+    let (epoch, rest) = parse_u32_between(text, spell!(token ":["), ",")?;
+    let (to, rest) = parse_u8_between(rest, "", ",")?;
+    let (red, rest) = parse_u32_between(rest, "", "]}")?;
     let token = TokenMessage { epoch, to, red };
     *event = Event::Receive(Message::Token(token));
     Some(rest)

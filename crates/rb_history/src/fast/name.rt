@@ -3,7 +3,7 @@ ghost use Rattle.std.specs.Prelude.{◌≡◌, ◌<◌, ◌^◌, ◌++◌, IfSom
 ghost use Rattle.rb_shadow.specs.NameText.{IsName, name_text};
 ghost use Rattle.rb_history.specs.Beginnings.{IsBetween, behind_quote};
 
-use crate::fast::number::{parse_byte, parse_word};
+use crate::fast::number::{parse_u8, parse_u32};
 use crate::fast::scan::parse_prefix;
 use rb_shadow::OpName;
 
@@ -16,7 +16,7 @@ fn parse_site(text: &str) -> Option<(Option<u8>, &str)>
     if let Some(number) = parse_prefix(text, "R") {
         return Some((None, number));
     }
-    let (site, rest) = parse_byte(parse_prefix(text, "B")?)?;
+    let (site, rest) = parse_u8(parse_prefix(text, "B")?)?;
     Some((Some(site), parse_prefix(rest, ".")?))
 }
 
@@ -26,7 +26,7 @@ pub fn parse_name(text: &str) -> Option<(OpName, &str)>
     ensures { IfSome result (λ p. IsName p.0 × (text.now ≡ name_text p.0 ++ (codes "\"" ++ p.1.now))) }
 {
     let (site, number) = parse_site(text)?;
-    let (n, rest) = parse_word(number)?;
+    let (n, rest) = parse_u32(number)?;
     let rest = parse_prefix(rest, "\"")?;
     let name = match site {
         Some(site) => OpName::Blue { site, n },

@@ -57,7 +57,7 @@ pub fn narrow(n: u64) -> Option<u32>
 
 /// The number below 2^32 that the text begins with, and what follows it.
 #[inline(always)]
-pub fn parse_word(text: &str) -> Option<(u32, &str)>
+pub fn parse_u32(text: &str) -> Option<(u32, &str)>
     ensures { IfSome result (λ p. (p.0 < 2 ^ 32) × (text.now ≡ decimal p.0 ++ p.1.now)) }
 {
     let (n, rest) = parse_number(text)?;
@@ -66,7 +66,7 @@ pub fn parse_word(text: &str) -> Option<(u32, &str)>
 
 /// The number below 2^8 that the text begins with, and what follows it.
 #[inline(always)]
-pub fn parse_byte(text: &str) -> Option<(u8, &str)>
+pub fn parse_u8(text: &str) -> Option<(u8, &str)>
     ensures { IfSome result (λ p. (p.0 < 2 ^ 8) × (text.now ≡ decimal p.0 ++ p.1.now)) }
 {
     let (n, rest) = parse_number(text)?;
@@ -75,7 +75,7 @@ pub fn parse_byte(text: &str) -> Option<(u8, &str)>
 
 /// A number between two texts.
 #[inline(always)]
-pub fn parse_long_between<'a>(text: &'a str, front: &str, back: &str) -> Option<(u64, &'a str)>
+pub fn parse_u64_between<'a>(text: &'a str, front: &str, back: &str) -> Option<(u64, &'a str)>
     ensures { IfSome result (λ p. (p.0 < 2 ^ 64) × IsBetween (decimal p.0) text.now front.now back.now p.1.now) }
 {
     let (n, rest) = parse_number(parse_prefix(text, front)?)?;
@@ -84,18 +84,18 @@ pub fn parse_long_between<'a>(text: &'a str, front: &str, back: &str) -> Option<
 
 /// A number below 2^32 between two texts.
 #[inline(always)]
-pub fn parse_word_between<'a>(text: &'a str, front: &str, back: &str) -> Option<(u32, &'a str)>
+pub fn parse_u32_between<'a>(text: &'a str, front: &str, back: &str) -> Option<(u32, &'a str)>
     ensures { IfSome result (λ p. (p.0 < 2 ^ 32) × IsBetween (decimal p.0) text.now front.now back.now p.1.now) }
 {
-    let (n, rest) = parse_word(parse_prefix(text, front)?)?;
+    let (n, rest) = parse_u32(parse_prefix(text, front)?)?;
     Some((n, parse_prefix(rest, back)?))
 }
 
 /// A number below 2^8 between two texts.
 #[inline(always)]
-pub fn parse_byte_between<'a>(text: &'a str, front: &str, back: &str) -> Option<(u8, &'a str)>
+pub fn parse_u8_between<'a>(text: &'a str, front: &str, back: &str) -> Option<(u8, &'a str)>
     ensures { IfSome result (λ p. (p.0 < 2 ^ 8) × IsBetween (decimal p.0) text.now front.now back.now p.1.now) }
 {
-    let (n, rest) = parse_byte(parse_prefix(text, front)?)?;
+    let (n, rest) = parse_u8(parse_prefix(text, front)?)?;
     Some((n, parse_prefix(rest, back)?))
 }

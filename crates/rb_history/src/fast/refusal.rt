@@ -5,7 +5,7 @@ ghost use Rattle.rb_history.specs.Replies.{cause_json};
 ghost use Rattle.rb_history.specs.Fits.{IsCause};
 ghost use Rattle.rb_history.specs.Beginnings.{BeginsWithReply};
 
-use crate::fast::number::{parse_byte, parse_byte_between, parse_word_between};
+use crate::fast::number::{parse_u8, parse_u8_between, parse_u32_between};
 use crate::fast::scan::parse_prefix;
 use crate::keys::spell;
 use crate::refusals::plain_refusal;
@@ -16,12 +16,12 @@ use rb_site::Reply;
 pub fn parse_behind(text: &str) -> Option<(Reply, &str)>
     ensures { IfSome result (λ p. BeginsWithReply p.0 text.now p.1.now) }
 {
-    let (needed, rest) = parse_word_between(
+    let (needed, rest) = parse_u32_between(
         text,
         spell!("{" needed ":"),
         spell!("," refused ":9," seen ":"),
     )?;
-    let (seen, rest) = parse_word_between(rest, "", "}")?;
+    let (seen, rest) = parse_u32_between(rest, "", "}")?;
     Some((Reply::Refused(Refusal::RedBehind { seen, needed }), rest))
 }
 
@@ -29,7 +29,7 @@ pub fn parse_behind(text: &str) -> Option<(Reply, &str)>
 pub fn parse_cancelled(text: &str) -> Option<(Reply, &str)>
     ensures { IfSome result (λ p. BeginsWithReply p.0 text.now p.1.now) }
 {
-    let (position, rest) = parse_word_between(
+    let (position, rest) = parse_u32_between(
         text,
         spell!("{" position ":"),
         spell!("," refused ":6}"),
@@ -45,7 +45,7 @@ fn parse_cause(text: &str) -> Option<(Cause, &str)>
     if let Some(rest) = parse_prefix(text, spell!(declined)) {
         return Some((Cause::Declined, rest));
     }
-    let (number, rest) = parse_byte(text)?;
+    let (number, rest) = parse_u8(text)?;
     Some((Cause::Refused(number), rest))
 }
 
@@ -54,11 +54,7 @@ pub fn parse_batch(text: &str) -> Option<(Reply, &str)>
     ensures { IfSome result (λ p. BeginsWithReply p.0 text.now p.1.now) }
 {
     let (cause, rest) = parse_cause(parse_prefix(text, spell!("{" cause ":"))?)?;
-    let (index, rest) = parse_byte_between(
-        rest,
-        spell!("," index ":"),
-        spell!("," refused ":13}"),
-    )?;
+    let (index, rest) = parse_u8_between(rest, spell!("," index ":"), spell!("," refused ":13}"))?;
     let refusal = Refusal::BatchRefused { index, cause };
     Some((Reply::Refused(refusal), rest))
 }
@@ -67,7 +63,7 @@ pub fn parse_batch(text: &str) -> Option<(Reply, &str)>
 fn parse_message(text: &str) -> Option<(Reply, &str)>
     ensures { IfSome result (λ p. BeginsWithReply p.0 text.now p.1.now) }
 {
-    let (why, rest) = parse_byte_between(text, spell!("{" refused ":17," why ":"), "}")?;
+    let (why, rest) = parse_u8_between(text, spell!("{" refused ":17," why ":"), "}")?;
     Some((Reply::Refused(Refusal::BadMessage { why }), rest))
 }
 
@@ -75,7 +71,7 @@ fn parse_message(text: &str) -> Option<(Reply, &str)>
 pub fn parse_refused(text: &str) -> Option<(Reply, &str)>
     ensures { IfSome result (λ p. BeginsWithReply p.0 text.now p.1.now) }
 {
-    match parse_byte_between(text, spell!("{" refused ":"), "}") {
+    match parse_u8_between(text, spell!("{" refused ":"), "}") {
         Some((number, rest)) => {
             let refusal = plain_refusal(number)?;
             Some((Reply::Refused(refusal), rest))

@@ -6,7 +6,7 @@ ghost use Rattle.rb_history.specs.Values.{name_json};
 
 use crate::fast::kind::parse_label;
 use crate::fast::name::{parse_name, parse_name_between};
-use crate::fast::number::{parse_long_between, parse_word_between};
+use crate::fast::number::{parse_u32_between, parse_u64_between};
 use crate::fast::refusal::{parse_batch, parse_behind, parse_cancelled, parse_refused};
 use crate::fast::scan::parse_prefix;
 use crate::fast::statement::parse_statement;
@@ -84,21 +84,21 @@ fn parse_applied<'a>(text: &'a str, reply: &mut Reply) -> Option<&'a str>
 fn parse_taken(text: &str) -> Option<(Reply, &str)>
     ensures { IfSome result (λ p. BeginsWithReply p.0 text.now p.1.now) }
 {
-    let (epoch, rest) = parse_word_between(text, spell!("{" taken ":"), "}")?;
+    let (epoch, rest) = parse_u32_between(text, spell!("{" taken ":"), "}")?;
     Some((Reply::Taken(epoch), rest))
 }
 
 fn parse_stale(text: &str) -> Option<(Reply, &str)>
     ensures { IfSome result (λ p. BeginsWithReply p.0 text.now p.1.now) }
 {
-    let (epoch, rest) = parse_word_between(text, spell!("{" stale ":"), "}")?;
+    let (epoch, rest) = parse_u32_between(text, spell!("{" stale ":"), "}")?;
     Some((Reply::Stale(epoch), rest))
 }
 
 fn parse_passed(text: &str) -> Option<(Reply, &str)>
     ensures { IfSome result (λ p. BeginsWithReply p.0 text.now p.1.now) }
 {
-    let (epoch, rest) = parse_word_between(text, spell!("{" passed ":"), "}")?;
+    let (epoch, rest) = parse_u32_between(text, spell!("{" passed ":"), "}")?;
     Some((Reply::Passed(epoch), rest))
 }
 
@@ -107,7 +107,7 @@ fn parse_passed(text: &str) -> Option<(Reply, &str)>
 fn parse_balance<'a>(text: &'a str, reply: &mut Reply) -> Option<&'a str>
     ensures { IfSome result (λ rest. BeginsWithReply reply.new text.now rest.now) }
 {
-    let (cents, rest) = parse_long_between(text, spell!("{" balance ":"), "}")?;
+    let (cents, rest) = parse_u64_between(text, spell!("{" balance ":"), "}")?;
     *reply = Reply::Balance(cents);
     Some(rest)
 }

@@ -9,7 +9,7 @@ use crate::fast::account::parse_account_between;
 use crate::fast::counts::parse_counts;
 use crate::fast::kind::{parse_kind, parse_label};
 use crate::fast::name::parse_name;
-use crate::fast::number::{parse_byte_between, parse_long_between, parse_word_between};
+use crate::fast::number::{parse_u8_between, parse_u32_between, parse_u64_between};
 use crate::fast::scan::parse_prefix;
 use crate::keys::spell;
 use rb_money::{Config, MOST_SITES, Place};
@@ -38,7 +38,7 @@ pub fn parse_front<'a>(config: &Config, text: &'a str) -> Option<(Place, u64, &'
         spell!(shadow ":{" account ":\""),
         ",",
     )?;
-    let (amount, rest) = parse_long_between(rest, spell!(amount ":"), spell!("," deps ":["))?;
+    let (amount, rest) = parse_u64_between(rest, spell!(amount ":"), spell!("," deps ":["))?;
     Some((account, amount, rest))
 }
 
@@ -47,8 +47,8 @@ pub fn parse_front<'a>(config: &Config, text: &'a str) -> Option<(Place, u64, &'
 pub fn parse_back<'a>(config: &Config, text: &'a str) -> Option<(Back, &'a str)>
     ensures { IfSome result (λ p. BeginsWithBack config.now p.0 text.now p.1.now) }
 {
-    let (red, rest) = parse_word_between(text, ",", "]")?;
-    let (home, rest) = parse_byte_between(rest, spell!("," home ":"), spell!("," kind ":\""))?;
+    let (red, rest) = parse_u32_between(text, ",", "]")?;
+    let (home, rest) = parse_u8_between(rest, spell!("," home ":"), spell!("," kind ":\""))?;
     let (label, rest) = parse_label(rest)?;
     let (name, rest) = parse_name(parse_prefix(rest, spell!("," name ":\""))?)?;
     let (kind, rest) = parse_kind(config, label, rest)?;

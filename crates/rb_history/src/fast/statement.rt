@@ -10,7 +10,7 @@ ghost use Rattle.rb_history.specs.Beginnings.{BeginsWithEach, BeginsWithReply};
 
 use crate::fast::kind::parse_label;
 use crate::fast::name::parse_name;
-use crate::fast::number::{parse_long_between, parse_number, parse_word_between};
+use crate::fast::number::{parse_number, parse_u32_between, parse_u64_between};
 use crate::fast::scan::parse_prefix;
 use crate::keys::spell;
 use rb_kit::List;
@@ -50,12 +50,12 @@ fn parse_cancelled(text: &str) -> Option<(bool, &str)>
 fn parse_row(text: &str) -> Option<(Row, &str)>
     ensures { IfSome result (λ p. IsStatementRow p.0 × (text.now ≡ compact_text (row_json p.0) ++ p.1.now)) }
 {
-    let (position, rest) = parse_word_between(text, "[", ",\"")?;
+    let (position, rest) = parse_u32_between(text, "[", ",\"")?;
     let (name, rest) = parse_name(rest)?;
     let (kind, rest) = parse_label(parse_prefix(rest, ",\"")?)?;
     let (moved, rest) = parse_moved(parse_prefix(rest, ",")?)?;
     let (cancelled, rest) = parse_cancelled(parse_prefix(rest, ",")?)?;
-    let (balance, rest) = parse_long_between(rest, ",", "]")?;
+    let (balance, rest) = parse_u64_between(rest, ",", "]")?;
     let row = Row {
         position,
         name,
@@ -92,9 +92,9 @@ fn parse_rows<'a>(alloc: Global, text: &'a str) -> Option<(Vec<Row>, &'a str)>
 pub fn parse_statement<'a>(alloc: Global, text: &'a str) -> Option<(Reply, &'a str)>
     ensures { IfSome result (λ p. BeginsWithReply p.0 text.now p.1.now) }
 {
-    let (balance, rest) = parse_long_between(text, spell!("{" balance ":"), spell!("," rows ":["))?;
+    let (balance, rest) = parse_u64_between(text, spell!("{" balance ":"), spell!("," rows ":["))?;
     let (rows, rest) = parse_rows(alloc, rest)?;
-    let (start, rest) = parse_long_between(rest, spell!("," start ":"), "}")?;
+    let (start, rest) = parse_u64_between(rest, spell!("," start ":"), "}")?;
     let shown = Statement {
         start,
         rows: List::new(rows),
