@@ -1,5 +1,8 @@
 //! The faults of a line.
+ghost use Rattle.std.specs.Prelude.{◌≡◌};
+ghost use Rattle.rb_history.specs.declared.fault.LineFault.TheVariants.{OutOfMemory as NoMemory};
 
+use std::alloc::AllocError;
 use thiserror::Error;
 
 /// Why a line gives nothing.
@@ -11,4 +14,12 @@ pub enum LineFault {
     /// There was no memory to read it.
     #[error("out of memory")]
     OutOfMemory,
+}
+
+impl From<AllocError> for LineFault {
+    ghost from_gives = { λ _ why. why ≡ NoMemory };
+
+    fn from(_: AllocError) -> LineFault {
+        LineFault::OutOfMemory
+    }
 }

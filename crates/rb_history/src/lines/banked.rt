@@ -68,8 +68,6 @@ pub fn read_event_to(
     if is_receipt(&event) && !bank.as_bytes().is_empty() {
         return Ok(None);
     }
-    match id.set(text) {
-        Ok(()) => Ok(Some(event)),
-        Err(_) => Err(LineFault::OutOfMemory),
-    }
+    id.set(text)?;
+    Ok(Some(event))
 }

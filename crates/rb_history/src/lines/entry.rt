@@ -74,10 +74,8 @@ pub fn read_asked_entry(
     let Some((text, site)) = parse_asked_entry(alloc, config, line, entry) else {
         return put_spelled(alloc, config, line, entry, id);
     };
-    match id.set(text) {
-        Ok(()) => Ok(site),
-        Err(_) => Err(LineFault::OutOfMemory),
-    }
+    id.set(text)?;
+    Ok(site)
 }
 
 /// The same as `read_asked_entry`, its id left out.

@@ -159,10 +159,7 @@ fn append_read(
 {
     let mut id = RequestId::none(alloc);
     let (site, entry) = read_spelled(alloc, config, line, &mut id)?;
-    match append_asked_line(out, written, site, &id, &entry) {
-        Ok(()) => Ok(()),
-        Err(_) => Err(LineFault::OutOfMemory),
-    }
+    Ok(append_asked_line(out, written, site, &id, &entry)?)
 }
 
 /// Adds the line, in version 2 of the format, of the entry that a history's line is, without a line feed: `Bad` if

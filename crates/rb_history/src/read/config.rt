@@ -53,9 +53,7 @@ fn accounts(alloc: Global, value: &Value) -> Result<Vec<(String, u64)>, LineFaul
         let Some((name, start)) = account(item) else {
             return Err(LineFault::Bad);
         };
-        if add(alloc, &mut accounts, name, start).is_err() {
-            return Err(LineFault::OutOfMemory);
-        }
+        add(alloc, &mut accounts, name, start)?;
     }
     Ok(accounts)
 }

@@ -20,10 +20,7 @@ pub fn put_id(value: &Value, id: &mut RequestId) -> Result<(), LineFault>
         return Err(LineFault::Bad);
     };
     match member.as_str() {
-        Some(text) if is_id(text) => match id.set(text) {
-            Ok(()) => Ok(()),
-            Err(_) => Err(LineFault::OutOfMemory),
-        },
+        Some(text) if is_id(text) => Ok(id.set(text)?),
         _ => Err(LineFault::Bad),
     }
 }
