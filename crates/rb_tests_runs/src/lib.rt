@@ -11,6 +11,8 @@ mod branch;
 #[cfg(test)]
 mod checks;
 #[cfg(test)]
+mod copies;
+#[cfg(test)]
 mod flags;
 #[cfg(test)]
 mod gates;
