@@ -1,7 +1,5 @@
 -- A shadow that comes, cut at its counts.
-use Rattle.std.proofs.Common.{◌≡◌, ℕ, ◌<◌, ◌+◌, ◌-◌, ◌^◌, List, ◌++◌, length, take, true, codes, decimal, ap, sym, ◌∙◌}
-use Rattle.std.proofs.Common.{append_assoc, length-append, arith}
-use Rattle.std.proofs.lemmas.List.{take_at}
+use Rattle.std.proofs.Common.{◌≡◌, ℕ, ◌<◌, ◌^◌, List, ◌++◌, true, codes, decimal, ap, ◌∙◌, append_assoc}
 use Rattle.json.specs.Print.{escape_byte}
 use Rattle.serde_json.specs.Written.{compact_text, members_text}
 use Rattle.rb_money.specs.Settings.{Settings}
@@ -15,7 +13,7 @@ use Rattle.rb_site.specs.declared.message.Message.TheVariants.{Shadow as ShadowM
 use Rattle.rb_site.specs.declared.reply.Reply.{Reply}
 use Rattle.rb_history.specs.Replies.{reply_json}
 use Rattle.rb_history.specs.Counts.{blue_json}
-use Rattle.rb_history.specs.Entries.{entry_json, event_json, last_members}
+use Rattle.rb_history.specs.Entries.{event_json, last_members}
 use Rattle.rb_history.specs.Beginnings.{account_behind_quote, behind_quote, BeginsWithCounts}
 use Rattle.rb_history.specs.Fits.{IsKnown, IsShadow}
 use Rattle.rb_history.specs.Receipts.{BeginsWithBack, shadow_back, shadow_front}
@@ -74,21 +72,3 @@ event_written s account amount blue text list behind rest b e counts back =
 -- the text of an entry behind its event
 abbrev pub end_text : Reply → ℕ → List ℕ
 end_text reply site = codes ",\"reply\":" ++ (compact_text (reply_json reply) ++ (codes ",\"site\":" ++ (decimal site ++ codes "}")))
-
--- the line of its receipt, cut at its counts
-pub receipt_written : (s : Settings) (account : Place) (amount : ℕ) (blue : List ℕ) (b : Back) (reply : Reply) (site : ℕ)
-    → compact_text (entry_json s site (record { event = Receive (ShadowMessage (shadow_of account amount blue b)); reply = reply }))
-    ≡ (codes "{\"event\":" ++ shadow_front s account amount)
-    ++ (compact_text (blue_json s.version blue) ++ (shadow_back s b ++ end_text reply site))
-unfolding escape_byte
-receipt_written s account amount blue b reply site =
-    let behind = compact_text (blue_json s.version blue) ++ (shadow_back s b ++ end_text reply site) in
-    ap (λ l. codes "{\"event\":" ++ l) (sym (event_parts s account amount blue b (end_text reply site)))
-    ∙ sym (append_assoc (codes "{\"event\":") (shadow_front s account amount) behind)
-
--- what is before a text's end
-pub before_end : (l a b : List ℕ) → l ≡ a ++ b → take (length l - length b) l ≡ a
-before_end l a b e =
-    let long : length l ≡ length a + length b = ap length e ∙ length-append a b in
-    let many : length a ≡ length l - length b = omega arith in
-    ap (take (length l - length b)) e ∙ take_at a b (length l - length b) many

@@ -21,7 +21,6 @@ pub mod Entries
 pub mod Fits
 pub mod Beginnings
 pub mod Receipts
-pub mod Migrated
 pub mod Verdicts
 pub mod OneLine
 pub mod Sites

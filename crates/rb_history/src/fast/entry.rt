@@ -1,7 +1,7 @@
 //! Lines of histories, in one pass. `None` says nothing of a text.
 ghost use Rattle.std.specs.Prelude.{◌≡◌, ◌<◌, ◌++◌, codes, decimal, IfSome, Some};
 ghost use Rattle.rb_history.specs.Beginnings.{BeginsWithId};
-ghost use Rattle.rb_history.specs.Entries.{asked_entry_json, asked_entry_of_line};
+ghost use Rattle.rb_history.specs.Entries.{asked_entry_of_line};
 ghost use Rattle.rb_history.specs.Ids.{IsIdOrNone};
 ghost use Rattle.serde_json.specs.Written.{compact_text};
 ghost use Rattle.rb_history.specs.Replies.{reply_json};
@@ -21,7 +21,7 @@ use std::alloc::Global;
 /// The number of the site, and its reply in its place, with which an entry's line ends. The reply may be any if
 /// there is none.
 #[inline(always)]
-pub fn parse_entry_end(alloc: Global, config: &Config, text: &str, reply: &mut Reply) -> Option<u8>
+fn parse_entry_end(alloc: Global, config: &Config, text: &str, reply: &mut Reply) -> Option<u8>
     ensures site { IfSome result (λ site. site < config.now.sites) }
     ensures value { IfSome result (λ site. IsReply reply.new
         × (text.now ≡ codes ",\"reply\":" ++ (compact_text (reply_json reply.new)
@@ -58,8 +58,6 @@ pub fn parse_asked_entry<'a>(
     ensures read { IfSome result (λ p. (asked_entry_of_line config.now line.now
         ≡ Some (p.1, record { id = p.0.now; entry = entry.new })) × (p.1 < config.now.sites)) }
     ensures id { IfSome result (λ p. IsIdOrNone p.0.now) }
-    ensures written { IfSome result (λ p. line.now
-        ≡ compact_text (asked_entry_json config.now p.1 (record { id = p.0.now; entry = entry.new }))) }
 {
     // For a fact alone: its settings are those of a configuration.
     let _sites = config.sites();

@@ -15,7 +15,7 @@ use std::alloc::Global;
 
 /// The entry that a line of any spelling is, with the number of its site. Its id takes the place of another.
 #[inline(never)]
-pub(crate) fn read_spelled(
+fn read_spelled(
     alloc: Global,
     config: &Config,
     line: &str,
