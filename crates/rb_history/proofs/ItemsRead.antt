@@ -27,13 +27,3 @@ one_more_read of_one of_all front x values i v whole each here is so = by (of_al
     by : (o : Option (List _)) → with_front front (option_map (λ later. x ∷ later) o) ≡ whole → with_front (front ++ x ∷ []) o ≡ whole
     by None e = e
     by (Some later) e = ap Some (append_assoc front (x ∷ []) later) ∙ e
-
--- if an item isn't read, the list isn't
-pub none_read : {A : Type 0} (of_one : Data → Option A) (of_all : Items → Option (List A)) (front : List A)
-    (values : List Value) (i : ℕ) (v : Value) (whole : Option (List A)) → ReadsEach of_one of_all
-    → drop i values ≡ v ∷ drop (i + 1) values → of_one (view v) ≡ None → with_front front (of_all (items_view (drop i values))) ≡ whole
-    → whole ≡ None
-none_read of_one of_all front values i v whole each here is so =
-    let behind = items_view (drop (i + 1) values) in
-    sym so ∙ ap (λ vs. with_front front (of_all (items_view vs))) here ∙ ap (with_front front) (each (view v) behind)
-    ∙ ap (λ o. with_front front (option_and_then (λ y. option_map (λ later. y ∷ later) (of_all behind)) o)) is

@@ -40,11 +40,6 @@ pub next_read : {A : Type 0} (done new : List A) (x : A) (one : Option A) (left 
 next_read done new x one left whole e is h =
     ap (λ l. with_front l left) e ∙ front_more done x left ∙ ap (λ o. with_front done (one_before o left)) (sym is) ∙ h
 
--- if one is none, nothing is read
-pub none_read : {A : Type 0} (done : List A) (one : Option A) (left whole : Option (List A)) → one ≡ None
-    → with_front done (one_before one left) ≡ whole → whole ≡ None
-none_read done one left whole is h = sym h ∙ ap (λ o. with_front done (one_before o left)) is
-
 -- an operation's name is read from its own text
 pub back : (x : OpName) → IsName x → name_of (name_text x) ≡ Some x
 back x h = sym (value_is (name_text x) (Some x) refl h (λ y k e. ap Some (sym (candidate_is x h) ∙ ap candidate e ∙ candidate_is y k)))

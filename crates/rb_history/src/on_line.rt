@@ -20,9 +20,7 @@ pub fn open_config(alloc: Global, line: &[u8]) -> Result<Config, LineFault>
         (λ config. config_on line.now ≡ Some config)
         (λ why. why ≡ Bad → config_on line.now ≡ None) }
 {
-    let Some(text) = text_on(line) else {
-        return Err(LineFault::Bad);
-    };
+    let text = text_on(line).ok_or(LineFault::Bad)?;
     read_config(alloc, text)
 }
 
@@ -35,8 +33,6 @@ pub fn open_command(alloc: Global, config: &Config, line: &[u8]) -> Result<World
         (λ why. why ≡ Bad → command_on config.now line.now ≡ None) }
     ensures command { IfOk result IsCommand }
 {
-    let Some(text) = text_on(line) else {
-        return Err(LineFault::Bad);
-    };
+    let text = text_on(line).ok_or(LineFault::Bad)?;
     read_command(alloc, config, text)
 }

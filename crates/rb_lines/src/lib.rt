@@ -18,6 +18,7 @@ mod sink;
 mod source;
 mod to_bytes;
 mod to_writer;
+mod whole;
 mod write;
 
 pub use buffers::Buffers;
@@ -35,4 +36,5 @@ pub use sink::{Sink, WriteFailed};
 pub use source::{ReadFailed, Source};
 pub use to_bytes::ToBytes;
 pub use to_writer::ToWriter;
+pub use whole::whole_or_none;
 pub use write::{flush, write_all};

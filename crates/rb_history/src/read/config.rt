@@ -45,14 +45,10 @@ fn add(
 fn accounts(alloc: Global, value: &Value) -> Result<Vec<(String, u64)>, LineFault>
     ensures { GivesAs (λ v. map account_of v.items) result (accounts_at (view value.now)) }
 {
-    let Some(items) = value.as_array() else {
-        return Err(LineFault::Bad);
-    };
+    let items = value.as_array().ok_or(LineFault::Bad)?;
     let mut accounts = Vec::new(alloc);
     for item in items {
-        let Some((name, start)) = account(item) else {
-            return Err(LineFault::Bad);
-        };
+        let (name, start) = account(item).ok_or(LineFault::Bad)?;
         add(alloc, &mut accounts, name, start)?;
     }
     Ok(accounts)
@@ -173,18 +169,10 @@ fn made(
 fn parts(alloc: Global, value: &Value) -> Result<Config, LineFault>
     ensures { Gives result (config_in (view value.now)) }
 {
-    let Some(version) = version(value) else {
-        return Err(LineFault::Bad);
-    };
-    let Some(sites) = sites(value) else {
-        return Err(LineFault::Bad);
-    };
-    let Some(limits) = limits(value) else {
-        return Err(LineFault::Bad);
-    };
-    let Some(list) = value.get(key!(accounts)) else {
-        return Err(LineFault::Bad);
-    };
+    let version = version(value).ok_or(LineFault::Bad)?;
+    let sites = sites(value).ok_or(LineFault::Bad)?;
+    let limits = limits(value).ok_or(LineFault::Bad)?;
+    let list = value.get(key!(accounts)).ok_or(LineFault::Bad)?;
     let accounts = accounts(alloc, list)?;
     made(alloc, version, sites, limits, accounts)
 }

@@ -57,9 +57,7 @@ fn site_of(config: &Config, value: &Value) -> Option<u8>
 fn members(alloc: Global, config: &Config, value: &Value) -> Result<(u8, Entry), LineFault>
     ensures { Gives result (entry_in config.now (view value.now)) }
 {
-    let Some(site) = site_of(config, value) else {
-        return Err(LineFault::Bad);
-    };
+    let site = site_of(config, value).ok_or(LineFault::Bad)?;
     let event = event_of(alloc, config, value)?;
     let reply = reply_of(alloc, value)?;
     Ok((site, Entry { event, reply }))

@@ -16,9 +16,7 @@ pub fn put_id(value: &Value, id: &mut RequestId) -> Result<(), LineFault>
         (λ _. field (codes "id") id_at (view value.now) ≡ Some id.new)
         (λ why. why ≡ Bad → field (codes "id") id_at (view value.now) ≡ None) }
 {
-    let Some(member) = value.get(key!(id)) else {
-        return Err(LineFault::Bad);
-    };
+    let member = value.get(key!(id)).ok_or(LineFault::Bad)?;
     match member.as_str() {
         Some(text) if is_id(text) => Ok(id.set(text)?),
         _ => Err(LineFault::Bad),

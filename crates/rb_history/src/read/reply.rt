@@ -17,7 +17,7 @@ use rb_kit::List;
 use rb_shadow::OpName;
 use rb_site::Reply;
 use serde_json::Value;
-use std::alloc::Global;
+use std::alloc::{AllocError, Global};
 
 /// A reply of one name or one number, by a key of an object that may have others.
 fn simple(value: &Value) -> Option<Reply>
@@ -48,17 +48,11 @@ fn simple(value: &Value) -> Option<Reply>
 fn names(alloc: Global, value: &Value) -> Result<Vec<OpName>, LineFault>
     ensures { GivesAs (λ v. v.items) result (names_at (view value.now)) }
 {
-    let Some(items) = value.as_array() else {
-        return Err(LineFault::Bad);
-    };
+    let items = value.as_array().ok_or(LineFault::Bad)?;
     let mut names = Vec::new(alloc);
     for item in items {
-        let Some(name) = name(item) else {
-            return Err(LineFault::Bad);
-        };
-        if names.push(name).is_err() {
-            return Err(LineFault::OutOfMemory);
-        }
+        let name = name(item).ok_or(LineFault::Bad)?;
+        names.push(name).map_err(AllocError::from)?;
     }
     Ok(names)
 }

@@ -14,7 +14,7 @@ use crate::read::value::{long, name, pair, size, three, word};
 use rb_money::{Config, Place};
 use rb_scratch::Request;
 use serde_json::Value;
-use std::alloc::Global;
+use std::alloc::{AllocError, Global};
 
 /// The place of the account that a value names.
 pub fn account(config: &Config, value: &Value) -> Option<Place>
@@ -106,17 +106,11 @@ fn request_alone(config: &Config, value: &Value) -> Option<Request>
 pub fn requests(alloc: Global, config: &Config, value: &Value) -> Result<Vec<Request>, LineFault>
     ensures { GivesAs (λ v. v.items) result (requests_at config.now (view value.now)) }
 {
-    let Some(items) = value.as_array() else {
-        return Err(LineFault::Bad);
-    };
+    let items = value.as_array().ok_or(LineFault::Bad)?;
     let mut requests = Vec::new(alloc);
     for item in items {
-        let Some(request) = request_alone(config, item) else {
-            return Err(LineFault::Bad);
-        };
-        if requests.push(request).is_err() {
-            return Err(LineFault::OutOfMemory);
-        }
+        let request = request_alone(config, item).ok_or(LineFault::Bad)?;
+        requests.push(request).map_err(AllocError::from)?;
     }
     Ok(requests)
 }

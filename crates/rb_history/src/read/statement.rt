@@ -13,7 +13,7 @@ use rb_kit::List;
 use rb_site::Reply;
 use rb_statements::{Row, Statement};
 use serde_json::Value;
-use std::alloc::Global;
+use std::alloc::{AllocError, Global};
 
 /// A row, from the list of its parts.
 fn row(value: &Value) -> Option<Row>
@@ -40,17 +40,11 @@ fn row(value: &Value) -> Option<Row>
 fn rows(alloc: Global, value: &Value) -> Result<Vec<Row>, LineFault>
     ensures { GivesAs (λ v. v.items) result (rows_at (view value.now)) }
 {
-    let Some(items) = value.as_array() else {
-        return Err(LineFault::Bad);
-    };
+    let items = value.as_array().ok_or(LineFault::Bad)?;
     let mut rows = Vec::new(alloc);
     for item in items {
-        let Some(row) = row(item) else {
-            return Err(LineFault::Bad);
-        };
-        if rows.push(row).is_err() {
-            return Err(LineFault::OutOfMemory);
-        }
+        let row = row(item).ok_or(LineFault::Bad)?;
+        rows.push(row).map_err(AllocError::from)?;
     }
     Ok(rows)
 }
@@ -66,15 +60,9 @@ fn cents(value: &Value, key: &str) -> Option<u64>
 pub fn statement(alloc: Global, value: &Value) -> Result<Reply, LineFault>
     ensures { Gives result (statement_parsed (view value.now)) }
 {
-    let Some(start) = cents(value, key!(start)) else {
-        return Err(LineFault::Bad);
-    };
-    let Some(balance) = cents(value, key!(balance)) else {
-        return Err(LineFault::Bad);
-    };
-    let Some(list) = value.get(key!(rows)) else {
-        return Err(LineFault::Bad);
-    };
+    let start = cents(value, key!(start)).ok_or(LineFault::Bad)?;
+    let balance = cents(value, key!(balance)).ok_or(LineFault::Bad)?;
+    let list = value.get(key!(rows)).ok_or(LineFault::Bad)?;
     match rows(alloc, list) {
         Ok(rows) => Ok(Reply::Statement(Statement {
             start,

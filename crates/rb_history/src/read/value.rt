@@ -19,12 +19,8 @@ pub fn read_value(alloc: Global, line: &str) -> Result<Value, LineFault>
 {
     match Value::from_str(alloc, line) {
         Ok(value) => Ok(value),
-        Err(error) => {
-            if error.is_memory() {
-                return Err(LineFault::OutOfMemory);
-            }
-            Err(LineFault::Bad)
-        }
+        Err(error) if error.is_memory() => Err(LineFault::OutOfMemory),
+        Err(_) => Err(LineFault::Bad),
     }
 }
 

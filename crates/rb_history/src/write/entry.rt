@@ -11,6 +11,7 @@ use crate::write::append::{append, append_number};
 use crate::write::event::append_event;
 use crate::write::id::append_id;
 use crate::write::reply::append_value;
+use rb_lines::whole_or_none;
 use rb_money::Config;
 use rb_site::Entry;
 use std::alloc::{AllocError, Global};
@@ -49,13 +50,7 @@ fn append_whole(
     ensures err { OnErr result (out.new.items ≡ out.old.items) }
 {
     let before = out.len();
-    match append_entry(out, config, site, id, entry) {
-        Ok(()) => Ok(()),
-        Err(refused) => {
-            out.truncate(before);
-            Err(refused)
-        }
-    }
+    whole_or_none(append_entry(out, config, site, id, entry), out, before)
 }
 
 /// Adds the line of an entry of a site's history with its id, without a line feed. An `Err` means out of memory, and

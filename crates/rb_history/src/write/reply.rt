@@ -14,6 +14,7 @@ use crate::write::line::{LINE, put_made, put_name_between, put_number_between};
 use crate::write::put::{put_if, put_name};
 use crate::write::refusal::put_refusal;
 use crate::write::statement::append_statement;
+use rb_lines::whole_or_none;
 use rb_shadow::OpName;
 use rb_site::Reply;
 use std::alloc::{AllocError, Global};
@@ -135,13 +136,7 @@ pub fn append_reply(out: &mut Vec<u8>, reply: &Reply) -> Result<(), AllocError>
     ensures err { OnErr result (out.new.items ≡ out.old.items) }
 {
     let before = out.len();
-    match append_reply_line(out, reply) {
-        Ok(()) => Ok(()),
-        Err(refused) => {
-            out.truncate(before);
-            Err(refused)
-        }
-    }
+    whole_or_none(append_reply_line(out, reply), out, before)
 }
 
 /// The line of a reply, with its line feed. An `Err` means out of memory.

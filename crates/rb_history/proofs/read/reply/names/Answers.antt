@@ -5,7 +5,8 @@ use Rattle.serde_json.specs.Find.{as_array}
 use Rattle.serde_json.specs.View.{items_view, view}
 use Rattle.rb_history.proofs.Reading.{nothing_read, with_front}
 use Rattle.rb_history.specs.RepliesRead.{names_in}
-use Rattle.rb_history.proofs.ItemsRead.{none_read, one_more_read}
+use Rattle.rb_history.specs.Values.{name_at}
+use Rattle.rb_history.proofs.ItemsRead.{one_more_read}
 use Rattle.rb_history.proofs.read.reply.names.Goals as goal
 
 pub loop-item-init : goal.loop-item-init
@@ -14,17 +15,6 @@ loop-item-init c =
     let none : c.new-names.result.items ≡ [] = search rules in
     ap (λ front. with_front front whole) none ∙ nothing_read whole
 
-pub returns-in_default-name : goal.returns-in_default-name
-returns-in_default-name c =
-    let items = c.deref-item-items.result.now in
-    let i = c.loop-item.item-index in
-    let here : drop i items ≡ c.item-item.result ∷ drop (i + 1) items = rw add-one
-    (drop-cons items i c.item-item.result (omega arith) ∙ ap (λ v. v ∷ drop (suc i) items) (sym c.item-item.is)) in
-    let found : as_array (view c.args.value.now) ≡ Some (items_view items) = search rules in
-    ap (option_and_then names_in) found
-    ∙ none_read _ names_in c.loop-item.names.items items i c.item-item.result _ (λ d ds. refl) here
-    (sym c.name.ensures ∙ c.in_default-name.is) c.loop-item.invariant
-
 pub loop-item-preserved : goal.loop-item-preserved
 loop-item-preserved c =
     let items = c.deref-item-items.result.now in
@@ -32,10 +22,11 @@ loop-item-preserved c =
     let front = c.loop-item.names.items in
     let here : drop i items ≡ c.item-item.result ∷ drop (i + 1) items = rw add-one
     (drop-cons items i c.item-item.result (omega arith) ∙ ap (λ v. v ∷ drop (suc i) items) (sym c.item-item.is)) in
-    let pushed : c.push.new.self.items ≡ front ++ c.in-Some-name.name ∷ [] = search rules in
+    let pushed : c.push.new.self.items ≡ front ++ c.in_ok-name.name ∷ [] = search rules in
+    let is : name_at (view c.item-item.result) ≡ Some c.in_ok-name.name = search rules in
     ap (λ xs. with_front xs (names_in (items_view (drop (i + 1) items)))) pushed
-    ∙ one_more_read _ names_in front c.in-Some-name.name items i c.item-item.result _ (λ d ds. refl) here
-    (sym c.name.ensures ∙ c.in-Some-name.is) c.loop-item.invariant
+    ∙ one_more_read _ names_in front c.in_ok-name.name items i c.item-item.result _ (λ d ds. refl) here
+    is c.loop-item.invariant
 
 pub returns : goal.returns
 returns c =

@@ -1,27 +1,12 @@
-use Rattle.std.proofs.Common.{◌≡◌, ◌∷◌, ◌++◌, ◌+◌, [], Some, None, drop, get_or, add-one, drop-cons}
+use Rattle.std.proofs.Common.{◌≡◌, ◌∷◌, ◌++◌, ◌+◌, [], Some, drop, get_or, add-one, drop-cons}
 use Rattle.std.proofs.Common.{append-nil, sym, ap, ◌∙◌, arith, rules}
 use Rattle.std.specs.Prelude.{option_and_then}
 use Rattle.std.proofs.lemmas.List.{at_drop_all}
 use Rattle.serde_json.specs.Find.{as_array}
 use Rattle.serde_json.specs.View.{view, items_view}
 use Rattle.rb_history.specs.Requests.{request_alone, requests_in}
-use Rattle.rb_history.proofs.Reading.{with_front, next_read, none_read, nothing_read}
+use Rattle.rb_history.proofs.Reading.{with_front, next_read, nothing_read}
 use Rattle.rb_history.proofs.read.request.requests.Goals as goal
-
-pub returns-in_default-request_alone : goal.returns-in_default-request_alone
-returns-in_default-request_alone c =
-    let s = c.args.config.now in
-    let items = c.deref-item-items.result.now in
-    let i = c.loop-item.item-index in
-    let x = c.item-item.result in
-    let done = c.loop-item.requests.items in
-    let found : as_array (view c.args.value.now) ≡ Some (items_view items) = search rules in
-    let here : drop i items ≡ get_or items i x ∷ drop (i + 1) items = rw add-one (drop-cons items i x (omega arith)) in
-    let at = here ∙ ap (λ y. y ∷ drop (i + 1) items) (sym c.item-item.is) in
-    ap (option_and_then (requests_in s)) found
-    ∙ none_read done (request_alone s (view x)) (requests_in s (items_view (drop (i + 1) items))) _
-    (sym c.request_alone.ensures ∙ c.in_default-request_alone.is)
-    (ap (λ l. with_front done (requests_in s (items_view l))) (sym at) ∙ c.loop-item.invariant)
 
 pub loop-item-preserved : goal.loop-item-preserved
 loop-item-preserved c =
@@ -29,19 +14,14 @@ loop-item-preserved c =
     let items = c.deref-item-items.result.now in
     let i = c.loop-item.item-index in
     let x = c.item-item.result in
-    let r = c.in-Some-request_alone.request in
+    let r = c.in_ok-request.request in
     let done = c.loop-item.requests.items in
     let pushed : c.push.new.self.items ≡ done ++ (r ∷ []) = search rules in
     let here : drop i items ≡ get_or items i x ∷ drop (i + 1) items = rw add-one (drop-cons items i x (omega arith)) in
     let at = here ∙ ap (λ y. y ∷ drop (i + 1) items) (sym c.item-item.is) in
-    next_read done c.push.new.self.items r (request_alone s (view x)) (requests_in s (items_view (drop (i + 1) items))) _ pushed
-    (sym c.request_alone.ensures ∙ c.in-Some-request_alone.is)
+    let is : request_alone s (view x) ≡ Some r = search rules in
+    next_read done c.push.new.self.items r (request_alone s (view x)) (requests_in s (items_view (drop (i + 1) items))) _ pushed is
     (ap (λ l. with_front done (requests_in s (items_view l))) (sym at) ∙ c.loop-item.invariant)
-
-pub returns-in_default : goal.returns-in_default
-returns-in_default c =
-    let found : as_array (view c.args.value.now) ≡ None = search rules in
-    ap (option_and_then (requests_in c.args.config.now)) found
 
 pub loop-item-init : goal.loop-item-init
 loop-item-init c =
