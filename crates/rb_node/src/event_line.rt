@@ -26,7 +26,7 @@ use rb_history::write::append::append;
 use rb_history::{
     BankName, LineFault, RequestId, append_sent_message, append_value, read_event_to, spell,
 };
-use rb_lines::text_on;
+use rb_lines::{text_on, whole_or_none};
 use rb_money::Config;
 use rb_shadow::OpName;
 use rb_site::{Event, Message, Reply};
@@ -118,9 +118,7 @@ impl Node {
             × (other_bank_on self.now.site.settings self.now.site.bank line.now ≡ false)) × IsLineFault why) }
         ensures not_text { is_utf8 line.now ≡ false → result ≡ Err NodeFault.BadLine }
     {
-        let Some(text) = text_on(line) else {
-            return Err(NodeFault::BadLine);
-        };
+        let text = text_on(line).ok_or(NodeFault::BadLine)?;
         match read_event_to(self.alloc, &self.config, self.site.bank(), text, id) {
             Ok(found) => Ok(found),
             Err(LineFault::Bad) => Err(NodeFault::BadLine),
@@ -243,14 +241,9 @@ impl Node {
         ensures memory { IfErr result (λ why. why ≡ NodeFault.OutOfMemory) }
     {
         let (answered, recorded) = (answers.len(), entries.len());
-        match self.answer_asked(all, id, event, answers, entries) {
-            Ok(()) => Ok(()),
-            Err(_) => {
-                answers.truncate(answered);
-                entries.truncate(recorded);
-                Err(NodeFault::OutOfMemory)
-            }
-        }
+        let done = self.answer_asked(all, id, event, answers, entries);
+        let done = whole_or_none(done, answers, answered);
+        Ok(whole_or_none(done, entries, recorded)?)
     }
 
     /// Answers a line: its answer is added to the answers, each line of it with a line feed, and the lines of the

@@ -5,6 +5,7 @@ ghost use Rattle.rb_node.specs.Answers.{line_of, other_bank_json};
 use crate::NodeFault;
 use rb_history::spell;
 use rb_history::write::append::append_number;
+use rb_lines::whole_or_none;
 
 /// The refusal of a line of another bank. No refusal of a site has this number.
 const OTHER_BANK: u64 = 26;
@@ -16,16 +17,11 @@ pub(crate) fn append_other_bank(answers: &mut Vec<u8>) -> Result<(), NodeFault>
     ensures memory { IfErr result (λ why. why ≡ NodeFault.OutOfMemory) }
 {
     let before = answers.len();
-    match append_number(
+    let done = append_number(
         answers,
         spell!("{" reply ":{" refused ":"),
         OTHER_BANK,
         spell!("}," sends ":[]," then ":[]}\n"),
-    ) {
-        Ok(()) => Ok(()),
-        Err(_) => {
-            answers.truncate(before);
-            Err(NodeFault::OutOfMemory)
-        }
-    }
+    );
+    Ok(whole_or_none(done, answers, before)?)
 }

@@ -9,7 +9,7 @@ ghost use Rattle.rb_node.specs.LineAnswers.{question_on, question_text};
 
 use crate::{Node, NodeFault};
 use rb_history::{LineFault, Question, read_question_to};
-use rb_lines::text_on;
+use rb_lines::{text_on, whole_or_none};
 use std::alloc::AllocError;
 
 impl Node {
@@ -21,9 +21,7 @@ impl Node {
             (λ why. (why ≡ NodeFault.BadLine → question_on self.now.site.bank line.now ≡ None) × IsLineFault why) }
         ensures not_text { is_utf8 line.now ≡ false → result ≡ Err NodeFault.BadLine }
     {
-        let Some(text) = text_on(line) else {
-            return Err(NodeFault::BadLine);
-        };
+        let text = text_on(line).ok_or(NodeFault::BadLine)?;
         match read_question_to(self.alloc, self.site.bank(), text) {
             Ok(question) => Ok(question),
             Err(LineFault::Bad) => Err(NodeFault::BadLine),
@@ -60,12 +58,7 @@ impl Node {
     {
         let question = self.question_of(line)?;
         let before = answers.len();
-        match self.append_question_text(answers, question) {
-            Ok(()) => Ok(()),
-            Err(_) => {
-                answers.truncate(before);
-                Err(NodeFault::OutOfMemory)
-            }
-        }
+        let done = self.append_question_text(answers, question);
+        Ok(whole_or_none(done, answers, before)?)
     }
 }

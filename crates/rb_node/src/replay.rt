@@ -17,7 +17,7 @@ use rb_history::write::append::append;
 use rb_history::{
     BankName, LineFault, RequestId, append_asked_line, append_reply, read_asked_entry, spell,
 };
-use rb_lines::text_on;
+use rb_lines::{text_on, whole_or_none};
 use rb_money::{Config, Refusal};
 use rb_site::{Entry, Event, Message, Reply};
 use std::alloc::AllocError;
@@ -51,9 +51,7 @@ impl Node {
         ensures asked { IfOk result (λ entry. IsAsked (record { id = id.new; entry = entry })) }
     {
         rb_history::read_entries_fit();
-        let Some(text) = text_on(line) else {
-            return Err(NodeFault::BadLine);
-        };
+        let text = text_on(line).ok_or(NodeFault::BadLine)?;
         let mut entry = Entry {
             event: Event::Pass(0),
             reply: Reply::Taken(0),
@@ -196,12 +194,7 @@ impl Node {
         ensures err { OnErr result (out.new.items ≡ out.old.items) }
     {
         let before = out.len();
-        match append_sends(out, &self.config, self.site.bank(), self.sent.as_slice()) {
-            Ok(()) => Ok(()),
-            Err(refused) => {
-                out.truncate(before);
-                Err(refused)
-            }
-        }
+        let done = append_sends(out, &self.config, self.site.bank(), self.sent.as_slice());
+        whole_or_none(done, out, before)
     }
 }

@@ -1,4 +1,4 @@
-use Rattle.std.proofs.Common.{◌≡◌, ◌++◌, ◌∷◌, List, [], ℕ, codes, decimal, append_assoc, ap, ◌∙◌}
+use Rattle.std.proofs.Common.{◌≡◌, ◌++◌, ◌∷◌, List, [], ℕ, codes, decimal, append_assoc, ap, ◌∙◌, rules}
 use Rattle.json.specs.Print.{escape_byte}
 use Rattle.rb_node.specs.Answers.{line_of, other_bank_json}
 use Rattle.rb_node.proofs.other_bank.append_other_bank.Goals as goal
@@ -13,5 +13,8 @@ refused_line : codes "{\"reply\":{\"refused\":" ++ (decimal 26 ++ codes "},\"sen
 unfolding escape_byte
 refused_line = refused_parts (decimal 26)
 
-pub returns-in-Ok-clause-added : goal.returns-in-Ok-clause-added
-returns-in-Ok-clause-added c = c.in-Ok.ensures ∙ ap (λ l. c.args.answers.now.items ++ l) refused_line
+pub returns-clause-added : goal.returns-clause-added
+returns-clause-added c =
+    let parts = codes "{\"reply\":{\"refused\":" ++ (decimal 26 ++ codes "},\"sends\":[],\"then\":[]}\n") in
+    let whole : c.whole_or_none.new.text.items ≡ c.args.answers.now.items ++ parts = search rules in
+    whole ∙ ap (λ l. c.args.answers.now.items ++ l) refused_line
