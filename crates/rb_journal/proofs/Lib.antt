@@ -6,7 +6,7 @@ mod Crash
 mod Torn
 mod Intact
 mod Output
-mod Silent
+mod Quiet
 mod Advance
 mod Runs
 mod Follow

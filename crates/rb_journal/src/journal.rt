@@ -2,9 +2,10 @@
 //! a batch is written behind it, with a closed gate of its own at its end, and synced; then the gate is opened, by
 //! the one byte `{`, and synced. So a crash leaves all of a batch or none of it.
 ghost use Rattle.std.specs.Prelude.{◌≡◌, ◌⊎◌, ◌+◌, ◌<◌, ◌≤◌, ◌^◌, ◌++◌, [], ◌∷◌, List, ℕ, length, take, IfOk, IfErr};
-ghost use Rattle.std.specs.Prelude.{◌↔◌, OnOk, IsErrOf, IsTrue, MatchOption};
+ghost use Rattle.std.specs.Prelude.{◌↔◌, drop, OnOk, IsErrOf, IsTrue, MatchOption};
 ghost use Rattle.std.specs.List.{concat};
-ghost use Rattle.rb_journal.specs.Host.{DiskCause, Elapses, LeavesOnly, MayBeCut, Only, Outputs, Silent};
+ghost use Rattle.rb_journal.specs.Host.{Cut, IsWritten, LeavesOnly, MayBeCut, Only, OutputCause, Outputs, TornByte};
+ghost use Rattle.rb_journal.specs.Quiet.{Quiet};
 ghost use Rattle.rb_journal.specs.Lines.{recovered, at_rest, IsBatch, IsDamaged, IsIntact, MayBeBehind};
 ghost use Rattle.rb_journal.specs.Lines.{is_bare_gate, to_keep, what_is_cut};
 ghost use Rattle.rb_journal.specs.Journal.{IsSettled, IsLeftAs, IsBeforeOrAfter, IsDurable, IsAppended, HasClosedGate};
@@ -101,8 +102,7 @@ impl<H: Host> Journal<H> {
             return Err(HostError::Full);
         }
         stage(&mut self.host, self.end, tail)?;
-        self.host.write_at(self.end, &[*gate])?;
-        self.host.sync()?;
+        write_byte(&mut self.host, self.end, *gate)?;
         self.end += 1 + tail.len();
         Ok(())
     }
@@ -134,8 +134,7 @@ impl<H: Host> Journal<H> {
         ensures full { IsErrOf result HostError.Full → 2 ^ 60 ≤ self.old.end + length batch.now }
     {
         self.append(batch)?;
-        put_out_all(&mut self.host, reply)?;
-        Ok(())
+        put_out_all(&mut self.host, reply)
     }
 }
 
@@ -147,23 +146,14 @@ fn stage<H: Host>(host: &mut H, end: usize, tail: &[u8]) -> Result<(), HostError
     requires durable { Only (H.content host.old) (H.may_leave host.old) }
     requires fits { end + length tail.now < 2 ^ 62 }
 
-    ensures usable { OnOk result (H.is_usable host.new) }
+    ensures quiet { Quiet H.Host (HasClosedGate (recovered (H.content host.old)) (length tail.now + 1)) host.old
+        host.new result }
     ensures staged { OnOk result (H.content host.new ≡ concat (recovered (H.content host.old)) ++ 32
         ∷ (tail.now ++ 32 ∷ [])) }
     ensures durable { OnOk result (Only (H.content host.new) (H.may_leave host.new)) }
-    ensures output { H.output host.new ≡ H.output host.old }
-    ensures reported { H.reported host.new ≡ H.reported host.old }
-    ensures any_moment { LeavesOnly H.moment H.left_since host.old host.new
-        (λ c d. HasClosedGate (recovered (H.content host.old)) (length tail.now + 1) c × (d ≡ H.output host.old)) }
-    ensures later { H.faults host.old ≤ H.faults host.new }
-    ensures failed { IsErrOf result HostError.DiskFailed → H.faults host.old < H.faults host.new }
-    ensures no_output_fault { IsErrOf result HostError.OutputFailed → ⊥ }
-    ensures full { IsErrOf result HostError.Full → ⊥ }
 {
     host.write_at(end + 1, tail)?;
-    host.write_at(end + 1 + tail.len(), b" ")?;
-    host.sync()?;
-    Ok(())
+    write_byte(host, end + 1 + tail.len(), b' ')
 }
 
 // Puts out all of the bytes.
@@ -176,10 +166,7 @@ fn put_out_all<H: Host>(host: &mut H, bytes: &[u8]) -> Result<(), HostError>
     ensures crash { (c : List ℕ) → H.may_leave host.new c → H.may_leave host.old c }
     ensures any_moment { LeavesOnly H.moment H.left_since host.old host.new
         (Outputs (H.may_leave host.old) (H.output host.old) bytes.now) }
-    ensures later { H.faults host.old ≤ H.faults host.new }
-    ensures output_failed { IsErrOf result HostError.OutputFailed → H.faults host.old < H.faults host.new }
-    ensures not_failed { IsErrOf result HostError.DiskFailed → ⊥ }
-    ensures full { IsErrOf result HostError.Full → ⊥ }
+    ensures cause { OutputCause (H.faults host.old) (H.faults host.new) result }
 {
     let mut done = 0;
     while done < bytes.len() {
@@ -203,21 +190,66 @@ fn is_bare_gate(rest: &[u8]) -> bool
 fn keep_rest<H: Host>(host: &mut H, lines: u64, rest: &[u8]) -> Result<(), HostError>
     requires usable { H.is_usable host.old }
     requires lines { lines ≡ length (recovered (H.content host.old)) }
-    ensures usable { OnOk result (H.is_usable host.new) }
+    ensures quiet { Quiet H.Host (H.may_leave host.old) host.old host.new result }
     ensures kept { OnOk result (H.kept host.new ≡ H.kept host.old ++ to_keep rest.now) }
     ensures cut { OnOk result (MayBeCut rest.now (H.kept host.new)) }
     ensures content { H.content host.new ≡ H.content host.old }
     ensures crash { (c : List ℕ) → H.may_leave host.new c → H.may_leave host.old c }
-    ensures output { H.output host.new ≡ H.output host.old }
-    ensures reported { H.reported host.new ≡ H.reported host.old }
-    ensures time { Elapses (H.moment host.old) (H.moment host.new) (H.left_since host.old) (H.left_since host.new)
-        (Silent (H.may_leave host.new) (H.output host.old)) }
-    ensures cause { DiskCause (H.faults host.old) (H.faults host.new) result }
 {
     if is_bare_gate(rest) {
         return Ok(());
     }
     host.keep(lines, rest)
+}
+
+// Cuts off what is behind this number of lines, with their end, and keeps it before.
+fn cut_off<H: Host>(host: &mut H, lines: u64, end: usize, rest: &[u8]) -> Result<(), HostError>
+    requires usable { H.is_usable host.old }
+    requires lines { lines ≡ length (recovered (H.content host.old)) }
+    requires end { end ≤ length (H.content host.old) }
+    requires rest { rest.now ≡ drop end (H.content host.old) }
+    requires durable { Only (H.content host.old) (H.may_leave host.old) }
+    ensures quiet { Quiet H.Host (Cut end (H.content host.old)) host.old host.new result }
+    ensures cut { OnOk result (H.content host.new ≡ take end (H.content host.old)) }
+    ensures durable { OnOk result (Only (H.content host.new) (H.may_leave host.new)) }
+    ensures kept { OnOk result (H.kept host.new ≡ H.kept host.old ++ to_keep rest.now) }
+{
+    keep_rest(host, lines, rest)?;
+    host.cut(end)?;
+    host.sync()
+}
+
+/// Writes one byte, and waits until it is on the disk.
+pub fn write_byte<H: Host>(host: &mut H, at: usize, byte: u8) -> Result<(), HostError>
+    requires usable { H.is_usable host.old }
+    requires place { at ≤ length (H.content host.old) }
+    ensures quiet { Quiet H.Host (λ c. (d : List ℕ) × H.may_leave host.old d × TornByte at byte d c) host.old host.new
+        result }
+    ensures written { OnOk result (IsWritten (H.content host.old) at (byte ∷ []) (H.content host.new)) }
+    ensures durable { OnOk result (Only (H.content host.new) (H.may_leave host.new)) }
+    ensures kept { H.kept host.new ≡ H.kept host.old }
+{
+    host.write_at(at, &[byte])?;
+    host.sync()
+}
+
+// Repairs the end of a file of these bytes, with this number of lines and their end.
+fn repair<H: Host>(host: &mut H, bytes: &[u8], lines: u64, end: usize) -> Result<(), HostError>
+    requires opened { H.never_failed host.old }
+    requires bytes { bytes.now ≡ H.content host.old }
+    requires durable { H.knows_disk host.old → Only (H.content host.old) (H.may_leave host.old) }
+    requires lines { lines ≡ length (recovered bytes.now) }
+    requires within { end ≤ length bytes.now }
+    requires end { end ≡ length (concat (recovered bytes.now)) }
+    ensures quiet { Quiet H.Host (IsRepaired bytes.now) host.old host.new result }
+    ensures at_rest { OnOk result (H.content host.new ≡ at_rest (recovered bytes.now)) }
+    ensures durable { OnOk result (Only (H.content host.new) (H.may_leave host.new)) }
+    ensures kept { OnOk result (H.kept host.new ≡ H.kept host.old ++ what_is_cut bytes.now) }
+{
+    host.write_again(bytes)?;
+    cut_off(host, lines, end, &bytes[end..])?;
+    // The cut has to be on the disk first: behind a gate that is torn open, what was there would count.
+    write_byte(host, end, b' ')
 }
 
 /// Writes the bytes of a file that a crash may have left, these, again, repairs its end, and answers where its lines
@@ -251,13 +283,7 @@ pub fn recover<H: Host>(host: &mut H, bytes: &[u8]) -> Result<usize, HostError>
     ensures full { IsErrOf result HostError.Full → ⊥ }
 {
     let (lines, end) = count_lines(bytes);
-    host.write_again(bytes)?;
-    keep_rest(host, lines, &bytes[end..])?;
-    host.cut(end)?;
-    // The cut has to be on the disk first: behind a gate that is torn open, what was there would count.
-    host.sync()?;
-    host.write_at(end, b" ")?;
-    host.sync()?;
+    repair(host, bytes, lines, end)?;
     Ok(end)
 }
 

@@ -1,13 +1,12 @@
 //! A journal that is never written again: the closed gate behind its lines becomes the seal, a TAB. It is one byte, as
 //! blank to a reader as the gate, and no crash of an append or of a repair leaves it. So a file is sealed or it isn't,
 //! and a copy from before isn't.
-ghost use Rattle.std.specs.Prelude.{◌≡◌, ◌≢◌, ◌<◌, ◌≤◌, ◌↔◌, [], ◌∷◌, length, IfErr, IfOk};
-ghost use Rattle.std.specs.Prelude.{IsErrOf, IsTrue, MatchResult, OnOk};
-ghost use Rattle.std.specs.List.{concat};
+ghost use Rattle.std.specs.Prelude.{◌≡◌, ◌≢◌, ◌<◌, ◌≤◌, ◌↔◌, [], ◌∷◌, IfErr, IfOk, IsTrue, MatchResult};
 ghost use Rattle.rb_journal.specs.Host.{LeavesOnly, Only};
-ghost use Rattle.rb_journal.specs.Lines.{recovered, at_rest, sealed, IsSealed};
+ghost use Rattle.rb_journal.specs.Lines.{recovered, sealed, IsSealed};
 ghost use Rattle.rb_journal.specs.Journal.{IsSealedOrNot, IsSettled};
 
+use crate::journal::write_byte;
 use crate::{Host, HostError, Journal, end_of_lines};
 
 // Whether these bytes are the seal.
@@ -26,28 +25,6 @@ pub fn is_sealed(bytes: &[u8]) -> bool
 {
     let end = end_of_lines(bytes);
     end > 0 && is_seal(&bytes[end..])
-}
-
-// Writes the seal in the place of the gate, and waits for the disk.
-fn write_seal<H: Host>(host: &mut H, end: usize) -> Result<(), HostError>
-    requires usable { H.is_usable host.old }
-    requires rest { H.content host.old ≡ at_rest (recovered (H.content host.old)) }
-    requires end { end ≡ length (concat (recovered (H.content host.old))) }
-    requires durable { Only (H.content host.old) (H.may_leave host.old) }
-    ensures usable { OnOk result (H.is_usable host.new) }
-    ensures sealed { OnOk result (H.content host.new ≡ sealed (recovered (H.content host.old))) }
-    ensures durable { OnOk result (Only (H.content host.new) (H.may_leave host.new)) }
-    ensures output { H.output host.new ≡ H.output host.old }
-    ensures any_moment { LeavesOnly H.moment H.left_since host.old host.new
-        (IsSealedOrNot (H.content host.old) (H.output host.old)) }
-    ensures later { H.faults host.old ≤ H.faults host.new }
-    ensures failed { IsErrOf result HostError.DiskFailed → H.faults host.old < H.faults host.new }
-    ensures no_output_fault { IsErrOf result HostError.OutputFailed → ⊥ }
-    ensures full { IsErrOf result HostError.Full → ⊥ }
-{
-    host.write_at(end, b"\t")?;
-    host.sync()?;
-    Ok(())
 }
 
 impl<H: Host> Journal<H> {
@@ -78,7 +55,7 @@ impl<H: Host> Journal<H> {
         ensures full { IfErr result (λ e. e.0 ≡ HostError.Full → ⊥) }
     {
         let Journal { mut host, end } = self;
-        match write_seal(&mut host, end) {
+        match write_byte(&mut host, end, b'\t') {
             Ok(()) => Ok(host),
             Err(error) => Err((error, host)),
         }
