@@ -1,12 +1,13 @@
 -- Some lines of a run: what waits before and after them, and why no more were answered.
-use Rattle.std.specs.Prelude.{◌≡◌, ℕ, ◌+◌, ◌<◌, ◌⊎◌, Bool, true, false, List, [], ◌++◌, length, drop, Option}
-use Rattle.std.specs.Io.KnownBytes.{Consumes}
-use Rattle.rb_lines.specs.Buffers.{IsWholeLine}
+use Rattle.std.specs.Prelude.{◌≡◌, ℕ, ◌+◌, ◌<◌, ◌≤◌, ◌⊎◌, Bool, true, false, List, [], ◌++◌, length, drop, Option}
+use Rattle.std.specs.Io.KnownBytes.{Consumes, IsAtEnd}
+use Rattle.rb_lines.specs.Buffers.{Counts, IsWholeLine, left}
 use Rattle.rb_lines.specs.Lines.{line_len, lines_of, whole_lines}
 use Rattle.rb_lines.specs.declared.buffers.Buffers.{Buffers}
 use Rattle.rb_lines.specs.declared.limits.TheConstants.{LINE_LIMIT}
 use Rattle.rb_journal.specs.Turns.{Answers, AreTurns, IsOneBatch, Turn, lines_added, lines_answered, state_after, texts}
 use Rattle.rb_journal.specs.Turns.{to_answer}
+use Rattle.rb_journal.specs.declared.input.Input.{Ghosts}
 use Rattle.rb_journal.specs.declared.waiting.Waiting.{Waiting}
 use Rattle.rb_journal.specs.declared.waiting.Waiting.TheVariants.{Line, Long, Nothing}
 use Rattle.rb_journal.specs.declared.work.Work.{Work}
@@ -75,3 +76,18 @@ pub record ReadsOn (old new : Buffers) (had has : Option (List ℕ)) : Type 0 wh
   pub read : Consumes had has more
   pub one : line_len (old.pending ++ more) ≡ length (old.pending ++ more)
   pub going : new.ended ≡ false
+
+-- what the reader may be asked is as before, each of its reads is counted, and an input that had ended still has
+pub record ReadsAsBefore {I : Type 0} (i : Ghosts I) (old new : Buffers) (was is : I) : Type 0 where
+  pub order : (still : Option (List ℕ)) (said : List ℕ) → i.may_read was still said → i.may_read is still said
+  pub counted : Counts (i.calls is) new.reads
+  pub was_going : new.ended ≡ false → old.ended ≡ false
+
+-- one line less waits, and it is counted; nothing is to be put out, and the input has ended only if all of it was read
+pub record IsNext {I : Type 0} (i : Ghosts I) (old new : Buffers) (had has : Work) (is : I) : Type 0 where
+  pub buffered : new.buffered.items ≡ []
+  pub fewer : new.reads ≤ old.reads
+  pub left : left new < left old
+  pub end : new.ended ≡ true → IsAtEnd (i.remaining is)
+  pub number : has.number ≡ had.number + 1
+  pub count : has.count ≤ has.number

@@ -10,7 +10,7 @@ ghost use Rattle.rb_journal.specs.Host.{LeavesOnly};
 ghost use Rattle.rb_journal.specs.Journal.{IsSettled};
 ghost use Rattle.rb_journal.specs.Lines.{IsIntact, recovered};
 ghost use Rattle.rb_journal.specs.Run.{IsRunOfBatches, served_input};
-ghost use Rattle.rb_journal.specs.Steps.{Advances, DropsLine, ReadsOn, point_of};
+ghost use Rattle.rb_journal.specs.Steps.{Advances, DropsLine, ReadsAsBefore, IsNext, ReadsOn, point_of};
 ghost use Rattle.rb_journal.specs.declared.fault.ServeFault.TheVariants.{Journal as JournalFailed, Read, Write};
 
 use crate::fault::ServeFault;
@@ -106,8 +106,7 @@ pub fn answer_long_line<R: JournaledResponder, H: Host, I: Input>(
         (R.state responder.old) (recovered (H.content journal.old.host)) (H.output journal.old.host)) }
     ensures intact { LeavesOnly H.moment H.left_since journal.old.host journal.new.host (λ c _. IsIntact c) }
 
-    ensures order { (left : Option (List ℕ)) (said : List ℕ) → I.may_read reader.old left said
-        → I.may_read reader.new left said }
+    ensures goes_on { ReadsAsBefore I.Input buffers.old buffers.new reader.old reader.new }
     ensures later { H.faults journal.old.host ≤ H.faults journal.new.host }
     ensures write { result ≡ Err Write → H.faults journal.old.host < H.faults journal.new.host }
     ensures journal { result ≡ Err JournalFailed → (H.faults journal.old.host < H.faults journal.new.host)
@@ -115,14 +114,7 @@ pub fn answer_long_line<R: JournaledResponder, H: Host, I: Input>(
         (R.state responder.old) (recovered (H.content journal.old.host)) }
 
     ensures batch { work.new.batch.bytes.items ≡ [] }
-    ensures buffered { OnOk result (buffers.new.buffered.items ≡ []) }
-    ensures was_going { buffers.new.ended ≡ false → buffers.old.ended ≡ false }
-    ensures counted { Counts (I.calls reader.new) buffers.new.reads }
-    ensures fewer { OnOk result (buffers.new.reads ≤ buffers.old.reads) }
-    ensures left { OnOk result (left buffers.new < left buffers.old) }
-    ensures end { OnOk result (buffers.new.ended ≡ true → IsAtEnd (I.remaining reader.new)) }
-    ensures number { OnOk result (work.new.number ≡ work.old.number + 1) }
-    ensures count { OnOk result (work.new.count ≤ work.new.number) }
+    ensures next { OnOk result (IsNext I.Input buffers.old buffers.new work.old work.new reader.new) }
 {
     drop_line(buffers, reader, &journal.host)?;
     responder.answer_long(work.number, &mut buffers.buffered)?;

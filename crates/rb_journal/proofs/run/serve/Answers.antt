@@ -183,7 +183,7 @@ returns-in_err-answer_long_line-in-Long-clause-text g c = λ at_rest.
     let same : fault ≡ Read = rest_is_read ℕ fault (subst (λ r. EndsAtRest {T = ℕ} r) passed at_rest) in
     let stop = c.in_err-answer_long_line-in-Long.ensures.stopped (ap Err same) in
     let follows = read_follows (here g at.In_ok-answer_group) (ended_here g at.After-answer_group) stop.0.more _ _ stop.0.read
-    c.answer_long_line.ensures.was_going in
+    c.answer_long_line.ensures.goes_on.was_going in
     let left = g.I.Input.remaining c.answer_long_line.new.reader in
     let input = served_input c.args.buffers.now.pending (g.I.Input.remaining c.args.reader.now) in (
       follows.turns,
@@ -200,19 +200,19 @@ batches-preserved-in-Long g c =
     let long = c.in_ok-answer_long_line-in-Long.ensures in
     let (more, read, steps) = long.answered in
     let follows = read_follows (here g at.In_ok-answer_group) (ended_here g at.After-answer_group) more _ _ read
-    c.answer_long_line.ensures.was_going in
+    c.answer_long_line.ensures.goes_on.was_going in
     record {
       settled = long.settled tt;
       same = long.same tt;
       batch = long.batch;
-      buffered = long.buffered;
-      counted = c.answer_long_line.ensures.counted;
-      end = long.end;
-      number = omega (arith, long.left, long.number, group.number, inv.number, ap (λ k. READ_SIZE * k) group.reads);
-      count = long.count;
-      order = λ still said may. c.answer_long_line.ensures.order still said (inv.order still said may);
+      buffered = long.next.buffered;
+      counted = c.answer_long_line.ensures.goes_on.counted;
+      end = long.next.end;
+      number = omega (arith, long.next.left, long.next.number, group.number, inv.number, ap (λ k. READ_SIZE * k) group.reads);
+      count = long.next.count;
+      order = λ still said may. c.answer_long_line.ensures.goes_on.order still said (inv.order still said may);
       later = omega (arith, inv.later, group.later, long.later);
-      follows = follows_steps _ _ _ _ _ _ _ _ _ _ follows steps long.end;
+      follows = follows_steps _ _ _ _ _ _ _ _ _ _ follows steps long.next.end;
       any_moment = long_moments g at.After-answer_long_line;
       intact = then_intact (then_intact inv.intact c.answer_group.ensures.intact) c.answer_long_line.ensures.intact;
     }
