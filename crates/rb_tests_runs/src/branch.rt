@@ -155,7 +155,27 @@ pub fn served_by<E: Entries, R: Ledger, G: Gate + Drop, W: Wait>(
     branch.serve(rt, seat, inlet)
 }
 
-/// A deposit of 5 cents and then the balance, by one seat: its receipts are read by number.
+/// The seat, given back alone.
+pub fn alone<E: Entries, R: Ledger>(
+    alloc: Global,
+    seat: Seat<E, R>,
+) -> Result<Vec<Seat<E, R>>, Fail> {
+    Ok(vec![in alloc; seat]?)
+}
+
+/// The receipts of a deposit of 5 cents and then the balance are read by number.
+fn are_read_back<E: Entries, R: Ledger>(rt: &impl Abort, seat: &Seat<E, R>) {
+    for (number, wanted) in [(0, None), (1, Some(1)), (2, Some(2)), (3, None)] {
+        let found = seat.receipt(number).map(|receipt| receipt.number);
+        equal(rt, found, wanted);
+    }
+    if let Some(receipt) = seat.receipt(1) {
+        let asked = receipt.event.same(&Event::Submit(deposit(5)));
+        holds(rt, "the deposit", asked && receipt.unsent == 0);
+    }
+}
+
+/// A deposit of 5 cents and then the balance, by one seat.
 struct ReadBack;
 
 impl Case for ReadBack {
@@ -170,14 +190,8 @@ impl Case for ReadBack {
         let first = deposited(rt, branch, &mut seat, &outbox, 5)?;
         let second = balance_is(rt, branch, &mut seat, 5)?;
         equal(rt, (first, second), (1, 2));
-        for (number, wanted) in [(0, None), (1, Some(1)), (2, Some(2)), (3, None)] {
-            let found = seat.receipt(number).map(|receipt| receipt.number);
-            equal(rt, found, wanted);
-        }
-        let receipt = seat.receipt(1).ok_or("no receipt")?;
-        let asked = receipt.event.same(&Event::Submit(deposit(5)));
-        holds(rt, "the deposit", asked && receipt.unsent == 0);
-        Ok(vec![in alloc; seat]?)
+        are_read_back(rt, &seat);
+        alone(alloc, seat)
     }
 }
 
@@ -229,11 +243,26 @@ impl Case for Full {
         let again = asked(rt, branch, &mut seat);
         equal(rt, again.err(), Some(CallFault::HistoryFull));
         equal(rt, seat.receipts().len(), 1);
-        Ok(vec![in alloc; seat]?)
+        alone(alloc, seat)
     }
 }
 
-/// A deposit by each of two seats, one of which isn't given back. Nobody is at the other end of a link.
+/// A seat at site 0 and its deposit. Nobody is at the other end of a link.
+fn unsent_deposit<E: Entries, R: Ledger, G: Gate + Drop, W: Wait + Abort>(
+    rt: &W,
+    alloc: Global,
+    branch: &Branch<E, R, G>,
+) -> Result<Seat<E, R>, Fail> {
+    let (outbox, inlets) = links(alloc, 2)?;
+    drop(inlets);
+    let mut seat = branch.seat(rt, 0)?;
+    let number = deposited(rt, branch, &mut seat, &outbox, 1)?;
+    let unsent = seat.receipt(number).map(|receipt| receipt.unsent);
+    equal(rt, unsent, Some(1));
+    Ok(seat)
+}
+
+/// A deposit by each of two seats, one of which isn't given back.
 struct OneMissing;
 
 impl Case for OneMissing {
@@ -243,18 +272,9 @@ impl Case for OneMissing {
         alloc: Global,
         branch: &Branch<E, R, G>,
     ) -> Result<Vec<Seat<E, R>>, Fail> {
-        let (outbox, inlets) = links(alloc, 2)?;
-        drop(inlets);
-        let mut first = branch.seat(rt, 0)?;
-        let mut second = branch.seat(rt, 0)?;
-        let number = deposited(rt, branch, &mut first, &outbox, 1)?;
-        equal(
-            rt,
-            first.receipt(number).map(|receipt| receipt.unsent),
-            Some(1),
-        );
-        let _number = deposited(rt, branch, &mut second, &outbox, 1)?;
-        Ok(vec![in alloc; first]?)
+        let first = unsent_deposit(rt, alloc, branch)?;
+        let _second = unsent_deposit(rt, alloc, branch)?;
+        alone(alloc, first)
     }
 }
 

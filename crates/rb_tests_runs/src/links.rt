@@ -1,12 +1,13 @@
 //! The messages that go by the links between sites.
-use crate::branch::{Case, deposit, deposited, gathered, some_sites};
-use crate::checks::equal;
-use rb_branch::{Branch, Entries, Gate, Inlet, NoGate, Outbox, Seat, links};
+use crate::branch::{Case, alone, deposit, deposited, gathered, some_sites};
+use crate::checks::{equal, holds};
+use rb_branch::{Branch, CallFault, Entries, Gate, Inlet, NoGate, Outbox, Receipt, Seat, links};
 use rb_kit::List;
 use rb_money::Limits;
-use rb_shadow::write_name;
+use rb_scratch::Request;
+use rb_shadow::OpName;
 use rb_site::Message;
-use std::alloc::{AllocError, Global};
+use std::alloc::Global;
 use std::process::Abort;
 use std::sync::Wait;
 use std::sync::ledger::Ledger;
@@ -19,75 +20,91 @@ struct Sent {
     links: u8,
     read: usize,
     unsent: [u32; 3],
-    brought: [&'static str; 3],
+    brought: [&'static [u32]; 3],
 }
 
-/// The messages that links 1 and 2 bring.
-const BLUES: &str = "B0.1 B0.2 B0.3 ";
+/// The numbers of the operations that links 1 and 2 bring; 0 stands for the token.
+const BLUES: &[u32] = &[1, 2, 3];
 
-const ALL: &str = "B0.1 token B0.2 B0.3 ";
+const ALL: &[u32] = &[1, 0, 2, 3];
 
 const SENT: [Sent; 5] = [
     Sent {
         links: 3,
         read: 3,
         unsent: [0, 0, 0],
-        brought: ["", BLUES, ALL],
+        brought: [&[], BLUES, ALL],
     },
     Sent {
         links: 3,
         read: 2,
         unsent: [1, 1, 2],
-        brought: ["", BLUES, ""],
+        brought: [&[], BLUES, &[]],
     },
     Sent {
         links: 3,
         read: 1,
         unsent: [2, 1, 4],
-        brought: ["", "", ""],
+        brought: [&[], &[], &[]],
     },
     Sent {
         links: 2,
         read: 2,
         unsent: [1, 1, 2],
-        brought: ["", BLUES, ""],
+        brought: [&[], BLUES, &[]],
     },
     Sent {
         links: 1,
         read: 1,
         unsent: [2, 1, 4],
-        brought: ["", "", ""],
+        brought: [&[], &[], &[]],
     },
 ];
 
-/// The messages that a link brings to its end.
-fn brought<W: Wait>(rt: &W, alloc: Global, inlet: &mut Inlet) -> Result<String, AllocError> {
-    let mut text = String::new(alloc);
-    // One more than can come.
-    for _ in 0..5 {
-        match inlet.next(rt) {
-            Some(Message::Shadow(shadow)) => write_name(shadow.name, &mut text)?,
-            Some(Message::Token(_)) => text.push_str("token")?,
-            None => break,
-        }
-        text.push(' ')?;
+/// The number of an operation; 0 for the token.
+fn number_of(message: &Message) -> u32 {
+    match message {
+        Message::Token(_) => 0,
+        Message::Shadow(shadow) => match shadow.name {
+            OpName::Blue { n, .. } | OpName::Red { n } => n,
+        },
     }
-    Ok(text)
+}
+
+/// Whether a link brings these to its end, and no more.
+fn brings<W: Wait>(rt: &W, inlet: &mut Inlet, wanted: &[u32]) -> bool {
+    for number in wanted {
+        match inlet.next(rt) {
+            Some(message) if number_of(&message) == *number => {}
+            _ => return false,
+        }
+    }
+    inlet.next(rt).is_none()
 }
 
 /// The three calls.
 fn three_calls<E: Entries, R: Ledger, G: Gate + Drop, W: Wait>(
     rt: &W,
-    alloc: Global,
     branch: &Branch<E, R, G>,
     seat: &mut Seat<E, R>,
     outbox: &Outbox,
-) -> Result<(), Fail> {
-    let two = vec![in alloc; deposit(2), deposit(3)]?;
+    two: Vec<Request>,
+) -> Result<u32, CallFault> {
     let _first = deposited(rt, branch, seat, outbox, 1)?;
     let _second = branch.pass(rt, seat, outbox, 2)?;
-    let _third = branch.batch(rt, seat, outbox, List::new(two))?;
-    Ok(())
+    branch.batch(rt, seat, outbox, List::new(two))
+}
+
+impl Sent {
+    /// The receipts and the links are as they should be.
+    fn shows<W: Wait + Abort>(&self, rt: &W, receipts: &[Receipt], inlets: &mut [Inlet]) {
+        for (receipt, unsent) in receipts.iter().zip(self.unsent) {
+            equal(rt, receipt.unsent, unsent);
+        }
+        for (inlet, wanted) in inlets.iter_mut().zip(self.brought) {
+            holds(rt, "these messages", brings(rt, inlet, wanted));
+        }
+    }
 }
 
 impl Case for Sent {
@@ -97,18 +114,14 @@ impl Case for Sent {
         alloc: Global,
         branch: &Branch<E, R, G>,
     ) -> Result<Vec<Seat<E, R>>, Fail> {
+        let two = vec![in alloc; deposit(2), deposit(3)]?;
+        let mut seat = branch.seat(rt, 0)?;
         let (outbox, mut inlets) = links(alloc, self.links)?;
         inlets.truncate(self.read);
-        let mut seat = branch.seat(rt, 0)?;
-        three_calls(rt, alloc, branch, &mut seat, &outbox)?;
+        let _third = three_calls(rt, branch, &mut seat, &outbox, two)?;
         drop(outbox);
-        for (receipt, unsent) in seat.receipts().iter().zip(self.unsent) {
-            equal(rt, receipt.unsent, unsent);
-        }
-        for (inlet, wanted) in inlets.iter_mut().zip(self.brought) {
-            equal(rt, brought(rt, alloc, inlet)?.as_str(), wanted);
-        }
-        Ok(vec![in alloc; seat]?)
+        self.shows(rt, seat.receipts(), inlets.as_mut_slice());
+        alone(alloc, seat)
     }
 }
 

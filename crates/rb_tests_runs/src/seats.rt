@@ -9,12 +9,12 @@ use crate::checks::{equal, equal_at, holds};
 use rb_branch::{
     Branch, CallFault, Entries, Gate, GatherFault, Inlet, NoGate, Outbox, Seat, links,
 };
-use rb_history::{LineFault, read_command, read_config, write_reply};
+use rb_history::{LineFault, append_reply, read_command, read_config};
 use rb_money::Config;
 use rb_scratch::Request;
 use rb_site::{Event, Message, Reply, SiteReport, WorldEvent};
 use rb_tests::rows::{Row, row_named};
-use std::alloc::Global;
+use std::alloc::{AllocError, Global};
 use std::process::Abort;
 use std::sync::Wait;
 use std::sync::ledger::Ledger;
@@ -30,15 +30,16 @@ macro_rules! twice {
     };
 }
 
-/// The seats of two sites, the links between them, and what they brought so far: `None` if a link refused a
-/// message, which it does only if memory may be refused.
+/// The seats of two sites, the links between them, the messages that they brought so far, and the bytes of a reply.
 #[derive(Drop)]
 struct Desks<E: Entries, R: Ledger> {
     seats: Vec<Seat<E, R>>,
     outbox: Outbox,
     inlets: Vec<Inlet>,
-    sent: Vec<Option<Message>>,
-    may_lose: bool,
+    sent: Vec<Message>,
+    /// A link refused a message, which it does only if memory is refused. Those after it have other numbers.
+    lost: bool,
+    bytes: Vec<u8>,
 }
 
 /// The call that an event is. Its receipt's place in the seat, or `None` if nothing is to be applied.
@@ -50,38 +51,17 @@ fn called<E: Entries, R: Ledger, G: Gate + Drop, W: Wait>(
     event: Event,
 ) -> Result<Option<u32>, CallFault> {
     let number = match event {
-        Event::Submit(Request::Cancel { target }) => branch.cancel(rt, seat, outbox, target)?,
-        Event::Submit(request) => branch.submit(rt, seat, outbox, request)?,
-        Event::Batch(requests) => branch.batch(rt, seat, outbox, requests)?,
-        Event::Receive(message) => branch.receive(rt, seat, message)?,
+        Event::Submit(Request::Cancel { target }) => branch.cancel(rt, seat, outbox, target),
+        Event::Submit(request) => branch.submit(rt, seat, outbox, request),
+        Event::Batch(requests) => branch.batch(rt, seat, outbox, requests),
+        Event::Receive(message) => branch.receive(rt, seat, message),
         Event::Apply(_) => return branch.apply_ready(rt, seat),
-        Event::Pass(to) => branch.pass(rt, seat, outbox, to)?,
-        Event::Balance(place) => branch.balance(rt, seat, place)?,
-        Event::AsOf(place, position) => branch.as_of(rt, seat, place, position)?,
-        Event::Statement(place) => branch.statement(rt, seat, place)?,
+        Event::Pass(to) => branch.pass(rt, seat, outbox, to),
+        Event::Balance(place) => branch.balance(rt, seat, place),
+        Event::AsOf(place, position) => branch.as_of(rt, seat, place, position),
+        Event::Statement(place) => branch.statement(rt, seat, place),
     };
-    Ok(Some(number))
-}
-
-/// The same, made again if there was no memory for it: the seat has no receipt more then. Whether it was.
-fn called_again<E: Entries, R: Ledger, G: Gate + Drop, W: Wait + Abort>(
-    rt: &W,
-    alloc: Global,
-    branch: &Branch<E, R, G>,
-    seat: &mut Seat<E, R>,
-    outbox: &Outbox,
-    event: Event,
-) -> Result<(Option<u32>, bool), Fail> {
-    let before = seat.receipts().len();
-    let copy = twice!(event.try_copy(alloc));
-    match called(rt, branch, seat, outbox, event) {
-        Ok(number) => Ok((number, false)),
-        Err(fault) => {
-            equal(rt, fault, CallFault::OutOfMemory);
-            equal(rt, seat.receipts().len(), before);
-            Ok((called(rt, branch, seat, outbox, copy)?, true))
-        }
-    }
+    Ok(Some(number?))
 }
 
 /// How many messages go out with a reply.
@@ -93,46 +73,27 @@ fn sent_with(reply: &Reply) -> usize {
     }
 }
 
-/// Takes in what a link brought, `count` messages but those that it refused. If it refused any, none is known.
-fn take_in<W: Wait>(
-    rt: &W,
-    inlet: &mut Inlet,
-    sent: &mut Vec<Option<Message>>,
-    count: usize,
-    refused: usize,
-) -> Result<(), Fail> {
-    for _i in 0..count.saturating_sub(refused) {
-        let message = inlet.next(rt);
-        sent.push(if refused == 0 { message } else { None })?;
+/// Takes in what a link brought with a reply. Whether all came.
+fn take_in<W: Wait>(rt: &W, inlet: &mut Inlet, sent: &mut Vec<Message>, reply: &Reply) -> bool {
+    for _i in 0..sent_with(reply) {
+        let Some(message) = inlet.next(rt) else {
+            return false;
+        };
+        if sent.push(message).is_err() {
+            return false;
+        }
     }
-    for _i in 0..refused.min(count) {
-        sent.push(None)?;
-    }
-    Ok(())
+    true
 }
 
-/// The step of a seat that a command is.
-#[derive(Drop)]
-enum Step {
-    At(u8, Event),
-    /// A message is to be delivered that a link refused.
-    Lost,
-    /// A message is to be delivered that no seat sent.
-    Unsent,
-}
-
-fn step_of(command: WorldEvent, sent: &[Option<Message>]) -> Step {
-    let (site, number) = match command {
-        WorldEvent::At(site, event) => return Step::At(site, event),
-        WorldEvent::Deliver(site, number) => (site, number as usize),
-    };
-    if number == 0 {
-        return Step::Unsent;
-    }
-    match sent.get(number - 1) {
-        Some(Some(message)) => Step::At(site, Event::Receive(*message)),
-        Some(None) => Step::Lost,
-        None => Step::Unsent,
+/// The event that a command is, and its site. `None` if a message is to be delivered that no link brought.
+fn event_of(command: WorldEvent, sent: &[Message]) -> Option<(u8, Event)> {
+    match command {
+        WorldEvent::At(site, event) => Some((site, event)),
+        WorldEvent::Deliver(site, number) => {
+            let index = number.checked_sub(1)? as usize;
+            Some((site, Event::Receive(*sent.get(index)?)))
+        }
     }
 }
 
@@ -140,62 +101,72 @@ fn step_of(command: WorldEvent, sent: &[Option<Message>]) -> Step {
 const NO_MESSAGE: &str = r#"{"refused":19}"#;
 
 impl<E: Entries, R: Ledger> Desks<E, R> {
-    /// A seat at each of two sites.
+    /// A seat at each of two sites, with capacity for a row's messages and the longest of its replies.
     fn open<G: Gate + Drop, W: Wait>(
         rt: &W,
         alloc: Global,
         branch: &Branch<E, R, G>,
-        may_lose: bool,
-    ) -> Result<Desks<E, R>, Fail> {
-        let (outbox, inlets) = twice!(links(alloc, 2));
-        let mut seats = twice!(Vec::with_capacity(alloc, 2));
-        seats.push_reserved(twice!(branch.seat(rt, 0)));
-        seats.push_reserved(twice!(branch.seat(rt, 1)));
-        let sent = twice!(Vec::with_capacity(alloc, 16));
+    ) -> Result<Desks<E, R>, AllocError> {
+        let (outbox, inlets) = links(alloc, 2)?;
+        let mut seats = Vec::with_capacity(alloc, 2)?;
+        let sent = Vec::with_capacity(alloc, 16)?;
+        let bytes = Vec::with_capacity(alloc, 4096)?;
+        for site in 0..2 {
+            let Ok(seat) = branch.seat(rt, site) else {
+                return Err(AllocError);
+            };
+            seats.push(seat)?;
+        }
         Ok(Desks {
             seats,
             outbox,
             inlets,
             sent,
-            may_lose,
+            lost: false,
+            bytes,
         })
     }
 
-    /// One command. The reply is the one that is wanted. Whether the call was made twice.
+    /// The command on a line. The reply is the one that is wanted. `false` if memory was refused: nothing was done.
     fn answers<G: Gate + Drop, W: Wait + Abort>(
         &mut self,
         rt: &W,
         alloc: Global,
         branch: &Branch<E, R, G>,
-        command: WorldEvent,
+        config: &Config,
+        line: &str,
         wanted: &str,
-    ) -> Result<bool, Fail> {
-        let (site, event) = match step_of(command, self.sent.as_slice()) {
-            Step::At(site, event) => (site, event),
-            Step::Lost => {
-                holds(rt, "a message never came", self.may_lose);
-                return Ok(false);
-            }
-            Step::Unsent => {
-                equal(rt, wanted, NO_MESSAGE);
-                return Ok(false);
-            }
+    ) -> bool {
+        let Ok(command) = read_command(alloc, config, line) else {
+            return false;
         };
-        let seat = self.seats.get_mut(site as usize).ok_or("no such site")?;
-        let (number, again) = called_again(rt, alloc, branch, seat, &self.outbox, event)?;
-        let receipt = seat
-            .receipt(number.ok_or("nothing to apply")?)
-            .ok_or("no receipt")?;
-        let line = twice!(write_reply(alloc, &receipt.reply));
-        equal(rt, line.as_str().trim_end(), wanted);
-        let count = sent_with(&receipt.reply);
-        let refused = receipt.unsent as usize;
-        let inlet = self
-            .inlets
-            .get_mut(usize::from(site == 0))
-            .ok_or("no link")?;
-        take_in(rt, inlet, &mut self.sent, count, refused)?;
-        Ok(again)
+        let Some((site, event)) = event_of(command, self.sent.as_slice()) else {
+            holds(rt, line, self.lost || wanted == NO_MESSAGE);
+            return true;
+        };
+        let Some(seat) = self.seats.get_mut(usize::from(site)) else {
+            return false;
+        };
+        let Ok(Some(number)) = called(rt, branch, seat, &self.outbox, event) else {
+            return false;
+        };
+        let (Some(receipt), Some(inlet)) = (
+            seat.receipt(number),
+            self.inlets.get_mut(usize::from(site == 0)),
+        ) else {
+            return false;
+        };
+        self.bytes.clear();
+        let written = append_reply(&mut self.bytes, &receipt.reply).is_ok();
+        equal(
+            rt,
+            self.bytes.as_slice().trim_ascii_end(),
+            wanted.as_bytes(),
+        );
+        self.lost = self.lost
+            || receipt.unsent > 0
+            || !take_in(rt, inlet, &mut self.sent, &receipt.reply);
+        written
     }
 }
 
@@ -214,22 +185,17 @@ impl Case for Through<'_> {
         alloc: Global,
         branch: &Branch<E, R, G>,
     ) -> Result<Vec<Seat<E, R>>, Fail> {
-        let mut desks = Desks::open(rt, alloc, branch, self.may_lose)?;
+        let mut desks = twice!(Desks::open(rt, alloc, branch));
         let commands = self.row.script.lines().skip(1);
         for (line, wanted) in commands.zip(self.row.replies.lines()) {
-            let command = twice!(read_command(alloc, self.config, line));
-            if desks.answers(rt, alloc, branch, command, wanted)? {
+            if !desks.answers(rt, alloc, branch, self.config, line, wanted) {
                 println!(rt; "{} stopped where it answers {wanted}", self.row.name)?;
+                let again = desks.answers(rt, alloc, branch, self.config, line, wanted);
+                holds(rt, line, again);
             }
         }
-        let Desks {
-            seats,
-            outbox: _outbox,
-            inlets: _inlets,
-            sent: _sent,
-            may_lose: _,
-        } = desks;
-        Ok(seats)
+        holds(rt, "no link refuses", self.may_lose || !desks.lost);
+        Ok(desks.seats)
     }
 }
 

@@ -1,9 +1,9 @@
 //! A server for which many messages wait, and the gate of its site; and one to which they come in turned order.
 use crate::branch::{Case, balance_is, deposited, gathered, served_by, some_sites, to_the_second};
-use crate::checks::equal;
+use crate::checks::{equal, holds};
 use crate::flags::Count;
 use crate::threads::{DEPOSITS, many_deposits};
-use rb_branch::{Branch, Entries, Gate, NoGate, Seat};
+use rb_branch::{Branch, Entries, Gate, Inlet, NoGate, Outbox, Seat};
 use rb_money::Limits;
 use std::alloc::Global;
 use std::process::Abort;
@@ -33,6 +33,27 @@ impl<W: Wait> Gate for Counting<'_, W> {
     }
 }
 
+/// A server at site 1, for which what the inlet has waits: how many receipts it has more, and the balance then. It is
+/// given back with the teller's seat.
+fn served_from<E: Entries, R: Ledger, G: Gate + Drop, W: Wait + Abort>(
+    rt: &W,
+    alloc: Global,
+    branch: &Branch<E, R, G>,
+    teller: Seat<E, R>,
+    inlet: Inlet,
+    wanted: (u64, u64),
+) -> Result<Vec<Seat<E, R>>, Fail> {
+    let mut server = branch.seat(rt, 1)?;
+    let (receipts, cents) = wanted;
+    equal(
+        rt,
+        served_by(rt, branch, &mut server, inlet).ok(),
+        Some(receipts),
+    );
+    let _number = balance_is(rt, branch, &mut server, cents)?;
+    Ok(vec![in alloc; teller, server]?)
+}
+
 /// Deposits at site 0, all of which wait at site 1's link as its server comes.
 struct ManyServed;
 
@@ -44,18 +65,14 @@ impl Case for ManyServed {
         branch: &Branch<E, R, G>,
     ) -> Result<Vec<Seat<E, R>>, Fail> {
         let (outbox, inlet) = to_the_second(alloc)?;
-        let teller = branch.seat(rt, 0)?;
-        let mut server = branch.seat(rt, 1)?;
-        let teller = many_deposits(rt, branch, teller, &outbox)?;
+        let teller = many_deposits(rt, branch, branch.seat(rt, 0)?, &outbox)?;
         drop(outbox);
-        let receipts = served_by(rt, branch, &mut server, inlet).ok();
-        equal(rt, receipts, Some(2 * DEPOSITS));
-        Ok(vec![in alloc; teller, server]?)
+        served_from(rt, alloc, branch, teller, inlet, (2 * DEPOSITS, DEPOSITS))
     }
 }
 
 /// A message takes two steps, one to be taken and one to be received and applied. So 100 messages and a last look take
-/// 201 steps, for which the site's lock is taken four times.
+/// 201 steps, for which the site's lock is taken four times, and once more for the balance.
 #[test]
 fn served(rt: HostRuntime) -> Result<(), Fail> {
     let (entered, left) = (Count::new(), Count::new());
@@ -69,8 +86,16 @@ fn served(rt: HostRuntime) -> Result<(), Fail> {
     for report in &reports {
         equal(&rt, report.balances.first().copied(), Some(DEPOSITS));
     }
-    equal(&rt, (entered.get(&rt), left.get(&rt)), (4, 4));
+    equal(&rt, (entered.get(&rt), left.get(&rt)), (5, 5));
     Ok(())
+}
+
+/// Two messages of a link are sent again in turned order. Whether they are.
+fn turn<W: Wait>(rt: &W, outbox: &Outbox, inlet: &mut Inlet) -> bool {
+    match (inlet.next(rt), inlet.next(rt)) {
+        (Some(first), Some(second)) => outbox.post(rt, 0, 2, [second, first].as_slice()) == 0,
+        _ => false,
+    }
 }
 
 /// Two deposits at site 0, which come to site 1 in turned order: none is ready after the first, and both are after the
@@ -86,16 +111,11 @@ impl Case for Turned {
     ) -> Result<Vec<Seat<E, R>>, Fail> {
         let (outbox, mut inlet) = to_the_second(alloc)?;
         let mut teller = branch.seat(rt, 0)?;
-        let mut server = branch.seat(rt, 1)?;
         let _first = deposited(rt, branch, &mut teller, &outbox, 1)?;
         let _second = deposited(rt, branch, &mut teller, &outbox, 2)?;
-        let first = inlet.next(rt).ok_or("nothing came")?;
-        let second = inlet.next(rt).ok_or("one came")?;
-        equal(rt, outbox.post(rt, 0, 2, [second, first].as_slice()), 0);
+        holds(rt, "turned", turn(rt, &outbox, &mut inlet));
         drop(outbox);
-        equal(rt, served_by(rt, branch, &mut server, inlet).ok(), Some(4));
-        let _number = balance_is(rt, branch, &mut server, 3)?;
-        Ok(vec![in alloc; teller, server]?)
+        served_from(rt, alloc, branch, teller, inlet, (4, 3))
     }
 }
 
