@@ -1,7 +1,7 @@
 //! Tests of running out of memory. `refuse_each` and `reserved` pass whether or not an allocation is refused, and at
 //! most one of their process is: tests/refuse.py runs them with each refused in turn. `whole_run` passes only if none
 //! is refused, and no world stops.
-ghost use Rattle.std.specs.Prelude.{◌≡◌, [], All, IfOk};
+ghost use Rattle.std.specs.Prelude.{◌≡◌, ◌≤◌, [], All, IfOk, length};
 ghost use Rattle.rb_ledger.specs.Records.{records_of};
 ghost use Rattle.rb_site.specs.Worlds.{IsCommand};
 
@@ -9,7 +9,7 @@ use crate::checks::{equal, equal_at, holds};
 use crate::row_texts::ROWS;
 use crate::rows::{Row, row_named, row_of};
 use crate::worlds::{
-    applied_at_first, apply_next, commands, config_of, opened, same_answers, text_of, undo_last,
+    applied_at_first, apply_next, config_of, opened, same_answers, text_of, undo_last,
 };
 use rb_ledger::Ledger;
 use rb_money::{Config, Place};
@@ -77,7 +77,7 @@ fn same_worlds(world: &World, other: &World) -> bool {
 }
 
 /// Whether a world is as one that ran only these events.
-fn is_after(alloc: Global, world: &World, events: &[WorldEvent]) -> Result<bool, Fail>
+fn is_after(alloc: Global, world: &World, events: &[WorldEvent]) -> Result<bool, AllocError>
     requires { All IsCommand events.now }
 {
     let config = world.config().try_copy()?;
@@ -94,36 +94,43 @@ fn answers_rest(
     past: usize,
     replies: &[Reply],
 ) -> Result<bool, AllocError> {
-    let text = text_of(alloc, replies)?;
+    let text = twice!(text_of(alloc, replies));
     let rest = row.replies.lines().skip(past).count();
     Ok(replies.len() == rest && row.replies.ends_with(text.as_str().trim_end()))
 }
 
 /// Whether a world that stopped is as one that ran only the events before, and answers the rest as the row says.
-fn goes_on(alloc: Global, world: &mut World, row: &Row, answered: usize) -> Result<bool, Fail> {
-    let before = commands(alloc, world.config(), row.script, 0, answered)?;
-    let rest = commands(alloc, world.config(), row.script, answered, usize::MAX)?;
-    if before.len() != answered || !is_after(alloc, world, before.as_slice())? {
+fn goes_on(
+    alloc: Global,
+    world: &mut World,
+    row: &Row,
+    events: &[WorldEvent],
+    answered: usize,
+) -> Result<bool, AllocError>
+    requires commands { All IsCommand events.now }
+    requires within { answered ≤ length events.now }
+{
+    let (before, rest) = events.split_at(answered);
+    if !is_after(alloc, world, before)? {
         return Ok(false);
     }
-    match world.run(rest.as_slice()) {
-        Ok(replies) => Ok(answers_rest(alloc, row, answered, replies.as_slice())?),
+    match world.run(rest) {
+        Ok(replies) => answers_rest(alloc, row, answered, replies.as_slice()),
         Err(_) => Ok(false),
     }
-}
-
-/// Whether these are all of a row's replies.
-fn answers_all(alloc: Global, row: &Row, replies: &[Reply]) -> Result<bool, Fail> {
-    Ok(twice!(answers_rest(alloc, row, 0, replies)))
 }
 
 /// Runs a row's events. How many were answered before memory was refused, if it was.
 fn stopped_at(rt: &(impl Abort + AllocGlobal), row: &Row) -> Result<Option<usize>, Fail> {
     let alloc = rt.alloc();
     let (mut world, events) = twice!(opened(alloc, row.script));
-    let (right, stopped) = match world.run(events.as_slice()) {
-        Ok(replies) => (answers_all(alloc, row, replies.as_slice()), None),
-        Err(Stopped { answered }) => (goes_on(alloc, &mut world, row, answered), Some(answered)),
+    let events = events.as_slice();
+    let (right, stopped) = match world.run(events) {
+        Ok(replies) => (answers_rest(alloc, row, 0, replies.as_slice()), None),
+        Err(Stopped { answered }) => (
+            goes_on(alloc, &mut world, row, events, answered),
+            Some(answered),
+        ),
     };
     let _reports = world.close();
     holds(rt, row.name, right?);
@@ -189,23 +196,30 @@ fn climb(rt: &impl Abort, ledger: &mut Ledger, log: &mut UndoLog, shadow: &Shado
     equal(rt, ledger.balance(Place(0)), Some(balance));
 }
 
-/// Undoes the last operation. The balance that was before it is the one that is wanted.
-fn descend(rt: &impl Abort, ledger: &mut Ledger, log: &mut UndoLog, balance: u64)
+/// Undoes the last operation. The balance that was before it, and how often the first was cancelled then, are those
+/// that are wanted.
+fn descend(
+    rt: &impl Abort,
+    ledger: &mut Ledger,
+    log: &mut UndoLog,
+    balance: u64,
+    count: Option<u32>,
+)
     requires { log.old.parts ≡ records_of ledger.old.settings ledger.old.entries }
     ensures { log.new.parts ≡ records_of ledger.new.settings ledger.new.entries }
 {
     holds(rt, "undone", undo_last(ledger, log));
-    equal(rt, ledger.balance(Place(0)), Some(balance));
+    let seen = (ledger.balance(Place(0)), ledger.count(1));
+    equal_at(rt, "undo_two", seen, (Some(balance), count));
 }
 
-/// Rewinds to a position and goes forward again. The balance there is the one that is wanted; with none wanted there
-/// is no such position.
+/// Rewinds to a position and goes forward again. The balance there is the one that is wanted.
 fn look_back(
     rt: &impl Abort,
     ledger: Ledger,
     log: UndoLog,
     position: u32,
-    balance: Option<u64>,
+    balance: u64,
 ) -> (Ledger, UndoLog)
     requires { log.parts ≡ records_of ledger.settings ledger.entries }
     ensures ledger { result.0 ≡ ledger }
@@ -214,39 +228,46 @@ fn look_back(
     match ledger.rewind(log, position) {
         Ok(rewound) => {
             let seen = (rewound.position(), rewound.balance(Place(0)));
-            equal(rt, seen, (position, balance));
+            equal(rt, seen, (position, Some(balance)));
             rewound.forward()
         }
         Err((ledger, log, _)) => {
-            equal_at(rt, "no such position", balance, None);
+            holds(rt, "such a position", false);
             (ledger, log)
         }
     }
 }
 
+/// A withdrawal of 300 from 1,000 and two cancellations of it, of which only the first moves money, are applied,
+/// rewound and undone.
+fn up_and_down(rt: &impl Abort, mut ledger: Ledger, mut log: UndoLog, shadows: [&Shadow; 3])
+    requires { log.parts ≡ records_of ledger.settings ledger.entries }
+{
+    let [withdrawal, cancel, again] = shadows;
+    climb(rt, &mut ledger, &mut log, withdrawal, 700);
+    climb(rt, &mut ledger, &mut log, cancel, 1000);
+    climb(rt, &mut ledger, &mut log, again, 1000);
+    let (ledger, log) = look_back(rt, ledger, log, 0, 1000);
+    let (ledger, log) = look_back(rt, ledger, log, 1, 700);
+    let (ledger, log) = look_back(rt, ledger, log, 2, 1000);
+    let (mut ledger, mut log) = look_back(rt, ledger, log, 3, 1000);
+    descend(rt, &mut ledger, &mut log, 1000, Some(1));
+    descend(rt, &mut ledger, &mut log, 700, Some(0));
+    descend(rt, &mut ledger, &mut log, 1000, None);
+    log.close();
+}
+
 /// Once there is capacity for them, operations are applied, rewound and undone without memory.
 #[test]
 fn reserved(rt: HostRuntime) -> Result<(), Fail> {
-    let alloc = rt.alloc();
     let script = row_named("two_cancels_of_one_withdrawal")?.script;
-    let applied = twice!(applied_at_first(alloc, script));
+    let applied = twice!(applied_at_first(rt.alloc(), script));
     let [withdrawal, cancel, again] = applied.as_slice() else {
         return Err(Fail::from("not three operations"));
     };
-    let config = twice!(config_of(alloc, script));
-    let mut ledger = twice!(roomy_ledger(alloc, &config, 3));
-    let mut log = twice!(roomy_log(alloc, 3));
-    climb(&rt, &mut ledger, &mut log, withdrawal, 700);
-    climb(&rt, &mut ledger, &mut log, cancel, 1000);
-    climb(&rt, &mut ledger, &mut log, again, 1000);
-    let (ledger, log) = look_back(&rt, ledger, log, 0, Some(1000));
-    let (ledger, log) = look_back(&rt, ledger, log, 1, Some(700));
-    let (ledger, log) = look_back(&rt, ledger, log, 2, Some(1000));
-    let (ledger, log) = look_back(&rt, ledger, log, 3, Some(1000));
-    let (mut ledger, mut log) = look_back(&rt, ledger, log, 4, None);
-    descend(&rt, &mut ledger, &mut log, 1000);
-    descend(&rt, &mut ledger, &mut log, 700);
-    descend(&rt, &mut ledger, &mut log, 1000);
-    log.close();
+    let config = twice!(config_of(rt.alloc(), script));
+    let ledger = twice!(roomy_ledger(rt.alloc(), &config, 3));
+    let log = twice!(roomy_log(rt.alloc(), 3));
+    up_and_down(&rt, ledger, log, [withdrawal, cancel, again]);
     Ok(())
 }
