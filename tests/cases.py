@@ -59,6 +59,11 @@ TOKEN = re.compile(r'"reply":\{"(passed|taken)":(\d+)\}')
 # runs of one teller, which end the same each time: the sites and the seed. The second has each of a teller's answers,
 # and the third writes clocks as pairs
 ONE_TELLER = [(2, 0), (3, 1281), (9, 4294967295)]
+# other runs of tellers, which an audit has to accept: the sites, the tellers and the version
+TELLERS = [
+    ("threads_audit", 3, 4, 1), ("threads_audit16", 16, 16, 2),
+    ("eight sites", 8, 2, 1), ("nine sites", 9, 2, 2), ("most tellers", 16, 64, 2),
+]
 
 
 class Case(NamedTuple):
@@ -371,8 +376,8 @@ def main():
     if len(words) != 1:
         sys.exit(__doc__)
     results = [(case.name, passes(words[0], case)) for case in [*written_down(), *made_here()]]
-    for sites, tellers, version in [(3, 4, 1), (8, 2, 1), (9, 2, 2), (16, 64, 2)]:
-        results.append((f"{tellers} tellers at {sites} sites", tellers_run(words[0], sites, tellers, version)))
+    for name, *run in TELLERS:
+        results.append((name, tellers_run(words[0], *run)))
     results += read_and_written(words[0])
     results.append(("example of one teller", is_example()))
     for name, same in results:

@@ -8,11 +8,6 @@ pub fn equal<T: PartialEq + Debug + Drop>(rt: &impl Abort, found: T, wanted: T) 
     assert_eq!(rt; found, wanted);
 }
 
-/// The two values are equal, at this row of a table. A failure shows all three.
-pub fn equal_at<T: PartialEq + Debug + Drop>(rt: &impl Abort, row: &str, found: T, wanted: T) {
-    assert_eq!(rt; found, wanted, "at {row}");
-}
-
 /// The fact holds. A failure shows its words.
 pub fn holds(rt: &impl Abort, words: &str, fact: bool) {
     assert!(rt; fact, "{words}");

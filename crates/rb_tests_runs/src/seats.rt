@@ -5,7 +5,7 @@
 //! tests/refuse.py runs it with each refused in turn.
 
 use crate::branch::{Case, gathered};
-use crate::checks::{equal, equal_at, holds};
+use crate::checks::{equal, holds};
 use rb_branch::{
     Branch, CallFault, Entries, Gate, GatherFault, Inlet, NoGate, Outbox, Seat, links,
 };
@@ -232,7 +232,7 @@ fn seat_calls(rt: HostRuntime) -> Result<(), Fail> {
         "transfer_and_cancel",
     ] {
         let reports = row_through(&rt, rt.alloc(), &row_named(name)?, false)??;
-        equal_at(&rt, name, reports.len(), 2);
+        holds(&rt, name, reports.len() == 2);
     }
     Ok(())
 }

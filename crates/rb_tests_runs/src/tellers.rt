@@ -1,26 +1,13 @@
-//! Runs of tellers: a write that fails, and that two of them are under way at once. Runs of the program, with their
-//! audits, are made by tests/cases.py.
+//! That two tellers of a run are under way at once. Runs of the program, with their audits, and writes of theirs that
+//! fail are in tests/cases.py and threads.cases.
 use crate::checks::{equal, holds};
 use crate::flags::Flag;
 use rb_branch::{Gate, NoGate};
-use rb_lines::{ScriptFault, ToBytes};
+use rb_lines::ToBytes;
 use rb_run_threads::run_threads;
 use std::rt::Clock;
 use std::sync::Wait;
 use std::test::Fail;
-
-#[test]
-fn writer_fails_midway(rt: HostRuntime) {
-    let mut writer = ToBytes::up_to(rt.alloc(), usize::MAX, 100);
-    let run = run_threads(&rt, rt.alloc(), 2, 1, 0, NoGate, &mut writer);
-    let taken = writer.taken.as_slice();
-    let begins = taken.starts_with(br#"{"accounts":[["a0",1000],"#);
-    equal(
-        &rt,
-        (run, begins, taken.len()),
-        (Err(ScriptFault::Write), true, 100),
-    );
-}
 
 /// A gate whose first entry at each of two sites waits for the other's.
 #[derive(Drop)]
