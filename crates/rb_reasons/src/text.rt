@@ -41,7 +41,7 @@ fn shown(byte: u8) -> char
 }
 
 /// At most `most` characters, each as a plain one, or as a space. `None` if memory ran out.
-fn plain(alloc: Global, bytes: &[u8], most: usize, is_blank: bool) -> Option<String>
+pub fn plain(alloc: Global, bytes: &[u8], most: usize, is_blank: bool) -> Option<String>
     ensures plain { IfSome result (λ s. IsPlain (string_bytes s)) }
     ensures most { IfSome result (λ s. length (string_bytes s) ≤ most) }
 {

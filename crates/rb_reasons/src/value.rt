@@ -1,218 +1,119 @@
-//! Why the reader refuses a value: by its kind, then by the rule of its place. If the value keeps that rule, the reason
+//! Why the reader refuses a value: by its kind, then by the form at its spot. If the value is of that form, the reason
 //! is a rule between values, of which only the common ones have words.
 
-use crate::members::{children, wrong_object};
-use crate::place::Place;
+use crate::fault::{Fault, commas, fault, number, quote, unknown, words};
+use crate::object::{children, wrong_object};
 use crate::reader::Reader;
-use crate::rule::{Rule, rule_at};
 use crate::scan::Node;
-use crate::words::{Fault, Words};
+use crate::shapes::{Form, Spot};
 use rb_history::MOST_ID_BYTES;
 use rb_money::{LONGEST_NAME, MOST_ACCOUNTS, MOST_SITES, MOST_SITES_OF_VERSION_1};
 use std::alloc::Global;
 
-/// The kind of a value, by its first byte.
-#[derive(Clone, Copy, Debug, PartialEq, Eq)]
-enum Kind {
-    Object,
-    List,
-    Text,
-    Number,
-    Word,
-}
-
-impl Kind {
-    /// The kind of the value with this text.
-    fn of(text: &[u8]) -> Kind {
-        match text.first() {
-            Some(b'{') => Kind::Object,
-            Some(b'[') => Kind::List,
-            Some(b'"') => Kind::Text,
-            Some(b'-' | b'0'..=b'9') => Kind::Number,
-            _ => Kind::Word,
-        }
-    }
-
-    /// Its name, with an article.
-    fn name(self) -> &'static str {
-        match self {
-            Kind::Object => "an object",
-            Kind::List => "a list",
-            Kind::Text => "a text",
-            Kind::Number => "a number",
-            Kind::Word => "a word",
-        }
+/// The kind of the value with this text.
+fn kind_of(text: &str) -> &'static str {
+    match text.as_bytes().first() {
+        Some(b'{') => "an object",
+        Some(b'[') => "a list",
+        Some(b'"') => "a text",
+        Some(b'-' | b'0'..=b'9') => "a number",
+        _ => "a word",
     }
 }
 
-/// Why the reader refuses the first value of these, which has this text. `None` if memory ran out.
-pub fn wrong_value(
-    alloc: Global,
-    reader: Reader<'_>,
-    line: &[u8],
-    nodes: &[Node],
-) -> Option<Fault> {
-    let Some(node) = nodes.first() else {
-        return unknown(alloc, 0);
+/// Why the reader refuses the first value of these. `None` if memory ran out.
+pub fn wrong_value(alloc: Global, reader: Reader<'_>, line: &str, nodes: &[Node]) -> Option<Fault> {
+    let node = nodes.first()?;
+    let text = line.get(node.start..node.end)?;
+    let kind = kind_of(text);
+    let (what, form) = reader.terms().shape(node.spot);
+    let wanted = match form {
+        Form::Number(_, _) => "a number",
+        Form::Text(_, _) => "a text",
+        Form::Items(_) | Form::Every(_, _) => "a list",
+        Form::Object(_) => "an object",
+        Form::Flag | Form::Any => kind,
     };
-    let text = line.get(node.start..node.end).unwrap_or(b"");
-    let kind = Kind::of(text);
-    let rule = rule_at(node.place, reader);
-    if let Some((what, wanted)) = wanted(rule) {
-        if kind != wanted {
-            return other_kind(alloc, node.start, what, wanted, kind);
-        }
+    if kind != wanted {
+        let is_line = node.depth == 0 && node.spot != Spot::Config;
+        let what = if is_line { "a line" } else { what };
+        return fault!(alloc, node.start => "{what} is {wanted}, and this is {kind}");
     }
-    match rule {
-        Rule::Number { what, least, most } => wrong_number(alloc, node, text, what, least, most),
-        Rule::Text(_) => wrong_text(alloc, reader, node, text),
-        Rule::Items(what, count) => wrong_count(alloc, nodes, what, count),
-        Rule::Every(_) => wrong_list(alloc, nodes),
-        Rule::Object(_) => wrong_object(alloc, line, nodes),
-        Rule::Flag => Words::new(alloc)
-            .text("whether a row is cancelled is true or false")?
-            .at(node.start),
-        Rule::Any => unknown(alloc, node.start),
+    match form {
+        Form::Number(_, _) => wrong_number(alloc, node, text, what, form),
+        Form::Text(_, _) => wrong_text(alloc, reader, node, text),
+        Form::Items(items) => wrong_count(alloc, nodes, what, items.len()),
+        Form::Every(_, least) => wrong_list(alloc, nodes, least),
+        Form::Object(_) => wrong_object(alloc, reader.terms(), line, nodes),
+        Form::Flag => fault!(alloc, node.start => "whether a row is cancelled is true or false"),
+        Form::Any => unknown(alloc, node.start),
     }
 }
 
-/// A value that isn't taken for a reason that no rule here says.
-pub fn unknown(alloc: Global, at: usize) -> Option<Fault> {
-    Words::new(alloc)
-        .text("this isn't taken here (docs/FORMAT.md has the rules)")?
-        .at(at)
-}
-
-/// The name of what a rule is about, and the kind that it has to be of.
-fn wanted(rule: Rule) -> Option<(&'static str, Kind)> {
-    match rule {
-        Rule::Number { what, .. } => Some((what, Kind::Number)),
-        Rule::Text(what) => Some((what, Kind::Text)),
-        Rule::Items(what, _) | Rule::Every(what) => Some((what, Kind::List)),
-        Rule::Object(what) => Some((what, Kind::Object)),
-        Rule::Flag | Rule::Any => None,
+/// A number that isn't a whole one of the range, or that doesn't go with the values before it.
+fn wrong_number(alloc: Global, node: &Node, text: &str, what: &str, form: Form) -> Option<Fault> {
+    let bytes = text.as_bytes();
+    let shown = quote(alloc, bytes)?;
+    if bytes.contains(&b'.') {
+        return fault!(alloc, node.start => "{shown} has a point, and {what} is a whole number");
     }
-}
-
-/// A value of another kind than its place wants.
-fn other_kind(alloc: Global, at: usize, what: &str, wanted: Kind, kind: Kind) -> Option<Fault> {
-    Words::new(alloc)
-        .text(what)?
-        .text(" is ")?
-        .text(wanted.name())?
-        .text(", and this is ")?
-        .text(kind.name())?
-        .at(at)
-}
-
-/// A number that isn't a whole one of the range.
-fn wrong_number(
-    alloc: Global,
-    node: &Node,
-    text: &[u8],
-    what: &str,
-    least: i64,
-    most: u64,
-) -> Option<Fault> {
-    let words = Words::new(alloc);
-    if text.contains(&b'.') {
-        return words
-            .quote(text)?
-            .text(" has a point, and ")?
-            .text(what)?
-            .text(" is a whole number")?
-            .at(node.start);
+    if bytes.contains(&b'e') || bytes.contains(&b'E') {
+        return fault!(alloc, node.start => "{shown} has an exponent, and {what} is written with digits alone");
     }
-    if text.contains(&b'e') || text.contains(&b'E') {
-        let words = words.quote(text)?.text(" has an exponent, and ")?;
-        return words
-            .text(what)?
-            .text(" is written with digits alone")?
-            .at(node.start);
-    }
-    let words = if text.first() == Some(&b'-') && 0 <= least {
-        words.quote(text)?.text(" has a sign, and ")?
-    } else if is_in_range(text, least, most) {
+    let Form::Number(least, most) = form else {
+        return unknown(alloc, node.start);
+    };
+    if is_in_range(text, least, most) {
         return wrong_in_range(alloc, node);
-    } else {
-        words.digits(text)?.text(" is out of range: ")?
-    };
-    words
-        .text(what)?
-        .text(" is ")?
-        .signed(least)?
-        .text(" to ")?
-        .number(most)?
-        .at(node.start)
+    }
+    let from = commas(alloc, least.to_string(alloc).ok()?.as_bytes())?;
+    let to = number(alloc, most)?;
+    if bytes.first() == Some(&b'-') && 0 <= least {
+        return fault!(alloc, node.start => "{shown} has a sign, and {what} is {from} to {to}");
+    }
+    let shown = commas(alloc, bytes)?;
+    fault!(alloc, node.start => "{shown} is out of range: {what} is {from} to {to}")
 }
 
 /// Whether digits are a number of the range.
-fn is_in_range(text: &[u8], least: i64, most: u64) -> bool {
-    match std::str::from_utf8(text) {
-        Ok(digits) => match digits.parse::<u64>() {
-            Ok(number) => number <= most && (least <= 0 || least.unsigned_abs() <= number),
-            Err(_) => false,
-        },
+fn is_in_range(digits: &str, least: i64, most: u64) -> bool {
+    match digits.parse::<u64>() {
+        Ok(number) => number <= most && (least <= 0 || least.unsigned_abs() <= number),
         Err(_) => false,
     }
 }
 
 /// A number that doesn't go with the values before it.
 fn wrong_in_range(alloc: Global, node: &Node) -> Option<Fault> {
-    let words = Words::new(alloc);
-    match node.place {
-        Place::Sites => words
-            .text("version 1 has 2 to ")?
-            .number(MOST_SITES_OF_VERSION_1 as u64)?
-            .text(" sites, and version 2 up to ")?
-            .number(MOST_SITES as u64)?
-            .at(node.start),
-        Place::CountSite => words.text("the sites of a clock rise")?.at(node.start),
+    let (first, second) = (MOST_SITES_OF_VERSION_1, MOST_SITES);
+    match node.spot {
+        Spot::Sites =>
+            fault!(alloc, node.start => "version 1 has 2 to {first} sites, and version 2 up to {second}"),
+        Spot::CountSite => fault!(alloc, node.start => "the sites of a clock rise"),
         _ => unknown(alloc, node.start),
     }
 }
 
-/// A text that its place doesn't take.
-fn wrong_text(alloc: Global, reader: Reader<'_>, node: &Node, text: &[u8]) -> Option<Fault> {
-    let words = Words::new(alloc).quote(text)?;
-    match node.place {
-        Place::Name => words
-            .text(
-                " is no operation's name: B0.1 is the first blue one of site 0, R1 the first red one",
-            )?
-            .at(node.start),
-        Place::Kind => words
-            .text(
-                " is no kind: there are: deposit, withdraw, declined, interest, cancel, transfer",
-            )?
-            .at(node.start),
-        Place::NewName if is_account(alloc, reader, text)? => {
-            words
-                .text(" is the name of an earlier account")?
-                .at(node.start)
-        }
-        Place::NewName => words
-            .text(" is no account's name: 1 to ")?
-            .number(LONGEST_NAME as u64)?
-            .text(" of a-z, 0-9, \".\", \"_\" and \"-\"")?
-            .at(node.start),
-        Place::About => words
-            .text(" is nothing to ask about: there is: \"site\"")?
-            .at(node.start),
-        Place::Id => words
-            .text(" is no id: 1 to ")?
-            .number(MOST_ID_BYTES as u64)?
-            .text(" of A-Z, a-z, 0-9, \".\", \"_\", \":\" and \"-\"")?
-            .at(node.start),
-        _ => unknown(alloc, node.start),
+/// A text that its spot doesn't take.
+fn wrong_text(alloc: Global, reader: Reader<'_>, node: &Node, text: &str) -> Option<Fault> {
+    let shown = quote(alloc, text.as_bytes())?;
+    let (at, name, id) = (node.start, LONGEST_NAME, MOST_ID_BYTES);
+    match (node.spot, reader.terms().shape(node.spot).1) {
+        (Spot::NewName, _) if is_account(alloc, reader, text)? =>
+            fault!(alloc, at => "{shown} is the name of an earlier account"),
+        (Spot::NewName, _) =>
+            fault!(alloc, at => "{shown} is no account's name: 1 to {name} of a-z, 0-9, \".\", \"_\" and \"-\""),
+        (Spot::Id, _) =>
+            fault!(alloc, at => "{shown} is no id: 1 to {id} of A-Z, a-z, 0-9, \".\", \"_\", \":\" and \"-\""),
+        (_, Form::Text(_, no)) if !no.is_empty() => fault!(alloc, at => "{shown}{no}"),
+        _ => unknown(alloc, at),
     }
 }
 
 /// Whether a bank may have an account of this name, in quotes.
-fn is_account(alloc: Global, reader: Reader<'_>, name: &[u8]) -> Option<bool> {
-    let front = Words::new(alloc).text("{\"accounts\":[[")?.text_of(name)?;
-    let line = front.text(",0]],\"sites\":2,\"version\":1}")?.at(0)?;
-    reader.takes(alloc, &line.why)
+fn is_account(alloc: Global, reader: Reader<'_>, name: &str) -> Option<bool> {
+    let line = words!(alloc => "{{\"accounts\":[[{name},0]],\"sites\":2,\"version\":1}}");
+    reader.takes(alloc, line.as_bytes())
 }
 
 /// A list with more or fewer items than `count`.
@@ -222,22 +123,17 @@ fn wrong_count(alloc: Global, nodes: &[Node], what: &str, count: usize) -> Optio
     if items == count {
         return unknown(alloc, at);
     }
-    let words = Words::new(alloc)
-        .text(what)?
-        .text(" is a list of ")?
-        .number(count as u64)?;
-    words.text(", and this has ")?.number(items as u64)?.at(at)
+    let items = number(alloc, items as u64)?;
+    fault!(alloc, at => "{what} is a list of {count}, and this has {items}")
 }
 
 /// A list that may have any number of items, up to a limit.
-fn wrong_list(alloc: Global, nodes: &[Node]) -> Option<Fault> {
-    let node = nodes.first()?;
-    if node.place != Place::Accounts {
-        return unknown(alloc, node.start);
+fn wrong_list(alloc: Global, nodes: &[Node], least: usize) -> Option<Fault> {
+    let at = nodes.first()?.start;
+    if least == 0 {
+        return unknown(alloc, at);
     }
-    let words = Words::new(alloc)
-        .text("there are ")?
-        .number(children(alloc, nodes)?.len() as u64)?;
-    let words = words.text(" accounts, and a configuration has 1 to ")?;
-    words.number(MOST_ACCOUNTS as u64)?.at(node.start)
+    let items = number(alloc, children(alloc, nodes)?.len() as u64)?;
+    let most = number(alloc, MOST_ACCOUNTS as u64)?;
+    fault!(alloc, at => "there are {items} accounts, and a configuration has {least} to {most}")
 }
