@@ -15,7 +15,7 @@ mod message_list;
 mod notes;
 mod posted;
 mod replay;
-mod sent;
+mod sent_messages;
 mod sites;
 mod step;
 mod store;

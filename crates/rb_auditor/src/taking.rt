@@ -8,7 +8,7 @@ ghost use Rattle.rb_auditor.specs.Progress.{IsDone, IsLeft, IsTaking, Rests, Too
 use crate::Certificate;
 use crate::message_list::MessageList;
 use crate::notes::Notes;
-use crate::sent::Sent;
+use crate::sent_messages::SentMessages;
 use crate::step::Step;
 use rb_money::Config;
 use std::alloc::{AllocError, Global};
@@ -24,7 +24,7 @@ pub struct Taking<'a> {
     // How many entries of each history were taken.
     taken: Vec<usize>,
     // The messages that these sent, among those that the steps of the notes speak of.
-    sent: Sent<'a>,
+    sent: SentMessages<'a>,
 }
 
 impl<'a> Model for Taking<'a> {
@@ -66,7 +66,7 @@ impl<'a> Taking<'a> {
         requires whole { AreWhole notes.now }
         ensures { IfOk result (λ taking. taking ≡ first_progress config.now (histories_in notes.now)) }
     {
-        let sent = Sent::new(alloc, config.sites(), messages)?;
+        let sent = SentMessages::new(alloc, config.sites(), messages)?;
         let mut taken = Vec::new(alloc);
         taken.resize(notes.len(), 0)?;
         Ok(Taking {
@@ -150,7 +150,7 @@ impl<'a> Taking<'a> {
 
 /// The place among all messages of the first that an entry sends, by its step, and how many it sends. `None` if it is
 /// the receipt of a message that wasn't sent.
-fn moved(sent: &Sent<'_>, step: Step) -> Option<(usize, usize)>
+fn moved(sent: &SentMessages<'_>, step: Step) -> Option<(usize, usize)>
     requires { HasPlaces sent.now.all step }
     ensures taken { IsTakenAs sent.now.items sent.now.all step
         (option_map (λ p. take p.1 (drop p.0 sent.now.all)) result) }

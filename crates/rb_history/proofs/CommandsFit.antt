@@ -1,6 +1,6 @@
 -- Each command that is read from a line is an event of a site's own that fits, or a delivery.
 use Rattle.std.proofs.Common.{◌^◌, codes, Option, Some, None}
-use Rattle.std.specs.Prelude.{◌==◌, IfSome, option_and_then}
+use Rattle.std.specs.Prelude.{◌==◌, IfSome}
 use Rattle.std.specs.Str.{is_utf8}
 use Rattle.serde_json.specs.Data.{Data}
 use Rattle.serde_json.specs.Find.{get}

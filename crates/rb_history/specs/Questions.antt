@@ -1,5 +1,5 @@
 -- Which question a line is, of those that a site is asked beside events.
-use Rattle.std.specs.Prelude.{◌≡◌, ℕ, ◌+◌, ◌==◌, Bool, false, List, Option, Some, None, bytes_eq, codes, unwrap_or, if◌then◌else◌}
+use Rattle.std.specs.Prelude.{ℕ, ◌+◌, ◌==◌, Bool, false, List, Option, Some, None, bytes_eq, codes, unwrap_or, if◌then◌else◌}
 use Rattle.std.specs.Prelude.{option_and_then, option_map}
 use Rattle.serde_json.specs.Data.{Data}
 use Rattle.serde_json.specs.Find.{get, as_str}

@@ -15,7 +15,7 @@ ghost use Rattle.rb_inbox.specs.Held.{IsTooMany, IsWelcome, held_before, index_i
 ghost use Rattle.rb_inbox.specs.Rows.{IsFirstBlue, IsHeldRow, NoBlue, earlier_home};
 
 use crate::PutAnswer;
-use crate::row::Row;
+use crate::held_row::HeldRow;
 use rb_money::Refusal;
 use rb_shadow::{OpName, Shadow};
 use rb_vclock::Clock;
@@ -28,7 +28,7 @@ pub struct Inbox {
     limit: u32,
     alloc: Global,
     /// The red ones, and then the blue ones of each site, each row in rising order of number.
-    rows: Vec<Row>,
+    rows: Vec<HeldRow>,
     count: usize,
 }
 
@@ -310,12 +310,12 @@ fn answer_held(held: &Shadow, shadow: &Shadow) -> Result<PutAnswer, Refusal>
 
 /// Adds empty rows, until there is one at the index. `Err` means out of memory.
 #[inline(always)]
-fn add_rows(rows: &mut Vec<Row>, index: usize, alloc: Global) -> Result<(), AllocError>
+fn add_rows(rows: &mut Vec<HeldRow>, index: usize, alloc: Global) -> Result<(), AllocError>
     ensures rows { (k : ℕ) × (rows.new.items ≡ rows.old.items ++ replicate k []) }
     ensures ok { OnOk result (index < length rows.new.items) }
 {
     while rows.len() <= index {
-        rows.push(Row::open(alloc))?;
+        rows.push(HeldRow::open(alloc))?;
     }
     Ok(())
 }

@@ -220,7 +220,7 @@ fn cut_off<H: Host>(host: &mut H, lines: u64, end: usize, rest: &[u8]) -> Result
 }
 
 /// Writes one byte, and waits until it is on the disk.
-pub fn write_byte<H: Host>(host: &mut H, at: usize, byte: u8) -> Result<(), HostError>
+pub(crate) fn write_byte<H: Host>(host: &mut H, at: usize, byte: u8) -> Result<(), HostError>
     requires usable { H.is_usable host.old }
     requires place { at ≤ length (H.content host.old) }
     ensures quiet { Quiet H.Host (λ c. (d : List ℕ) × H.may_leave host.old d × TornByte at byte d c) host.old host.new

@@ -7,7 +7,7 @@ ghost use Rattle.rb_site.specs.Worlds.{IsCommand};
 
 use crate::checks::{equal, equal_at, holds};
 use crate::row_texts::ROWS;
-use crate::rows::{Row, row_named, row_of};
+use crate::rows::{WorkedRow, row_named, row_of};
 use crate::worlds::{
     applied_at_first, apply_next, config_of, opened, same_answers, text_of, undo_last,
 };
@@ -90,7 +90,7 @@ fn is_after(alloc: Global, world: &World, events: &[WorldEvent]) -> Result<bool,
 /// Whether these are a row's replies after the first `past`.
 fn answers_rest(
     alloc: Global,
-    row: &Row,
+    row: &WorkedRow,
     past: usize,
     replies: &[Reply],
 ) -> Result<bool, AllocError> {
@@ -103,7 +103,7 @@ fn answers_rest(
 fn goes_on(
     alloc: Global,
     world: &mut World,
-    row: &Row,
+    row: &WorkedRow,
     events: &[WorldEvent],
     answered: usize,
 ) -> Result<bool, AllocError>
@@ -121,7 +121,7 @@ fn goes_on(
 }
 
 /// Runs a row's events. How many were answered before memory was refused, if it was.
-fn stopped_at(rt: &(impl Abort + AllocGlobal), row: &Row) -> Result<Option<usize>, Fail> {
+fn stopped_at(rt: &(impl Abort + AllocGlobal), row: &WorkedRow) -> Result<Option<usize>, Fail> {
     let alloc = rt.alloc();
     let (mut world, events) = twice!(opened(alloc, row.script));
     let events = events.as_slice();

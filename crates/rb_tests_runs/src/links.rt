@@ -16,7 +16,7 @@ use std::test::Fail;
 /// A deposit, a passing of the token to site 2 and a batch of two at site 0 of three: over this number of links, of
 /// which only the first `read` are read, how many of each call's messages weren't taken, and what each of these links
 /// brought.
-struct Sent {
+struct SentCase {
     links: u8,
     read: usize,
     unsent: [u32; 3],
@@ -28,32 +28,32 @@ const BLUES: &[u32] = &[1, 2, 3];
 
 const ALL: &[u32] = &[1, 0, 2, 3];
 
-const SENT: [Sent; 5] = [
-    Sent {
+const SENT: [SentCase; 5] = [
+    SentCase {
         links: 3,
         read: 3,
         unsent: [0, 0, 0],
         brought: [&[], BLUES, ALL],
     },
-    Sent {
+    SentCase {
         links: 3,
         read: 2,
         unsent: [1, 1, 2],
         brought: [&[], BLUES, &[]],
     },
-    Sent {
+    SentCase {
         links: 3,
         read: 1,
         unsent: [2, 1, 4],
         brought: [&[], &[], &[]],
     },
-    Sent {
+    SentCase {
         links: 2,
         read: 2,
         unsent: [1, 1, 2],
         brought: [&[], BLUES, &[]],
     },
-    Sent {
+    SentCase {
         links: 1,
         read: 1,
         unsent: [2, 1, 4],
@@ -95,7 +95,7 @@ fn three_calls<E: Entries, R: Ledger, G: Gate + Drop, W: Wait>(
     branch.batch(rt, seat, outbox, List::new(two))
 }
 
-impl Sent {
+impl SentCase {
     /// The receipts and the links are as they should be.
     fn shows<W: Wait + Abort>(&self, rt: &W, receipts: &[Receipt], inlets: &mut [Inlet]) {
         for (receipt, unsent) in receipts.iter().zip(self.unsent) {
@@ -107,7 +107,7 @@ impl Sent {
     }
 }
 
-impl Case for Sent {
+impl Case for SentCase {
     fn calls<E: Entries, R: Ledger, G: Gate + Drop, W: Wait + Abort + Print>(
         &self,
         rt: &W,

@@ -13,7 +13,7 @@ use rb_history::{LineFault, append_reply, read_command, read_config};
 use rb_money::Config;
 use rb_scratch::Request;
 use rb_site::{Event, Message, Reply, SiteReport, WorldEvent};
-use rb_tests::rows::{Row, row_named};
+use rb_tests::rows::{WorkedRow, row_named};
 use std::alloc::{AllocError, Global};
 use std::process::Abort;
 use std::sync::Wait;
@@ -174,7 +174,7 @@ impl<E: Entries, R: Ledger> Desks<E, R> {
 #[derive(Drop)]
 struct Through<'a> {
     config: &'a Config,
-    row: &'a Row,
+    row: &'a WorkedRow,
     may_lose: bool,
 }
 
@@ -200,7 +200,7 @@ impl Case for Through<'_> {
 }
 
 /// The configuration on a row's first line.
-fn config_of(alloc: Global, row: &Row) -> Result<Config, LineFault> {
+fn config_of(alloc: Global, row: &WorkedRow) -> Result<Config, LineFault> {
     let first = row.script.lines().next().ok_or(LineFault::Bad)?;
     read_config(alloc, first)
 }
@@ -209,7 +209,7 @@ fn config_of(alloc: Global, row: &Row) -> Result<Config, LineFault> {
 fn row_through<W: Wait + Abort + Print>(
     rt: &W,
     alloc: Global,
-    row: &Row,
+    row: &WorkedRow,
     may_lose: bool,
 ) -> Result<Result<Vec<SiteReport>, GatherFault>, Fail> {
     let config = twice!(config_of(alloc, row));

@@ -1,4 +1,4 @@
-use Rattle.std.proofs.Common.{◌≡◌, ◌++◌, [], append-nil, codes, true, subst, sym, ap, ◌∙◌, rules}
+use Rattle.std.proofs.Common.{◌≡◌, ◌++◌, [], append-nil, codes, true, subst, ap, ◌∙◌, rules}
 use Rattle.serde_json.specs.Written.{compact_text}
 use Rattle.rb_history.specs.Entries.{event_json}
 use Rattle.rb_history.specs.Ids.{is_id}

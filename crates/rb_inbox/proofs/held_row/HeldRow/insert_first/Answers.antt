@@ -1,6 +1,6 @@
 use Rattle.std.proofs.Common.{◌≡◌, ◌∙◌, ◌<◌, ap, arith, drop, length, length-append, length-drop, subst, sym}
 use Rattle.rb_inbox.proofs.Slots.{copied_behind, put_first}
-use Rattle.rb_inbox.proofs.row.Row.insert_first.Goals as goal
+use Rattle.rb_inbox.proofs.held_row.HeldRow.insert_first.Goals as goal
 
 pub returns-clause-ok : goal.returns-clause-ok
 returns-clause-ok c =

@@ -2,7 +2,7 @@ use Rattle.std.proofs.Common.{◌∙◌, List, ap, arith, drop}
 use Rattle.std.specs.Prelude.{insert}
 use Rattle.rb_shadow.specs.declared.shadow.Shadow.{Shadow}
 use Rattle.rb_inbox.proofs.Slots.{insert_behind}
-use Rattle.rb_inbox.proofs.row.Row.insert.Goals as goal
+use Rattle.rb_inbox.proofs.held_row.HeldRow.insert.Goals as goal
 
 pub returns-clause-ok : goal.returns-clause-ok
 returns-clause-ok c =

@@ -1,7 +1,7 @@
 use Rattle.std.proofs.Common.{◌∙◌, ap, arith, drop, sym}
 use Rattle.std.specs.Prelude.{remove}
 use Rattle.rb_inbox.proofs.Slots.{remove_behind, remove_first}
-use Rattle.rb_inbox.proofs.row.Row.remove.Goals as goal
+use Rattle.rb_inbox.proofs.held_row.HeldRow.remove.Goals as goal
 
 pub returns-then-index-eq0 : goal.returns-then-index-eq0
 returns-then-index-eq0 c =

@@ -11,12 +11,12 @@ use std::marker::Model;
 
 /// Shadows in a row, behind free slots.
 #[derive(Drop)]
-pub struct Row {
+pub struct HeldRow {
     slots: Vec<Shadow>,
     free: usize,
 }
 
-impl Model for Row {
+impl Model for HeldRow {
     ghost use Rattle.std.specs.Prelude.{List, ◌≤◌, drop, length};
     ghost use Rattle.rb_shadow.specs.declared.shadow.Shadow.{Shadow};
 
@@ -27,12 +27,12 @@ impl Model for Row {
     ghost invariant = { λ r. r.free ≤ length r.slots.items };
 }
 
-impl Row {
+impl HeldRow {
     /// A row of none.
-    pub fn open(alloc: Global) -> Row
+    pub fn open(alloc: Global) -> HeldRow
         ensures { result ≡ [] }
     {
-        Row {
+        HeldRow {
             slots: Vec::new(alloc),
             free: 0,
         }
