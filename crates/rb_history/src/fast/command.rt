@@ -1,27 +1,29 @@
 //! Lines of commands as programs spell them: the site first or last. `None` says nothing of a line.
 //!
 //! A large result is put into memory and read again, 60 to 140 instructions: so balances and deliveries are parsed in
-//! place, a request by one call with a small result, and any other event in its place. The code that is inlined stays
-//! small, since a function that would grow very large isn't inlined, whatever it asks for. With deposits in place too a
-//! balance takes 5 % more, and a refusal 8 %.
+//! place, a request by one call with a small result, an application, a balance as of a position and a statement with
+//! small results too, and any other event in its place. The code that is inlined stays small, since a function that
+//! would grow very large isn't inlined, whatever it asks for. With deposits in place too a balance takes 5 % more, and
+//! a refusal 8 %.
 ghost use Rattle.std.specs.Prelude.{◌≡◌, ◌++◌, Some, IfSome, codes, decimal};
 ghost use Rattle.rb_history.specs.Beginnings.{BeginsWithRequest};
 ghost use Rattle.rb_history.specs.Commands.{command_at};
 ghost use Rattle.rb_history.specs.SitedLines.{EndsLine, behind_site};
 ghost use Rattle.rb_site.specs.Worlds.{IsCommand, IsOwn};
-ghost use Rattle.rb_site.specs.declared.event.Event.TheVariants.{Balance, Submit};
+ghost use Rattle.rb_site.specs.declared.event.Event.TheVariants.{Apply, AsOf, Balance, Statement, Submit};
 ghost use Rattle.rb_site.specs.declared.world_event.WorldEvent.TheVariants.{At, Deliver};
 
-use crate::fast::account::parse_account_behind;
 use crate::fast::blanks::without_blanks;
 use crate::fast::event::{
-    parse_cancel, parse_deposit, parse_interest, parse_own, parse_transfer, parse_withdraw,
+    parse_apply, parse_as_of, parse_balance, parse_cancel, parse_deposit, parse_interest,
+    parse_own, parse_statement, parse_transfer, parse_withdraw,
 };
 use crate::fast::number::{parse_u8, parse_u32};
 use crate::fast::scan::parse_prefix;
 use crate::keys::{behind_quote, spell};
 use rb_money::{Config, Place};
 use rb_scratch::Request;
+use rb_shadow::OpName;
 use rb_site::{Event, WorldEvent};
 use std::alloc::Global;
 
@@ -81,8 +83,45 @@ pub fn parse_balance_at(config: &Config, text: &str) -> Option<(u8, Place)>
 {
     // For a fact alone: its settings are those of a configuration.
     let _sites = config.sites();
-    let (account, rest) = parse_account_behind(config, text, behind_quote!(balance ":\""))?;
+    let (account, rest) = parse_balance(config, text)?;
     let site = parse_last_site(rest)?;
+    Some((site, account))
+}
+
+/// An application with its site last, from its key on: the site and the operation's name.
+#[inline(always)]
+pub fn parse_apply_at(config: &Config, text: &str) -> Option<(u8, OpName)>
+    ensures { IfSome result (λ p. command_at config.now (codes "{\"" ++ text.now) ≡ Some (At p.0 (Apply p.1))) }
+{
+    // For a fact alone: its settings are those of a configuration.
+    let _sites = config.sites();
+    let (name, rest) = parse_apply(config, text)?;
+    let site = parse_last_site(rest)?;
+    Some((site, name))
+}
+
+/// A balance as of a position with its site last, from its key on: the site, the account and the position.
+#[inline(always)]
+pub fn parse_as_of_at(config: &Config, text: &str) -> Option<(u8, Place, u32)>
+    ensures { IfSome result (λ p. command_at config.now (codes "{\"" ++ text.now) ≡ Some (At p.0 (AsOf p.1 p.2))) }
+{
+    // For a fact alone: its settings are those of a configuration.
+    let _sites = config.sites();
+    let (account, position, rest) = parse_as_of(config, text)?;
+    let site = parse_last_site(rest)?;
+    Some((site, account, position))
+}
+
+/// A statement, from the object's first key on: the site and the account.
+#[inline(always)]
+pub fn parse_statement_at(config: &Config, line: &str) -> Option<(u8, Place)>
+    ensures { IfSome result (λ p. command_at config.now (codes "{\"" ++ line.now) ≡ Some (At p.0 (Statement p.1))) }
+{
+    // For a fact alone: its settings are those of a configuration.
+    let _sites = config.sites();
+    let (first, text) = parse_first_site(line)?;
+    let (account, rest) = parse_statement(config, text)?;
+    let site = parse_site(first, rest)?;
     Some((site, account))
 }
 

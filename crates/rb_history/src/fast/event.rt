@@ -13,6 +13,7 @@ ghost use Rattle.rb_history.specs.Fits.{IsRequest};
 ghost use Rattle.rb_history.specs.Ids.{IsIdOrNone};
 ghost use Rattle.rb_history.specs.Beginnings.{BeginsWithEach, BeginsWithEvent, BeginsWithOwn, BeginsWithRequest};
 ghost use Rattle.rb_history.specs.Beginnings.{EndsWithId};
+ghost use Rattle.rb_site.specs.declared.event.Event.TheVariants.{Apply, AsOf, Balance, Statement};
 
 use crate::bank::BankName;
 use crate::fast::account::{parse_account_behind, parse_account_between, parse_asked};
@@ -24,8 +25,9 @@ use crate::fast::shadow::parse_received;
 use crate::id::may_have_id;
 use crate::keys::{behind_quote, spell};
 use rb_kit::List;
-use rb_money::Config;
+use rb_money::{Config, Place};
 use rb_scratch::Request;
+use rb_shadow::OpName;
 use rb_site::{Event, Message};
 use rb_token::TokenMessage;
 use std::alloc::Global;
@@ -146,12 +148,11 @@ fn parse_batch<'a>(
 }
 
 #[inline(always)]
-fn parse_apply<'a>(config: &Config, text: &'a str, event: &mut Event) -> Option<&'a str>
-    ensures { IfSome result (λ rest. BeginsWithOwn config.now event.new text.now rest.now) }
+pub fn parse_apply<'a>(config: &Config, text: &'a str) -> Option<(OpName, &'a str)>
+    ensures { IfSome result (λ p. BeginsWithOwn config.now (Apply p.0) text.now p.1.now) }
 {
     let (name, rest) = parse_name_behind(text, behind_quote!(apply ":\""))?;
-    *event = Event::Apply(name);
-    Some(rest)
+    Some((name, rest))
 }
 
 #[inline(always)]
@@ -164,31 +165,28 @@ fn parse_pass<'a>(config: &Config, text: &'a str, event: &mut Event) -> Option<&
 }
 
 #[inline(always)]
-pub fn parse_balance<'a>(config: &Config, text: &'a str, event: &mut Event) -> Option<&'a str>
-    ensures { IfSome result (λ rest. BeginsWithOwn config.now event.new text.now rest.now) }
+pub fn parse_balance<'a>(config: &Config, text: &'a str) -> Option<(Place, &'a str)>
+    ensures { IfSome result (λ p. BeginsWithOwn config.now (Balance p.0) text.now p.1.now) }
 {
     let (account, rest) = parse_account_behind(config, text, behind_quote!(balance ":\""))?;
-    *event = Event::Balance(account);
-    Some(rest)
+    Some((account, rest))
 }
 
 #[inline(always)]
-fn parse_as_of<'a>(config: &Config, text: &'a str, event: &mut Event) -> Option<&'a str>
-    ensures { IfSome result (λ rest. BeginsWithOwn config.now event.new text.now rest.now) }
+pub fn parse_as_of<'a>(config: &Config, text: &'a str) -> Option<(Place, u32, &'a str)>
+    ensures { IfSome result (λ p. BeginsWithOwn config.now (AsOf p.0 p.1) text.now p.2.now) }
 {
     let (account, n, rest) = parse_asked(config, text, behind_quote!(asof ":[\""))?;
     let position = narrow(n)?;
-    *event = Event::AsOf(account, position);
-    Some(rest)
+    Some((account, position, rest))
 }
 
 #[inline(always)]
-fn parse_statement<'a>(config: &Config, text: &'a str, event: &mut Event) -> Option<&'a str>
-    ensures { IfSome result (λ rest. BeginsWithOwn config.now event.new text.now rest.now) }
+pub fn parse_statement<'a>(config: &Config, text: &'a str) -> Option<(Place, &'a str)>
+    ensures { IfSome result (λ p. BeginsWithOwn config.now (Statement p.0) text.now p.1.now) }
 {
     let (account, rest) = parse_account_behind(config, text, behind_quote!(statement ":\""))?;
-    *event = Event::Statement(account);
-    Some(rest)
+    Some((account, rest))
 }
 
 /// An event of a site's own, as the first letter and the third of its key say, in its place, and what follows its
@@ -203,12 +201,28 @@ pub fn parse_own<'a>(
 {
     let key = text.as_bytes();
     match (key.first(), key.get(2)) {
-        (Some(b'a'), Some(b'p')) => parse_apply(config, text, event),
-        (Some(b'a'), _) => parse_as_of(config, text, event),
-        (Some(b'b'), Some(b'l')) => parse_balance(config, text, event),
+        (Some(b'a'), Some(b'p')) => {
+            let (name, rest) = parse_apply(config, text)?;
+            *event = Event::Apply(name);
+            Some(rest)
+        }
+        (Some(b'a'), _) => {
+            let (account, position, rest) = parse_as_of(config, text)?;
+            *event = Event::AsOf(account, position);
+            Some(rest)
+        }
+        (Some(b'b'), Some(b'l')) => {
+            let (account, rest) = parse_balance(config, text)?;
+            *event = Event::Balance(account);
+            Some(rest)
+        }
+        (Some(b's'), _) => {
+            let (account, rest) = parse_statement(config, text)?;
+            *event = Event::Statement(account);
+            Some(rest)
+        }
         (Some(b'b'), _) => parse_batch(alloc, config, text, event),
         (Some(b'p'), _) => parse_pass(config, text, event),
-        (Some(b's'), _) => parse_statement(config, text, event),
         _ => parse_submit(config, text, event),
     }
 }
