@@ -1,6 +1,6 @@
 //! Whether an order is right. Replies and order are tested anew, without the search's code: each history is replayed by
 //! its site, and then the order is followed by sites of its own, for what they send.
-ghost use Rattle.std.specs.Prelude.{◌≡◌, ◌↔◌, IsTrue, IfOk};
+ghost use Rattle.std.specs.Prelude.{◌≡◌, ◌≢◌, ◌↔◌, IsTrue, IfOk, Ok, false, length};
 ghost use Rattle.rb_auditor.specs.Certificates.{Certifies};
 ghost use Rattle.rb_auditor.specs.Findings.{lists_of};
 
@@ -11,14 +11,17 @@ use rb_money::Config;
 use rb_site::History;
 use std::alloc::{AllocError, Global};
 
-/// Whether a world could have recorded these histories in this order. `Err` means out of memory.
+/// Whether a world could have recorded these histories in this order. `Err` means out of memory, which the answer that
+/// there isn't one history for each site never is.
 pub fn check(
     alloc: Global,
     config: &Config,
     histories: &[History],
     certificate: &Certificate,
 ) -> Result<bool, AllocError>
-    ensures { IfOk result (λ yes. IsTrue yes ↔ Certifies config.now (lists_of histories.now) certificate.now) }
+    ensures certified { IfOk result
+        (λ yes. IsTrue yes ↔ Certifies config.now (lists_of histories.now) certificate.now) }
+    ensures few { length histories.now ≢ config.now.sites → result ≡ Ok false }
 {
     if histories.len() != config.sites() as usize {
         return Ok(false);

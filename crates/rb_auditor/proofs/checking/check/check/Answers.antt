@@ -11,15 +11,15 @@ use Rattle.rb_auditor.proofs.Lists
 use Rattle.rb_auditor.proofs.Refuting
 use Rattle.rb_auditor.proofs.checking.check.check.Goals as goal
 
-pub returns-then-histories-sites : goal.returns-then-histories-sites
-returns-then-histories-sites c = (
+pub returns-then-histories-sites-clause-certified : goal.returns-then-histories-sites-clause-certified
+returns-then-histories-sites-clause-certified c = (
   λ t. absurd (false≢true t),
   λ cert. absurd (c.if-histories-sites.true (sym (Lengths.length_lists c.args.histories.now)
       ∙ Refuting.one_for_each c.args.config.now (lists_of c.args.histories.now) c.args.certificate.now cert ∙ sym c.sites.ensures.same)),
 )
 
-pub returns-then-not-branch : goal.returns-then-not-branch
-returns-then-not-branch c =
+pub returns-then-not-branch-clause-certified : goal.returns-then-not-branch-clause-certified
+returns-then-not-branch-clause-certified c =
     let s = c.args.config.now in
     let hs = lists_of c.args.histories.now in
     let there : slice_get hs c.loop-site.site ≡ Some c.index-histories-site.result.items =
@@ -57,3 +57,6 @@ follow-requires-clause-replays c i h at =
     let size : length (lists_of c.args.histories.now) ≡ length c.args.histories.now = Lengths.length_lists c.args.histories.now in
     c.loop-site.invariant i h
     (omega (arith, c.sites.ensures.same, c.sites-site-end.ensures.same, c.if-histories-sites.false, c.loop-site-test.false)) at
+
+pub returns-clause-few : goal.returns-clause-few
+returns-clause-few c other = absurd (other (omega (arith, c.sites.ensures.same, c.if-histories-sites.false)))
