@@ -16,8 +16,8 @@ use Rattle.rb_site.specs.Events.{first_site, is_full, reply_to}
 use Rattle.rb_site.specs.Histories.{events_of, with_replies}
 use Rattle.rb_site.specs.Seen.{IsReplayed, SeenSite, entry, next_site, next_sites, state_of, stepped}
 use Rattle.rb_site.proofs.Public.Seen.{entries_replayed, history-state, replayed-stepped, settings-next}
-use Rattle.rb_crashes.specs.Crashes.{DiskSite, DiskStep, MayAllHappen, MayHappenAlone, Reports, Syncs, after_step, after_steps, with_event}
-use Rattle.rb_crashes.proofs.Public.{after_both, both_may}
+use Rattle.rb_world.specs.Crashes.{DiskSite, DiskStep, MayAllHappen, MayHappenAlone, Reports, Syncs, after_step, after_steps, with_event}
+use Rattle.rb_world.proofs.Public.{after_both, both_may}
 use Rattle.rb_journal.specs.Lines.{recovered}
 use Rattle.rb_journal.specs.Turns.{AreTurns, Turn, lines_added, state_after}
 use Rattle.std.proofs.Common.{Some, None}

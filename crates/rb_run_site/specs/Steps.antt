@@ -8,7 +8,7 @@ use Rattle.rb_site.specs.declared.event.Event.TheVariants.{Apply, Receive}
 use Rattle.rb_site.specs.Events.{first_site}
 use Rattle.rb_site.specs.Histories.{events_of, with_replies}
 use Rattle.rb_site.specs.Seen.{next_sites}
-use Rattle.rb_crashes.specs.Crashes.{Acts, DiskSite, DiskStep, MayAllHappen, Receives, Reports, Syncs, after_steps}
+use Rattle.rb_world.specs.Crashes.{Acts, DiskSite, DiskStep, MayAllHappen, Receives, Reports, Syncs, after_steps}
 use Rattle.rb_journal.specs.Lines.{recovered}
 use Rattle.rb_history.specs.Ids.{AskedEntry, AskedEvent}
 use Rattle.rb_node.specs.Answers.{asked_event_on}

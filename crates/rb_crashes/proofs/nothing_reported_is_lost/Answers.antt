@@ -1,6 +1,0 @@
-use Rattle.rb_crashes.proofs.Invisible
-use Rattle.rb_crashes.proofs.Kept
-use Rattle.rb_crashes.proofs.nothing_reported_is_lost.Goals as goal
-
-pub returns : goal.returns
-returns c s w led i d at later on = Kept.kept_at s w later i d on (Invisible.safe s w led) at

@@ -1,5 +1,0 @@
-use Rattle.rb_crashes.proofs.Invisible
-use Rattle.rb_crashes.proofs.reports_the_durable.Goals as goal
-
-pub returns : goal.returns
-returns c s w led = (Invisible.safe s w led).order

@@ -1,3 +1,0 @@
-pub mod Crashes
-pub mod Interleaved
-pub mod Laws

@@ -1,0 +1,233 @@
+-- A crash below what was reported can show.
+use Rattle.std.proofs.Common.{◌≡◌, ℕ, zero, suc, ◌+◌, ◌≤◌, false, cond, ◌||◌, List, [], ◌∷◌, ◌++◌, refl, ap, sym, subst, ◌∙◌, arith}
+use Rattle.std.proofs.Common.{◌⊎◌, inl, inr, Some, None}
+use Rattle.std.specs.Prelude.{map, nat_le, nat_lt, slice_get, slice_set}
+use Rattle.std.proofs.lemmas.Bool.Decides.{nat_tests}
+use Rattle.rb_money.specs.Refusals.{unless}
+use Rattle.rb_money.specs.Settings.{Settings}
+use Rattle.rb_money.specs.declared.refusal.Refusal.TheVariants.{NoSite, NumbersExhausted}
+use Rattle.rb_site.specs.declared.entry.Entry.{Entry}
+use Rattle.rb_site.specs.declared.event.Event.{Event}
+use Rattle.rb_site.specs.declared.event.Event.TheVariants.{Pass, Receive}
+use Rattle.rb_site.specs.declared.message.Message.{Message}
+use Rattle.rb_site.specs.declared.message.Message.TheVariants.{Token as TokenOnItsWay}
+use Rattle.rb_site.specs.Events.{Passes, Refuses, first_site, outcome_of, sent_at, sent_by}
+use Rattle.rb_site.specs.Histories.{IsAmong, IsBlocked, IsCut, IsUnsent, events_of, sends_of, with_replies}
+use Rattle.rb_site.proofs.Public.Lists
+use Rattle.rb_site.proofs.Public.Places as Sets
+use Rattle.rb_site.proofs.Public.Places.{same_number}
+use Rattle.rb_site.proofs.Public.Stuck
+use Rattle.rb_token.specs.Token.{first_token, pass_message}
+use Rattle.rb_world.specs.Crashes.{DiskSite, Goes, IsReported, Reports, Stays, Syncs, TakesStep, first_disks, histories_from}
+use Rattle.rb_world.specs.CrashLaws.{HidesCrashes, DeeperCrashesShow}
+use Rattle.rb_world.proofs.Places
+use Rattle.rb_world.proofs.DiskStepping
+use Rattle.rb_world.proofs.DiskStepping.{disk}
+
+-- ---- histories of one receipt
+
+history_at : (s : Settings) (i k : ℕ) (w : List DiskSite) (d : DiskSite) → slice_get w k ≡ Some d →
+    slice_get (histories_from s i w) k ≡ Some (with_replies s (first_site (i + k)) d.events)
+history_at s i k [] d at = cc
+history_at s i zero (x ∷ w) d at =
+    ap (λ (y : DiskSite). Some (with_replies s (first_site i) y.events)) (let e : x ≡ d = cc in e)
+    ∙ ap (λ j. Some (with_replies s (first_site j) d.events)) (let q : i ≡ i + 0 = omega arith in q)
+history_at s i (suc k) (x ∷ w) d at =
+    history_at s (i + 1) k w d at
+    ∙ ap (λ j. Some (with_replies s (first_site j) d.events)) (let q : (i + 1) + k ≡ i + suc k = omega arith in q)
+
+-- the site of a history
+record IsHistoryOf (s : Settings) (i k : ℕ) (w : List DiskSite) (h : List Entry) : Type 0 where
+  site : DiskSite
+  at : slice_get w k ≡ Some site
+  is : h ≡ with_replies s (first_site (i + k)) site.events
+
+history_back : (s : Settings) (i k : ℕ) (w : List DiskSite) (h : List Entry) → slice_get (histories_from s i w) k ≡ Some h →
+    IsHistoryOf s i k w h
+history_back s i k [] h at = cc
+history_back s i zero (x ∷ w) h at = record {
+  site = x;
+  at = refl;
+  is = (let e : h ≡ with_replies s (first_site i) x.events = cc in e)
+      ∙ ap (λ j. with_replies s (first_site j) x.events) (let q : i ≡ i + 0 = omega arith in q);
+}
+history_back s i (suc k) (x ∷ w) h at =
+    let o : IsHistoryOf s (i + 1) k w h = history_back s (i + 1) k w h at in
+    record {
+      site = o.site;
+      at = o.at;
+      is = o.is ∙ ap (λ j. with_replies s (first_site j) o.site.events) (let q : (i + 1) + k ≡ i + suc k = omega arith in q);
+    }
+
+-- if sites have nothing but the receipt of one message, which so none of them sent, the histories are no world's
+never_sent : (s : Settings) (w : List DiskSite) (m : Message) (k : ℕ) (b : DiskSite) →
+    ((i : ℕ) (d : DiskSite) → slice_get w i ≡ Some d → (d.events ≡ []) ⊎ (d.events ≡ Receive m ∷ [])) →
+    slice_get w k ≡ Some b → b.events ≡ Receive m ∷ [] → ¬ HidesCrashes s w
+never_sent s w m k b few at one = Stuck.stuck_final s hs fronts (record {
+  cut = cut;
+  site = k;
+  history = with_replies s (first_site (0 + k)) b.events;
+  at = history_at s 0 k w b at;
+  left = left;
+})
+  where
+    hs : List (List Entry)
+    hs = histories_from s 0 w
+
+    none : List Entry → List Entry
+    none h = []
+
+    fronts : List (List Entry)
+    fronts = map none hs
+
+    unsent : IsUnsent s fronts m
+    unsent j f there among =
+        let (h, here, is) = Lists.map_back none hs j f there in
+        elim (subst (λ f. IsAmong m (sends_of s (first_site j) (events_of f))) is among) [ ]
+
+    blocked : (i : ℕ) (d : DiskSite) → slice_get w i ≡ Some d → IsBlocked s fronts (with_replies s (first_site (0 + i)) d.events)
+    blocked i d there = elim (few i d there) [
+      | inl q ↦ subst (λ es. IsBlocked s fronts (with_replies s (first_site (0 + i)) es)) (sym q) tt
+      | inr q ↦ subst (λ es. IsBlocked s fronts (with_replies s (first_site (0 + i)) es)) (sym q) (m, refl, unsent)
+    ]
+
+    cut : (i : ℕ) (h : List Entry) → slice_get hs i ≡ Some h → IsCut s fronts i h
+    cut i h there =
+        let o : IsHistoryOf s 0 i w h = history_back s 0 i w h there in
+        record {
+          front = [];
+          there = Lists.map_at none hs i h there;
+          rest = h;
+          goes_on = refl;
+          blocked = subst (IsBlocked s fronts) (sym o.is) (blocked i o.site o.at);
+        }
+
+    left : ¬ (slice_get fronts k ≡ Some (with_replies s (first_site (0 + k)) b.events))
+    left h =
+        let empty : with_replies s (first_site (0 + k)) b.events ≡ [] = Places.same_item (slice_get fronts k) _ _ h
+        (Lists.map_at none hs k _ (history_at s 0 k w b at)) in
+        let some : with_replies s (first_site (0 + k)) (Receive m ∷ []) ≡ [] = ap (with_replies s (first_site (0 + k))) (sym one) ∙ empty in
+        cc
+
+-- ---- a message that is forgotten by its sender
+
+-- the token's first message, to site 1
+abbrev token_to_1 : Message
+token_to_1 = TokenOnItsWay (pass_message (first_token 0) 1 0)
+
+-- it is what site 0 sends as it passes the token
+pass_sends : (s : Settings) → 2 ≤ s.sites → 1 ≤ s.limits.history → 1 ≤ s.limits.epoch →
+    sent_at s (first_site 0) (Pass 1) ≡ token_to_1 ∷ []
+unfolding outcome_of
+pass_sends s two some epochs =
+    ap (λ b. cond b [] (sent_by (outcome_of s (first_site 0) (Pass 1)))) spare
+    ∙ ap (λ b. sent_by (unless Refuses (cond (b || false) (Some NoSite)
+    (cond (nat_lt s.limits.epoch (0 + 1)) (Some NumbersExhausted) None)) (Passes (pass_message (first_token 0) 1 0)))) there
+    ∙ ap (λ b. sent_by (unless Refuses (cond b (Some NumbersExhausted) None) (Passes (pass_message (first_token 0) 1 0)))) left
+  where
+    spare : nat_le s.limits.history 0 ≡ false
+    spare = grind (arith, nat_tests)
+
+    there : nat_le s.sites 1 ≡ false
+    there = grind (arith, nat_tests)
+
+    left : nat_lt s.limits.epoch (0 + 1) ≡ false
+    left = grind (arith, nat_tests)
+
+-- site 0 reports that it passed the token, site 1 receives it, and site 0 restarts as if it hadn't
+pub deeper_show : DeeperCrashesShow
+deeper_show s two some epochs = record {
+  world = w4;
+  led = Goes t1 (Goes t2 (Goes t3 (Goes t4 Stays)));
+  number = 0;
+  site = d3;
+  at = at4;
+  kept = 0;
+  fewer = omega arith;
+  shows = never_sent s (slice_set w4 0 forgotten) token_to_1 1 r few
+      (Sets.get_set_other w4 0 1 forgotten (λ e. cc) ∙ Sets.get_set_same w3 1 (disk 0 0 []) r at1) refl;
+}
+  where
+    e : Event
+    e = Pass 1
+
+    d1 : DiskSite
+    d1 = disk 0 0 (e ∷ [])
+
+    d2 : DiskSite
+    d2 = disk 1 0 (e ∷ [])
+
+    d3 : DiskSite
+    d3 = disk 1 1 (e ∷ [])
+
+    r : DiskSite
+    r = disk 0 0 (Receive token_to_1 ∷ [])
+
+    forgotten : DiskSite
+    forgotten = disk 0 1 []
+
+    w0 : List DiskSite
+    w0 = first_disks s
+
+    w1 : List DiskSite
+    w1 = slice_set w0 0 d1
+
+    w2 : List DiskSite
+    w2 = slice_set w1 0 d2
+
+    w3 : List DiskSite
+    w3 = slice_set w2 0 d3
+
+    w4 : List DiskSite
+    w4 = slice_set w3 1 r
+
+    at0 : slice_get w0 0 ≡ Some (disk 0 0 [])
+    at0 = DiskStepping.first_at s 0 (omega arith)
+
+    at3 : slice_get w3 0 ≡ Some d3
+    at3 = Sets.get_set_same w2 0 d2 d3 (Sets.get_set_same w1 0 d1 d2 (Sets.get_set_same w0 0 (disk 0 0 []) d1 at0))
+
+    at4 : slice_get w4 0 ≡ Some d3
+    at4 = Sets.get_set_other w3 1 0 r (λ e. cc) ∙ at3
+
+    -- the other sites are as they were
+    other : (i : ℕ) → ¬ (i ≡ 0) → slice_get w3 i ≡ slice_get w0 i
+    other i h = Sets.get_set_other w2 0 i d3 h ∙ Sets.get_set_other w1 0 i d2 h ∙ Sets.get_set_other w0 0 i d1 h
+
+    at1 : slice_get w3 1 ≡ Some (disk 0 0 [])
+    at1 = other 1 (λ e. cc) ∙ DiskStepping.first_at s 1 (omega arith)
+
+    reported : IsReported s w3 token_to_1
+    reported = record {
+      number = 0;
+      site = d3;
+      at = at3;
+      sent = subst (λ ms. IsAmong token_to_1 (ms ++ [])) (sym (pass_sends s two some epochs)) (inl refl);
+    }
+
+    t1 : TakesStep s w0 w1
+    t1 = DiskStepping.acts s w0 0 (disk 0 0 []) e at0 tt (omega arith)
+
+    t2 : TakesStep s w1 w2
+    t2 = DiskStepping.takes s w1 0 d1 (Syncs 1) (Sets.get_set_same w0 0 (disk 0 0 []) d1 at0) ((omega arith, omega arith), tt)
+
+    t3 : TakesStep s w2 w3
+    t3 = DiskStepping.takes s w2 0 d2 (Reports 1) (Sets.get_set_same w1 0 d1 d2 (Sets.get_set_same w0 0 (disk 0 0 []) d1 at0))
+        ((omega arith, omega arith), tt)
+
+    t4 : TakesStep s w3 w4
+    t4 = DiskStepping.receives s w3 1 (disk 0 0 []) token_to_1 at1 reported (omega arith)
+
+    -- but for the receipt at site 1 no site has an event
+    few : (i : ℕ) (d : DiskSite) → slice_get (slice_set w4 0 forgotten) i ≡ Some d →
+        (d.events ≡ []) ⊎ (d.events ≡ Receive token_to_1 ∷ [])
+    few i d at = elim (same_number 0 i) [
+      | inl q ↦ inl (ap (λ (y : DiskSite). y.events) (Places.same_item (slice_get (slice_set w4 0 forgotten) i) d forgotten at
+          (ap (slice_get (slice_set w4 0 forgotten)) q ∙ Sets.get_set_same w4 0 d3 forgotten at4)))
+      | inr ne ↦ elim (same_number 1 i) [
+        | inl q ↦ inr (ap (λ (y : DiskSite). y.events) (Places.same_item (slice_get w4 i) d r
+            (sym (Sets.get_set_other w4 0 i forgotten ne) ∙ at) (ap (slice_get w4) q ∙ Sets.get_set_same w3 1 (disk 0 0 []) r at1)))
+        | inr nor ↦ inl (ap (λ (y : DiskSite). y.events) (Places.get_replicate s.sites i (disk 0 0 []) d
+            (sym (other i ne) ∙ sym (Sets.get_set_other w3 1 i r nor) ∙ sym (Sets.get_set_other w4 0 i forgotten ne) ∙ at)))
+      ]
+    ]
