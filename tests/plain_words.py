@@ -9,8 +9,8 @@ indented in a page (commands, and lines that the program reads or writes), such 
 which `rt fmt` puts into one line. A line of a definition or a proof has at most 140.
 
 A page's sentences are those of its paragraphs, of the items of its lists, and of the cells of its tables that have
-eight words or more. They have at most 21 words in the mean, those of doc comments and of comments at definitions too.
-docs/MODEL.md isn't counted: it is made from the comments at definitions.
+eight words or more. They have at most 21 words in the mean, those of doc comments (Rattle and Rust), of comments in C
+and of comments at definitions too. docs/MODEL.md isn't counted: it is made from the comments at definitions.
 """
 import glob
 import os
@@ -27,7 +27,7 @@ FREE = {".md": r"\||    ", ".rt": r"#\[|\s*(?:\w+: )?(?:r#\")?\{ ?\""}
 FOLDERS = ("bench", "bindings", "examples", "play", "service", "tests")
 PAGES = ("*.md", "docs/*.md", *(f"{it}/**/*.md" for it in FOLDERS), "crates/*/*.md")
 SOURCES = ("Makefile", "crates/*/src/**/*.rt", "crates/*/specs/**/*.antt", "crates/*/proofs/**/*.antt",
-           *(f"{it}/**/*.{kind}" for it in FOLDERS for kind in ("py", "c", "h")),
+           *(f"{it}/**/*.{kind}" for it in FOLDERS for kind in ("py", "c", "h", "rs")),
            *(f"play/page/*.{kind}" for kind in ("html", "css", "js")))
 
 
@@ -69,16 +69,18 @@ def mean(text):
 
 def blocks(mark, text):
     """The comments of a text whose lines begin with a mark, each a paragraph."""
-    found = re.findall(rf"(?m)(?:^[ \t]*{mark}.*\n)+", text)
-    return "\n\n".join(re.sub(rf"(?m)^[ \t]*{mark} ?", "", block).strip() for block in found)
+    found = re.findall(rf"(?m)(?:^[ \t]*(?:{mark}).*\n)+", text)
+    return "\n\n".join(re.sub(rf"(?m)^[ \t]*(?:{mark}) ?|\*/", "", block).strip() for block in found)
 
 
 def means():
-    """Each page, and the two kinds of comments, with the mean length of its sentences."""
+    """Each page, and each kind of comments, with the mean length of its sentences."""
     found = [(path, mean(text)) for path, text in files(*PAGES) if path != "docs/MODEL.md"]
-    for shown, place, mark in (("doc comments", "crates/*/src/**/*.rt", "//[/!]"),
-                               ("definitions", "crates/*/specs/**/*.antt", "--")):
-        found.append((shown, mean("\n\n".join(blocks(mark, text) for _, text in files(place)))))
+    for shown, mark, places in (("doc comments", "//[/!]", ["crates/*/src/**/*.rt"]),
+                                ("definitions", "--", ["crates/*/specs/**/*.antt"]),
+                                ("doc comments of Rust", "//[/!]", [f"{it}/**/*.rs" for it in FOLDERS]),
+                                ("comments in C", r"/\*| \*", [f"{it}/**/*.[ch]" for it in FOLDERS])):
+        found.append((shown, mean("\n\n".join(blocks(mark, text) for _, text in files(*places)))))
     return found
 
 

@@ -1,6 +1,6 @@
-//! A site whose journal is in a file, as a filter: `journal SITE JOURNAL [--new] < EVENTS`. It begins a new journal with
-//! `--new`, else it goes on from the one that is there, and answers each line of its input by a line. Kill it at any
-//! moment and start it again, without `--new`.
+//! A site whose journal is in a file, as a filter: `journal SITE JOURNAL [--new] < EVENTS`. It begins a new journal
+//! with `--new`, else it goes on from the one that is there, and answers each line of its input by a line. Kill it at
+//! any moment and start it again, without `--new`.
 use rbbank::Journal;
 use std::error::Error;
 use std::io::{self, BufRead, Write};

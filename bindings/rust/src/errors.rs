@@ -39,7 +39,7 @@ pub enum ReplayError {
     Ended,
 }
 
-/// Why a site with its journal in a file wasn't opened, or didn't answer a line. Lines of the journal are counted from 1.
+/// Why a site with its journal in a file wasn't opened, or didn't answer a line. The journal's lines count from 1.
 #[cfg(unix)]
 #[derive(Debug)]
 pub enum JournalError {

@@ -99,10 +99,10 @@ fn read_whole(file: &mut File, path: &Path) -> io::Result<Vec<u8>> {
 }
 
 impl Journal {
-    /// Site `me`, 0 to 15, of a configuration's line, over the journal at this path, which with `new` is a new one. Only
-    /// then the file is made: a mistyped name, or a disk that isn't mounted, is never a new site, which would make other
-    /// operations under names that are taken. The reply is then what the last `resend` entries sent, a line for each
-    /// that sent any.
+    /// Site `me`, 0 to 15, of a configuration's line, over the journal at this path, which with `new` is a new one.
+    /// Only then the file is made: a mistyped name, or a disk that isn't mounted, is never a new site, which would make
+    /// other operations under names that are taken. The reply is then what the last `resend` entries sent, a line for
+    /// each that sent any.
     ///
     /// # Errors
     ///

@@ -12,8 +12,8 @@
 //! ```
 //!
 //! A [`Site`] is one of them, whose messages and journal are the caller's to carry and to keep. A [`Journal`] is one
-//! that keeps its own journal in a file. [`script`], [`audit`], [`migrate`] and [`close`] are whole runs. Lines, limits and refusals are those of docs/FORMAT.md; a refusal is a
-//! reply, and no error.
+//! that keeps its own journal in a file. [`script`], [`audit`], [`migrate`] and [`close`] are whole runs. Lines, limits
+//! and refusals are those of docs/FORMAT.md; a refusal is a reply, and no error.
 //!
 //! Either may go to another thread, and is used by one at a time: they are `Send`, and not `Sync`. They are ended when
 //! they are dropped.

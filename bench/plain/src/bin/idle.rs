@@ -1,5 +1,5 @@
-//! `idle THREADS BYTES` makes threads that do nothing, and writes this number of bytes once they have ended: what no run
-//! of as many threads, with histories of this length, can do without.
+//! `idle THREADS BYTES` makes threads that do nothing, and writes this number of bytes once they have ended: what no
+//! run of as many threads, with histories of this length, can do without.
 
 use std::io::{Write, stdout};
 use std::{env, thread};
