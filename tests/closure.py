@@ -10,11 +10,14 @@ usage: closure.py                  the headline's: the functions and laws of the
                                    and behind those that it names, between the first and the last section, which are
                                    written by hand
        closure.py --check          whether docs/MODEL.md is what --write makes and names only definitions that exist,
-                                   whether the functions and clauses of the tables of docs/PROVED.md are there and rest
-                                   on as many definitions as these say, README.md's numbers too, whether its table of
-                                   conditions has just the public functions that have one, whether other crates cite
-                                   each file of proofs/Public and none else of proofs/, and whether no two definitions
-                                   share a name; this is silent if all is well
+                                   whether the functions and clauses of the tables of promises are there, each clause
+                                   in one table, and rest on as many definitions as these say, README.md's numbers too,
+                                   whether each crate's list of conditions has just its public functions that have one,
+                                   whether other crates cite each file of proofs/Public and none else of proofs/, and
+                                   whether no two definitions share a name; this is silent if all is well
+
+The tables of promises are that of docs/PROVED.md and, in each crate's README.md, the one whose first column is "What is
+proved": its functions are the crate's own. An item that begins with 'Conditions:' lists the functions that have one.
 
 Words are resolved by the 'use' lines of their file. A type of the code is resolved to the types of its fields, and one
 that clients see as a value of a model to that value.
@@ -40,8 +43,9 @@ IMPL = r"^(?:impl(?:<[^\n]*?>)? (?:[\w:<>]+ for )?|(?:pub )?trait )(\w+)|^(}) *$
 HEAD = r'^( *)(pub(?:\([^)]*\))? )?(?:extern "C" )?fn (\w+)'
 FUNCTION = re.compile(r"(?ms)" + IMPL + "|" + HEAD + r"(.*?)(?=^\3\{|^\3    \{\}|\{\n|;\n)")
 
-# a function and its clauses in a table of docs/PROVED.md
-CALL = re.compile(r"`(\w+::\w+)`:? ?((?:(?:, )?`\w+`)*)")
+# a function and its clauses in a table of promises: of another crate than the table's, or of its own
+CALL = re.compile(r"`(\w+(?:::\w+)+)`(?:: ((?:(?:, )?`\w+`)+))?")
+OWN_CALL = re.compile(r"`(\w+(?:::\w+)*)`(?:: ((?:(?:, )?`\w+`)+))?")
 
 # a definition of specs/ with the comment above it, a type of the code, or a function with a contract; `scope` says what
 # its words mean
@@ -234,7 +238,7 @@ def headline_table():
 def headline():
     """The functions with the clauses, and the laws, of the headline's table."""
     table = headline_table()
-    called = [(name, re.findall(r"`(\w+)`", clauses)) for name, clauses in CALL.findall(table)]
+    called = [(name, re.findall(r"\w+", clauses)) for name, clauses in CALL.findall(table)]
     laws = re.findall(r"`(\w+)`", " ".join(re.findall(r"laws? ((?:(?:, )?`\w+`)+)", table)))
     return called, laws
 
@@ -245,24 +249,53 @@ def resting(things, names):
     return sum(it.kind == "definition" for it in found)
 
 
-def named_in(things, row):
-    """What a row of docs/PROVED.md names: CRATE::FUNCTION, CRATE::TYPE::FUNCTION, or a law of rb_world."""
-    names = [name for name in re.findall(r"`(\w+(?:::\w+)+)`", row)]
-    return names + ["rb_world::" + law for law in re.findall(r"law `(\w+)`", row)]
+def table_rows(text):
+    """The rows of a page's tables."""
+    return re.findall(r"(?m)^\| .*\|$", text)
+
+
+def called_in(row):
+    """What a row of docs/PROVED.md names, with its clauses: CRATE::FUNCTION, TYPE::FUNCTION, or a law of rb_world."""
+    return CALL.findall(row) + [("rb_world::" + law, "") for law in re.findall(r"law `(\w+)`", row)]
+
+
+def pages(things):
+    """The pages with tables of promises: each with its crate, if it is of one, and its text from there on."""
+    yield "docs/PROVED.md", None, read("docs/PROVED.md")
+    for crate in things.crates:
+        page = f"crates/{crate}/README.md"
+        yield page, crate, "".join(read(page).partition("| What is proved |")[1:])
+
+
+def promises(things):
+    """The rows of promises: each with its page, what it names with the clauses, and the number that it says, if any."""
+    for page, crate, text in pages(things):
+        for row in table_rows(text):
+            own = OWN_CALL.findall(row.split("|")[1])
+            called = [(f"{crate}::{name}", clauses) for name, clauses in own] if crate else called_in(row)
+            number = re.search(r"\| (\d+) \|(?:[^|]*\|)?$", row)
+            if called:
+                yield page, row, called, number and int(number.group(1))
 
 
 def counted(things):
-    """The rows of docs/PROVED.md, and the numbers of README.md, that say another number than there are definitions, or
-    name what isn't there."""
-    for row in re.findall(r"(?m)^\| .*\|$", read("docs/PROVED.md")):
-        names, number = named_in(things, row), re.search(r"\| (\d+)\b[^|]*\|(?:[^|]*\|){0,2}$", row)
-        yield from (f"docs/PROVED.md: there is no {name}" for name in names if not things.statements(name))
-        if number and names and int(number.group(1)) != resting(things, names):
-            yield f"docs/PROVED.md: {', '.join(names)} rests on {resting(things, names)}, and not on {number.group(1)}"
-        for name, clauses in re.findall(r"`(\w+(?:::\w+)+)`: ((?:(?:, )?`\w+`)+)", row):
+    """The rows of promises, and the numbers of README.md, that say another number than there are definitions, name
+    what isn't there, or name a clause that another row names; the pages that have no such rows."""
+    yield from (f"{page}: there is no table of promises" for page, _, text in pages(things) if not table_rows(text))
+    seen, of_headline = collections.Counter(), table_rows(headline_table())
+    for page, row, called, number in promises(things):
+        names = [name for name, _ in called]
+        yield from (f"{page}: there is no {name}" for name in names if not things.statements(name))
+        if number != resting(things, names):
+            yield f"{page}: {', '.join(names)} rests on {resting(things, names)}, and not on {number}"
+        for name, clauses in called:
             text = "".join(it.text for it in things.statements(name))
-            yield from (f"docs/PROVED.md: {name} has no clause {clause}" for clause in re.findall(r"\w+", clauses)
+            clauses = re.findall(r"\w+", clauses)
+            yield from (f"{page}: {name} has no clause {clause}" for clause in clauses
                         if not re.search(rf"\b(?:ensures|requires) {clause} ", text))
+            if row not in of_headline:
+                seen.update((name, clause) for clause in clauses or [""])
+    yield from (f"two rows have {name} {clause}" for (name, clause), times in seen.items() if times > 1)
     called, laws = headline()
     for said, names in ((r"must believe (\d+)", [name for name, _ in called] + ["rb_world::" + law for law in laws]),
                         (r"`never_negative` alone (\d+)", ["rb_world::never_negative"])):
@@ -272,16 +305,14 @@ def counted(things):
 
 
 def conditions(things):
-    """Says which public functions have a condition and aren't in docs/PROVED.md's table of these, and the reverse."""
-    table = re.search(r"(?ms)^\| Crate \| Conditions.*?\n\n", read("docs/PROVED.md"))
-    rows = re.findall(r"(?m)^\| (rb_\w+) \|(.*)$", table.group(0) if table else "")
-    said = {(crate, name) for crate, row in rows for name in re.findall(r"`([\w:]+)`", row)}
-    found = {(it.crate, it.name) for its in things.functions.values() for it in its
-             if it.public and re.search(r"\brequires\b", it.text)}
-    for crate, name in sorted(found - said):
-        yield f"docs/PROVED.md: {name} of {crate} has a condition, and isn't in the table of these"
-    for crate, name in sorted(said - found):
-        yield f"docs/PROVED.md: {crate} has no public {name} with a condition"
+    """Says which public functions have a condition that isn't in their crate's list of these, and the reverse."""
+    for page, crate, text in pages(things):
+        listed = "".join(re.findall(r"(?m)^- Conditions: .*\n(?:  .*\n)*", text))
+        said = set(re.findall(r"`([\w:]+)`", listed))
+        found = {it.name for its in things.functions.values() for it in its
+                 if it.crate == crate and it.public and re.search(r"\brequires\b", it.text)}
+        yield from (f"{page}: {name} has a condition, and isn't in the list of these" for name in sorted(found - said))
+        yield from (f"{page}: no public {name} has a condition" for name in sorted(said - found))
 
 
 def parts(things):
@@ -394,7 +425,7 @@ def by_need(things):
     row that rests on the fewest."""
     rows, listed = [], set()
     for row in re.findall(r"(?m)^\| (?!The sentence|---).*\|$", headline_table()):
-        found = things.closure([it for name in named_in(things, row) for it in things.statements(name)])
+        found = things.closure([it for name, _ in called_in(row) for it in things.statements(name)])
         rows.append((row, {id(it): it for it in found if it.kind == "definition"}))
     order = re.findall(r"(?m)^(rb\w+)", read("crates.txt"))
     for row, rests in sorted(rows, key=lambda it: len(it[1])):
@@ -458,8 +489,8 @@ def namesakes(things):
 
 
 def check(things):
-    """Says where docs/MODEL.md isn't as it is made, which clauses of docs/PROVED.md aren't there, where proofs/ isn't
-    as docs/ARCHITECTURE.md says, and which definitions share a name; how many."""
+    """Says where docs/MODEL.md isn't as it is made, which clauses of the tables of promises aren't there, where proofs/
+    isn't as docs/ARCHITECTURE.md says, and which definitions share a name; how many."""
     wrong, text = lemmas(things) + namesakes(things), read("docs/MODEL.md")
     if text != model(things, text):
         wrong.append("docs/MODEL.md isn't what the comments say now: tests/closure.py --write makes it")

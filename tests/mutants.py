@@ -4,8 +4,9 @@ by the function that it changes.
 
 usage: mutants.py [--jobs N] CRATE..   tries the mutants of these crates, and notes the run in their files
        mutants.py [--jobs N] --all     tries those of every crate, an hour or more
-       mutants.py --check              proves nothing: whether each mutant still applies, whether docs/PROVED.md names
-                                       those of must-fail/, and whether each file was tried since its crate changed
+       mutants.py --check              proves nothing: whether each mutant still applies, whether the tables of
+                                       promises (docs/PROVED.md, crates/*/README.md) name those of must-fail/, and
+                                       whether each file was tried since its crate changed
 
 A file tests/mutants/CRATE.edits begins with a line that says when all of it was last tried, and at which commit. Then
 it has the crate's mutants, each after its name in brackets, in the form of a must-fail edit: a line 'file: src/..', and
@@ -292,15 +293,16 @@ def check(crates):
 
 
 def named(crates):
-    """What is wrong with the mutants that the table of promises in docs/PROVED.md names."""
-    rows = re.findall(r"^\|.*\| \d+ \|([^|]*)\|[^|]*\|$", read(os.path.join(ROOT, "docs", "PROVED.md")), flags=re.M)
+    """What is wrong with the mutants that the tables of promises name, in their last cells."""
+    pages = [os.path.join(ROOT, "docs", "PROVED.md"), *glob.glob(os.path.join(CRATES, "*", "README.md"))]
+    rows = re.findall(r"^\|.*\| \d+ \|([^|]*)\|$", "\n".join(map(read, pages)), flags=re.M)
     said = collections.Counter(name for cell in rows for name in re.findall(r"`(\w+)`", cell))
     edits = glob.glob(os.path.join(CRATES, "*", "must-fail", "*.edit"))
     gate = {os.path.basename(it)[: -len(".edit")] for it in edits}
     there = gate.union(*map(mutants_of, crates))
-    faults = [f"docs/PROVED.md doesn't name {it}, of must-fail/" for it in sorted(gate - set(said))]
-    faults += [f"docs/PROVED.md names {it}, and there is no such mutant" for it in sorted(set(said) - there)]
-    return faults + [f"docs/PROVED.md names {it} twice" for it, times in sorted(said.items()) if times > 1]
+    faults = [f"no table of promises names {it}, of must-fail/" for it in sorted(gate - set(said))]
+    faults += [f"a table of promises names {it}, and there is no such mutant" for it in sorted(set(said) - there)]
+    return faults + [f"tables of promises name {it} twice" for it, times in sorted(said.items()) if times > 1]
 
 
 def try_all(crates, jobs):
