@@ -196,7 +196,8 @@ turns_both x (t ∷ ts) us h k = (h.0, turns_both t.after ts us h.1 k)
 -- one run more
 longer : RestartLaws → (all : Bool) (me : ℕ) (bank : List ℕ) (most : ℕ) (input : Option (List ℕ))
     (start : SeenAsked) (turns : List (Turn SeenAsked)) (file output c d : List ℕ)
-    → Whole me bank start turns file → (run : HasRun all me bank most input (recovered file) output c d)
+    → Whole me bank start turns file
+    → (run : HasRun (record { all = all; me = me; bank = bank; most = most; input = input }) (recovered file) output c d)
     → Whole me bank start (turns ++ run.answered.turns) c
 longer laws all me bank most input start turns file output c d w run =
     let us = run.answered.turns in

@@ -10,19 +10,16 @@ use Rattle.rb_lines.specs.Messages.{status_of}
 use Rattle.rb_run_site.specs.declared.fault.SiteFault.{SiteFault}
 use Rattle.rbbank.specs.declared.closing.ClosingFault.{ClosingFault}
 use Rattle.rbbank.specs.declared.closing.ClosingFault.TheVariants.{Same as SameJournal, Books}
-use Rattle.rbbank.specs.declared.over_files.OverFiles.{OverFiles}
-use Rattle.rbbank.specs.declared.over_files.OverFiles.TheVariants.{Nothing, Site, Closed, Lines}
-use Rattle.rbbank.specs.declared.on_streams.Streamed.{Streamed}
-use Rattle.rbbank.specs.declared.on_streams.Streamed.TheVariants.{Script, Histories, Audit, Migrate, Threads, SiteAsked, SealAsked}
-use Rattle.rbbank.specs.declared.on_streams.Streamed.TheVariants.{BadBank, CloseAsked, FilesAsked}
+use Rattle.rbbank.specs.declared.done.Done.{Done}
+use Rattle.rbbank.specs.declared.done.Done.TheVariants.{Lines, Files, Threads, Site, BadBank, Closed}
 use Rattle.rbbank.specs.declared.joined.FilesFault.{FilesFault}
 use Rattle.rbbank.specs.declared.joined.FilesFault.TheVariants.{Unread, AnotherBank, Same, OutOfMemory as NoFilesMemory}
 use Rattle.rbbank.specs.declared.task.TaskRan.{TaskRan}
 use Rattle.rbbank.specs.declared.task.TaskRan.TheVariants.{Script as ScriptRan, Histories as HistoriesRan, Audit as AuditRan}
 use Rattle.rbbank.specs.declared.task.TaskRan.TheVariants.{Migrate as MigrationRan}
-use Rattle.rbbank.specs.Statuses.{IsEnd, IsEndOf, IsEndOfAudit, IsEndOfClosing, IsEndOfFiles, IsEndOfHistories, IsEndOfScript, IsEndOfSite}
-use Rattle.rbbank.specs.Statuses.{IsEndOfTask, IsEndOfWords}
-use Rattle.rbbank.specs.Statuses.{IsReportedStatus, status_of_unread}
+use Rattle.rbbank.specs.Statuses.{EndsIn, IsEnd, IsEndOf, IsEndOfClosing, IsEndOfFiles, IsEndOfSite, IsEndOfThreads}
+use Rattle.rbbank.specs.Statuses.{IsEndOfWords, IsReportedStatus, status_of_unread}
+use Rattle.rbbank.specs.Tasks.{task_status}
 
 -- memory ran out
 pub no_memory : (n : ℕ) → n ≡ 4 → IsEnd n
@@ -32,18 +29,20 @@ fault_end : (n : ℕ) (fault : ScriptFault) → IsReportedStatus (status_of faul
 fault_end n fault (inl e) = inr (inr (inl (fault, e)))
 fault_end n fault (inr e) = no_memory n e
 
-script_end : (n : ℕ) (ran : Result ℕ ScriptFault) → IsEndOfScript ran n → IsEnd n
-script_end n (Ok count) e = inl e
-script_end n (Err fault) e = fault_end n fault e
+task_end : (n : ℕ) (ran : TaskRan) → EndsIn (task_status ran) n → IsEnd n
+task_end n (ScriptRan (Ok count)) e = inl e
+task_end n (ScriptRan (Err fault)) e = fault_end n fault e
+task_end n (HistoriesRan (Ok u)) e = inl e
+task_end n (HistoriesRan (Err fault)) e = fault_end n fault e
+task_end n (AuditRan (Ok true)) e = inl e
+task_end n (AuditRan (Ok false)) e = inr (inl e)
+task_end n (AuditRan (Err fault)) e = fault_end n fault e
+task_end n (MigrationRan (Ok count)) e = inl e
+task_end n (MigrationRan (Err fault)) e = fault_end n fault e
 
-audit_end : (n : ℕ) (ran : Result Bool ScriptFault) → IsEndOfAudit ran n → IsEnd n
-audit_end n (Ok true) e = inl e
-audit_end n (Ok false) e = inr (inl e)
-audit_end n (Err fault) e = fault_end n fault e
-
-histories_end : (n : ℕ) (ran : Result Unit ScriptFault) → IsEndOfHistories ran n → IsEnd n
-histories_end n (Ok u) e = inl e
-histories_end n (Err fault) e = fault_end n fault e
+threads_end : (n : ℕ) (ran : Result Unit ScriptFault) → IsEndOfThreads ran n → IsEnd n
+threads_end n (Ok u) e = inl e
+threads_end n (Err fault) e = fault_end n fault e
 
 site_end : (n : ℕ) (ran : Result ℕ SiteFault) → IsEndOfSite ran n → IsEnd n
 site_end n (Ok count) e = inl e
@@ -57,12 +56,6 @@ closing_end n (Err (SameJournal same)) e = fault_end n NoConfig e
 closing_end n (Err (Books fault)) (inl e) = inr (inr (inr (inr (fault, e))))
 closing_end n (Err (Books fault)) (inr e) = no_memory n e
 
-task_end : (n : ℕ) (ran : TaskRan) → IsEndOfTask ran n → IsEnd n
-task_end n (ScriptRan ran) e = script_end n ran e
-task_end n (HistoriesRan ran) e = histories_end n ran e
-task_end n (AuditRan ran) e = audit_end n ran e
-task_end n (MigrationRan ran) e = script_end n ran e
-
 files_end : (n : ℕ) (ran : Result TaskRan FilesFault) → IsEndOfFiles ran n → IsEnd n
 files_end n (Ok ran) e = task_end n ran e
 files_end n (Err (Unread file)) e = fault_end n Read e
@@ -71,30 +64,13 @@ files_end n (Err (Same same)) e = fault_end n NoConfig e
 files_end n (Err NoFilesMemory) e = fault_end n OutOfMemory e
 
 -- whatever was done
-pub any_end : (n : ℕ) (streamed : Streamed) (input left : Option (List ℕ)) (done : OverFiles) (text : List ℕ)
-    → IsEndOf streamed input left done text n → IsEnd n
-any_end n (Script ran) input left done text e = script_end n ran e.0
-any_end n (Histories ran) input left done text e = histories_end n ran e.0
-any_end n (Audit ran) input left done text e = audit_end n ran e.0
-any_end n (Migrate ran) input left done text e = script_end n ran e.0
-any_end n (Threads ran) input left done text e = histories_end n ran e.0
-any_end n (SiteAsked me journal is_new resend recorded bank) input left (Site ran) text e = site_end n ran.ended e.1
-any_end n (SiteAsked me journal is_new resend recorded bank) input left Nothing text e = absurd e
-any_end n (SiteAsked me journal is_new resend recorded bank) input left (Closed ran) text e = absurd e
-any_end n (SiteAsked me journal is_new resend recorded bank) input left (Lines ran) text e = absurd e
-any_end n (BadBank name) input left done text e = fault_end n NoConfig e.0
-any_end n (SealAsked me journal) input left (Site ran) text e = site_end n ran.ended e.1
-any_end n (SealAsked me journal) input left Nothing text e = absurd e
-any_end n (SealAsked me journal) input left (Closed ran) text e = absurd e
-any_end n (SealAsked me journal) input left (Lines ran) text e = absurd e
-any_end n (CloseAsked sites accounts journals) input left (Closed ran) text e = closing_end n ran.ended e.1
-any_end n (CloseAsked sites accounts journals) input left Nothing text e = absurd e
-any_end n (CloseAsked sites accounts journals) input left (Site ran) text e = absurd e
-any_end n (CloseAsked sites accounts journals) input left (Lines ran) text e = absurd e
-any_end n (FilesAsked task files) input left (Lines ran) text e = files_end n ran.ended e.1
-any_end n (FilesAsked task files) input left Nothing text e = absurd e
-any_end n (FilesAsked task files) input left (Site ran) text e = absurd e
-any_end n (FilesAsked task files) input left (Closed ran) text e = absurd e
+pub any_end : (n : ℕ) (done : Done) → IsEndOf done n → IsEnd n
+any_end n (Lines ran) e = task_end n ran e
+any_end n (Files ran) e = files_end n ran.ended e
+any_end n (Threads ran) e = threads_end n ran e
+any_end n (Site ran) e = site_end n ran.ended e
+any_end n BadBank e = fault_end n NoConfig e
+any_end n (Closed ran) e = closing_end n ran.ended e
 
 shown_end : (n : ℕ) → (n ≡ 0) ⊎ IsReportedStatus (status_of Write) n → IsEnd n
 shown_end n (inl e) = inl e

@@ -2,4 +2,3 @@ mod Ends
 mod LinesOfFiles
 mod OnDisk
 mod PlacesInFiles
-mod Done

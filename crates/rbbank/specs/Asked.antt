@@ -1,39 +1,41 @@
--- The requests of the words, and the runs that answer them.
-use Rattle.std.specs.Prelude.{◌≡◌, ◌≢◌, ℕ, List, [], Option, Some, IfSome, Err, false}
-use Rattle.rb_lines.specs.declared.fault.ScriptFault.TheVariants.{Gather}
+-- The requests of the words, and what is done for them.
+use Rattle.std.specs.Prelude.{◌≡◌, ◌≤◌, ℕ, List, [], Option, Some, IfSome, false, true, length, map}
+use Rattle.rb_cli.specs.declared.task.Task.{Task}
+use Rattle.rb_cli.specs.declared.task.Task.TheVariants.{Script as ToAnswer, Histories as ToRecord, Audit as ToAudit, Migrate as ToMigrate}
 use Rattle.rb_cli.specs.declared.words.Words.{Words}
 use Rattle.rb_cli.specs.declared.words.Words.TheVariants.{Script, Histories, Audit, Migrate, Files, Threads, Site, Seal, Close}
 use Rattle.rb_history.specs.Ids.{is_id}
-use Rattle.rb_runs.specs.Script.{ScriptEndsAs}
-use Rattle.rb_runs.specs.Recording.{HistoriesEndAs}
-use Rattle.rb_runs.specs.Audit.{AuditEndsAs}
-use Rattle.rb_runs.specs.Migration.{MigrationEndsAs}
 use Rattle.rb_run_threads.specs.Runs.{ThreadsEndAs}
-use Rattle.rbbank.specs.declared.on_streams.Streamed.{Streamed}
-use Rattle.rbbank.specs.declared.on_streams.Streamed.TheVariants.{Script as ScriptRan, Histories as HistoriesRan, Audit as AuditRan}
-use Rattle.rbbank.specs.declared.on_streams.Streamed.TheVariants.{Migrate as MigrationRan, Threads as TellersRan}
-use Rattle.rbbank.specs.declared.on_streams.Streamed.TheVariants.{FilesAsked, SiteAsked, BadBank, SealAsked, CloseAsked}
+use Rattle.rbbank.specs.declared.done.Done.{Done}
+use Rattle.rbbank.specs.declared.done.Done.TheVariants.{Lines, BadBank, Closed}
+use Rattle.rbbank.specs.declared.done.Done.TheVariants.{Files as FilesRan, Threads as TellersRan, Site as SiteRan}
+use Rattle.rbbank.specs.Files.{ClosesFilesAs, FilesEndAs}
+use Rattle.rbbank.specs.OnDisk.{IsRunOn, IsSealOn, bank_name_of, records_all}
+use Rattle.rbbank.specs.Tasks.{DoesTask}
 
--- what was asked for was done, by the definition of its own run: a script on the reader's bytes, with its replies or
--- its histories, an audit of them or a migration, wherever these bytes are known, none of which gathers histories, or
--- a run of tellers, which reads nothing; or the lines of files are to be read, a site is to run, or a journal to be
--- sealed, or the books to be closed, as asked, or the name given to a site's bank isn't an id, and nothing was read or
--- written
-abbrev pub DoesAsAsked : Words → Streamed → Option (List ℕ) → Option (List ℕ) → List ℕ → Type 0
-DoesAsAsked Script (ScriptRan r) bytes left text = (r ≢ Err Gather) × IfSome bytes (λ input. ScriptEndsAs r input left text)
-DoesAsAsked Histories (HistoriesRan r) bytes left text = (r ≢ Err Gather) × IfSome bytes (λ input. HistoriesEndAs r input left text)
-DoesAsAsked Audit (AuditRan r) bytes left text = (r ≢ Err Gather) × IfSome bytes (λ input. AuditEndsAs r input left text)
-DoesAsAsked Migrate (MigrationRan r) bytes left text = (r ≢ Err Gather) × IfSome bytes (λ input. MigrationEndsAs r input left text)
-DoesAsAsked (Files task files) (FilesAsked task' files') bytes left text =
-    (task' ≡ task) × (files' ≡ files) × (text ≡ []) × (left ≡ bytes)
-DoesAsAsked (Threads sites tellers seed) (TellersRan r) bytes left text = ThreadsEndAs r sites tellers seed text × (left ≡ bytes)
-DoesAsAsked (Site me journal is_new resend recorded bank) (SiteAsked me' journal' is_new' resend' recorded' bank') bytes left text =
-    (me' ≡ me) × (journal' ≡ journal) × (is_new' ≡ is_new) × (resend' ≡ resend) × (recorded' ≡ recorded) × (bank' ≡ bank)
-    × (text ≡ []) × (left ≡ bytes)
-DoesAsAsked (Site me journal is_new resend recorded bank) (BadBank name) bytes left text =
-    (bank ≡ Some name) × (is_id name.now ≡ false) × (text ≡ []) × (left ≡ bytes)
-DoesAsAsked (Seal me journal) (SealAsked me' journal') bytes left text =
-    (me' ≡ me) × (journal' ≡ journal) × (text ≡ []) × (left ≡ bytes)
-DoesAsAsked (Close sites accounts journals) (CloseAsked sites' accounts' journals') bytes left text =
-    (sites' ≡ sites) × (accounts' ≡ accounts) × (journals' ≡ journals) × (text ≡ []) × (left ≡ bytes)
-DoesAsAsked _ _ bytes left text = ⊥
+-- the task was done with the lines of the reader
+abbrev pub DoesLines : Task → Option (List ℕ) → Option (List ℕ) → Done → List ℕ → Type 0
+DoesLines task bytes left (Lines ran) text = DoesTask task ran bytes left text
+DoesLines task bytes left _ text = ⊥
+
+-- what was asked for was done, by the definition of its own run, if this text was written: a task with the lines of the
+-- reader or of files, a run of tellers, a site over the file that the words name, the seal of that file, or the books
+-- were closed. Only the first and a site read from the reader. A site whose bank's name isn't an id doesn't run
+abbrev pub DoesAsAsked : Words → Option (List ℕ) → Option (List ℕ) → Done → List ℕ → Type 0
+DoesAsAsked Script bytes left done text = DoesLines ToAnswer bytes left done text
+DoesAsAsked Histories bytes left done text = DoesLines ToRecord bytes left done text
+DoesAsAsked Audit bytes left done text = DoesLines ToAudit bytes left done text
+DoesAsAsked Migrate bytes left done text = DoesLines ToMigrate bytes left done text
+DoesAsAsked (Files task files) bytes left (FilesRan ran) text =
+    FilesEndAs task (length files.items) ran.ids.items ran.read.files ran.ended text × (left ≡ bytes)
+DoesAsAsked (Threads sites tellers seed) bytes left (TellersRan r) text = ThreadsEndAs r sites tellers seed text × (left ≡ bytes)
+DoesAsAsked (Site me journal is_new resend recorded bank) bytes left (SiteRan ran) text =
+    IfSome bank (λ name. is_id name.now ≡ true)
+    × IsRunOn (records_all recorded) me (bank_name_of bank) journal.now is_new resend bytes left ran.disk ran.ended × (text ≡ [])
+DoesAsAsked (Site me journal is_new resend recorded (Some name)) bytes left BadBank text =
+    (is_id name.now ≡ false) × (text ≡ []) × (left ≡ bytes)
+DoesAsAsked (Seal me journal) bytes left (SiteRan ran) text = IsSealOn me journal.now ran.disk ran.ended × (text ≡ []) × (left ≡ bytes)
+DoesAsAsked (Close sites accounts journals) bytes left (Closed ran) text =
+    ClosesFilesAs (record { sites = sites; added = map (λ name. name.now) accounts.items }) (length journals.items)
+    ran.ids.items ran.read.files ran.ended text × (left ≡ bytes)
+DoesAsAsked _ bytes left _ text = ⊥

@@ -2,15 +2,9 @@
 use Rattle.std.specs.Prelude.{◌≡◌, ◌≢◌, ◌<◌, ◌+◌, ◌-◌, ℕ, List, [], ◌∷◌, ◌++◌, length, drop, map, flat_map, codes}
 use Rattle.std.specs.Prelude.{Option, None, Some, slice_get, Result, Ok, Err, Bool}
 use Rattle.rb_cli.specs.declared.task.Task.{Task}
-use Rattle.rb_cli.specs.declared.task.Task.TheVariants.{Script, Histories, Audit, Migrate}
 use Rattle.rb_lines.specs.Lines.{lines_of}
 use Rattle.rb_lines.specs.Messages.{reason_of}
 use Rattle.rb_lines.specs.declared.fault.ScriptFault.{ScriptFault}
-use Rattle.rb_lines.specs.declared.fault.ScriptFault.TheVariants.{Gather}
-use Rattle.rb_runs.specs.Script.{ScriptEndsAs}
-use Rattle.rb_runs.specs.Recording.{HistoriesEndAs}
-use Rattle.rb_runs.specs.Audit.{AuditEndsAs}
-use Rattle.rb_runs.specs.Migration.{MigrationEndsAs}
 use Rattle.rbbank.specs.declared.joined.FilesFault.{FilesFault}
 use Rattle.rbbank.specs.declared.joined.FilesFault.TheVariants.{Unread, AnotherBank, Same, OutOfMemory}
 use Rattle.rbbank.specs.SameFiles.{AreFiles, IsSameFile}
@@ -22,8 +16,7 @@ use Rattle.rb_runs.specs.Closes.{ClosesAs}
 use Rattle.rb_runs.specs.declared.books.close_fault.CloseFault.TheVariants.{OutOfMemory as NoMemory}
 use Rattle.rbbank.specs.declared.joined.Joined.{Joined}
 use Rattle.rbbank.specs.declared.task.TaskRan.{TaskRan}
-use Rattle.rbbank.specs.declared.task.TaskRan.TheVariants.{Script as ScriptRan, Histories as HistoriesRan, Audit as AuditRan}
-use Rattle.rbbank.specs.declared.task.TaskRan.TheVariants.{Migrate as MigrationRan}
+use Rattle.rbbank.specs.Tasks.{DoesTask}
 
 -- ---- files as one input
 
@@ -91,16 +84,7 @@ AreNoInput count files (AnotherBank file) = (file + 1 ≡ length files) × HasAn
 AreNoInput count files (Same same) = ⊥
 AreNoInput count files OutOfMemory = Unit {0}
 
--- ---- the outcome of a task
-
--- the result of a task with this input, of which the second part is left, if this text was written: by the definition
--- of its own run, none of which gathers histories
-abbrev pub TaskEndsAs : Task → TaskRan → List ℕ → Option (List ℕ) → List ℕ → Type 0
-TaskEndsAs Script (ScriptRan r) input left text = (r ≢ Err Gather) × ScriptEndsAs r input left text
-TaskEndsAs Histories (HistoriesRan r) input left text = (r ≢ Err Gather) × HistoriesEndAs r input left text
-TaskEndsAs Audit (AuditRan r) input left text = (r ≢ Err Gather) × AuditEndsAs r input left text
-TaskEndsAs Migrate (MigrationRan r) input left text = (r ≢ Err Gather) × MigrationEndsAs r input left text
-TaskEndsAs _ _ input left text = ⊥
+-- ---- the outcome of a task with files
 
 -- nothing was done with this number of files of these ids, since one is one before it
 abbrev pub IsNotBegun : ℕ → List (Option FileId) → List (List ℕ) → ℕ → ℕ → List ℕ → Type 0
@@ -110,7 +94,7 @@ IsNotBegun count ids files file before text = (length ids ≡ count) × IsSameFi
 -- with all of them as one input; or they are none, or one of them is one before it, and nothing was written
 abbrev pub FilesEndAs : Task → ℕ → List (Option FileId) → List (List ℕ) → Result TaskRan FilesFault → List ℕ → Type 0
 FilesEndAs task count ids files (Ok ran) text = AreFiles count ids × (length files ≡ count)
-    × (input : List ℕ) × AreInput files input × (left : Option (List ℕ)) × TaskEndsAs task ran input left text
+    × (input : List ℕ) × AreInput files input × (left : Option (List ℕ)) × DoesTask task ran (Some input) left text
 FilesEndAs task count ids files (Err (Same same)) text = IsNotBegun count ids files same.file same.before text
 FilesEndAs task count ids files (Err OutOfMemory) text = text ≡ []
 FilesEndAs task count ids files (Err fault) text = AreFiles count ids × AreNoInput count files fault × (text ≡ [])

@@ -3,3 +3,4 @@ pub mod Files
 pub mod OnDisk
 pub mod SameFiles
 pub mod Statuses
+pub mod Tasks

@@ -5,17 +5,18 @@ ghost use Rattle.std.specs.Process.{exit_status};
 ghost use Rattle.rbbank.specs.Files.{FilesEndAs, files_status_of, lines_message_of};
 ghost use Rattle.rbbank.specs.SameFiles.{AreFiles};
 ghost use Rattle.rb_lines.specs.Messages.{status_of};
-ghost use Rattle.rbbank.specs.Statuses.{IsEndOfFiles, IsEndOfTask, IsReportedStatus};
+ghost use Rattle.rbbank.specs.Statuses.{EndsIn, IsEndOfFiles, IsReportedStatus};
+ghost use Rattle.rbbank.specs.Tasks.{task_status};
 
 use crate::files_on_disk::{FilesOnDisk, name_of, report_unread};
 use crate::joined::{FilesFault, Joined, join_files};
 use crate::read_log::ReadLog;
 use crate::same_file::{FileId, first_same, ids_of, report_same};
-use crate::task::{TaskRan, run_task};
+use crate::task::{TaskRan, run_task, status_of};
 use crate::why::reason_of_file;
-use crate::{FAULT_FOUND, out_of_memory, print_line, report_fault, report_why};
+use crate::{out_of_memory, print_line, report_fault, report_why};
 use rb_cli::Task;
-use rb_lines::{ScriptFault, Sink, status};
+use rb_lines::{FromBytes, ScriptFault, Sink, status};
 use rb_runs::{JournalFault, journal_message, journal_status};
 use std::alloc::{AllocError, Global};
 use std::io;
@@ -74,18 +75,11 @@ fn report_stop(rt: &HostRuntime, names: &[&str], joined: &Joined, fault: ScriptF
 
 /// How a task ends the program.
 fn end_of_task(rt: &HostRuntime, names: &[&str], joined: &Joined, ran: TaskRan) -> ExitCode
-    ensures { IsEndOfTask ran (exit_status result) }
+    ensures { EndsIn (task_status ran) (exit_status result) }
 {
-    match ran {
-        TaskRan::Script(Ok(_)) => ExitCode::SUCCESS,
-        TaskRan::Histories(Ok(())) => ExitCode::SUCCESS,
-        TaskRan::Audit(Ok(true)) => ExitCode::SUCCESS,
-        TaskRan::Audit(Ok(false)) => ExitCode::from(FAULT_FOUND),
-        TaskRan::Migrate(Ok(_)) => ExitCode::SUCCESS,
-        TaskRan::Script(Err(fault)) => report_stop(rt, names, joined, fault),
-        TaskRan::Histories(Err(fault)) => report_stop(rt, names, joined, fault),
-        TaskRan::Audit(Err(fault)) => report_stop(rt, names, joined, fault),
-        TaskRan::Migrate(Err(fault)) => report_stop(rt, names, joined, fault),
+    match status_of(ran) {
+        Ok(status) => ExitCode::from(status),
+        Err(fault) => report_stop(rt, names, joined, fault),
     }
 }
 
@@ -152,8 +146,9 @@ fn run_over<W: Sink>(
     let (read, error) = files.end();
     match joined {
         Ok(joined) => {
+            let mut reader = FromBytes::new(&joined.bytes);
             let mut why = None;
-            let ran = run_task(rt.alloc(), task, &joined.bytes, writer, &mut why);
+            let ran = run_task(rt.alloc(), task, &mut reader, writer, &mut why);
             let code = end_of_task(rt, names, &joined, ran);
             report_why(rt, why);
             let ended = Ok(ran);

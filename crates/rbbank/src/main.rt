@@ -3,24 +3,23 @@
 //! Tests: tests/cases, words.cases; the program itself runs in the gate and on examples/.
 #![tactic(auto)]
 
-ghost use Rattle.std.specs.Prelude.{◌≡◌, ◌⊎◌, IfOk, List, MatchResult, false, string_bytes, ℕ};
-ghost use Rattle.std.specs.Io.KnownBytes.{Appends};
+ghost use Rattle.std.specs.Prelude.{◌≡◌, ◌⊎◌, IfOk, MatchResult, string_bytes};
 ghost use Rattle.std.specs.IoError.{error_kind};
 ghost use Rattle.std.specs.Process.{exit_status};
 ghost use Rattle.clap.specs.Words.{kind_of};
 ghost use Rattle.rb_lines.specs.Messages.{status_of};
 ghost use Rattle.rb_lines.specs.declared.fault.ScriptFault.TheVariants.{Write as NotWritten};
-ghost use Rattle.rbbank.specs.Statuses.{IsEnd, IsEndOf, IsEndOfAudit, IsEndOfHistories, IsEndOfScript, IsEndOfWords};
-ghost use Rattle.rbbank.specs.Statuses.{IsAskedOfFiles, IsFitting};
+ghost use Rattle.rbbank.specs.Statuses.{EndsIn, IsEnd, IsEndOfThreads, IsEndOfWords};
 ghost use Rattle.rbbank.specs.Statuses.{IsReportedStatus, bank_message_of, status_of_unread};
+ghost use Rattle.rbbank.specs.Tasks.{task_status};
 
 mod closing;
+mod do_words;
+mod done;
 mod files_on_disk;
 mod files_task;
 mod joined;
 mod on_disk;
-mod on_streams;
-mod over_files;
 mod patient;
 mod read_log;
 mod same_file;
@@ -28,18 +27,15 @@ mod task;
 mod why;
 
 use clap::error::ErrorKind;
-use closing::close_books;
-use files_task::run_over_files;
-use on_disk::{RanOnDisk, run_on_disk, seal_on_disk};
-use on_streams::{Streamed, run_on_streams};
-use over_files::OverFiles;
+use do_words::{Ended, do_words};
 use patient::Patient;
-use rb_lines::{FromReader, ScriptFault, Sink, Source, ToWriter, message, status};
+use rb_lines::{FromReader, ScriptFault, ToWriter, message, status};
 use std::alloc::{AllocError, Global};
 use std::process::ExitCode;
 use std::sync::Wait;
 use std::thread::Threads;
 use std::{env, io};
+use task::{TaskRan, status_of};
 
 /// The status if no world has the histories, or the books can't be closed.
 pub(crate) const FAULT_FOUND: u8 = 1;
@@ -123,30 +119,19 @@ fn report_unread(rt: &HostRuntime, error: io::Error) -> ExitCode
     }
 }
 
-/// How a script or a migration ends the program.
-fn end_of_script(rt: &HostRuntime, ran: Result<u64, ScriptFault>) -> ExitCode
-    ensures { IsEndOfScript ran (exit_status result) }
+/// How a task with the lines of standard input ends the program.
+pub(crate) fn end_of_task(rt: &HostRuntime, ran: TaskRan) -> ExitCode
+    ensures { EndsIn (task_status ran) (exit_status result) }
 {
-    match ran {
-        Ok(_) => ExitCode::SUCCESS,
+    match status_of(ran) {
+        Ok(status) => ExitCode::from(status),
         Err(fault) => report_fault(rt, fault),
     }
 }
 
-/// How an audit ends the program.
-fn end_of_audit(rt: &HostRuntime, ran: Result<bool, ScriptFault>) -> ExitCode
-    ensures { IsEndOfAudit ran (exit_status result) }
-{
-    match ran {
-        Ok(true) => ExitCode::SUCCESS,
-        Ok(false) => ExitCode::from(FAULT_FOUND),
-        Err(fault) => report_fault(rt, fault),
-    }
-}
-
-/// How a run that writes histories ends the program: of a script, or of threads.
-fn end_of_histories(rt: &HostRuntime, ran: Result<(), ScriptFault>) -> ExitCode
-    ensures { IsEndOfHistories ran (exit_status result) }
+/// How a run of threads ends the program.
+pub(crate) fn end_of_threads(rt: &HostRuntime, ran: Result<(), ScriptFault>) -> ExitCode
+    ensures { IsEndOfThreads ran (exit_status result) }
 {
     match ran {
         Ok(()) => ExitCode::SUCCESS,
@@ -162,83 +147,10 @@ fn bank_message(alloc: Global, name: &str) -> Result<String, AllocError>
 }
 
 /// Says that the name is none of a bank.
-fn report_bank(rt: &HostRuntime, name: &str) -> ExitCode
+pub(crate) fn report_bank(rt: &HostRuntime, name: &str) -> ExitCode
     ensures { IsReportedStatus 2 (exit_status result) }
 {
     print_line(rt, bank_message(rt.alloc(), name), WRONG_WORDS)
-}
-
-/// How the program ends: its status, and what ran over files.
-struct Ended {
-    code: ExitCode,
-    done: OverFiles,
-}
-
-/// The end of a program that ran over no file.
-fn without_files(code: ExitCode) -> Ended
-    ensures { exit_status result.code ≡ exit_status code }
-{
-    let done = OverFiles::Nothing;
-    Ended { code, done }
-}
-
-/// The end of a program that ran a site, or sealed its journal.
-fn of_site(ran: RanOnDisk) -> Ended
-    ensures code { result.code ≡ ran.code }
-    ensures done { result.done ≡ OverFiles.Site ran }
-{
-    let code = ran.code;
-    let done = OverFiles::Site(ran);
-    Ended { code, done }
-}
-
-/// How whatever was asked for ends the program. A task over files runs now.
-fn end<S: Source, W: Sink>(
-    rt: &HostRuntime,
-    reader: &mut S,
-    writer: &mut W,
-    streamed: Streamed,
-) -> Ended
-    requires unread { IsAskedOfFiles streamed → S.calls reader.old ≡ 0 }
-    requires fresh { IsAskedOfFiles streamed → W.failed writer.old ≡ false }
-    requires fitting { IsFitting streamed }
-    ensures { (text : List ℕ) × Appends (W.contents writer.old) (W.contents writer.new) text
-        × IsEndOf streamed.entry (S.remaining reader.old) (S.remaining reader.new) result.done text
-        (exit_status result.code) }
-{
-    match streamed {
-        Streamed::Script(ran) => without_files(end_of_script(rt, ran)),
-        Streamed::Histories(ran) => without_files(end_of_histories(rt, ran)),
-        Streamed::Audit(ran) => without_files(end_of_audit(rt, ran)),
-        Streamed::Migrate(ran) => without_files(end_of_script(rt, ran)),
-        Streamed::FilesAsked { task, files } => {
-            let ran = run_over_files(rt, task, &files, writer);
-            let code = ran.code;
-            let done = OverFiles::Lines(ran);
-            Ended { code, done }
-        }
-        Streamed::Threads(ran) => without_files(end_of_histories(rt, ran)),
-        Streamed::SiteAsked {
-            me,
-            journal,
-            is_new,
-            resend,
-            record,
-            bank,
-        } => of_site(run_on_disk(rt, reader, me, journal, is_new, resend, record, bank)),
-        Streamed::BadBank { name } => without_files(report_bank(rt, name)),
-        Streamed::SealAsked { me, journal } => of_site(seal_on_disk(rt, me, journal)),
-        Streamed::CloseAsked {
-            sites,
-            accounts,
-            journals,
-        } => {
-            let ran = close_books(rt, sites, &accounts, &journals, writer);
-            let code = ran.code;
-            let done = OverFiles::Closed(ran);
-            Ended { code, done }
-        }
-    }
 }
 
 /// Does what the words ask for, between standard input and output. The handle starts threads, and waits for them.
@@ -262,20 +174,8 @@ fn run<H: Threads + Wait + Sync>(rt: &HostRuntime, handle: &H) -> ExitCode
     };
     let mut reader = FromReader::new(Patient::new(*rt, rt.reader()));
     let mut writer = ToWriter::new(io::writer(rt));
-    let mut why = None;
-    match run_on_streams(
-        handle,
-        alloc,
-        views.as_slice(),
-        &mut reader,
-        &mut writer,
-        &mut why,
-    ) {
-        Ok(streamed) => {
-            let Ended { code, done: _ } = end(rt, &mut reader, &mut writer, streamed);
-            report_why(rt, why);
-            code
-        }
+    match do_words(rt, handle, views.as_slice(), &mut reader, &mut writer) {
+        Ok(Ended { done: _, code }) => code,
         Err(error) => report_words(rt, error),
     }
 }

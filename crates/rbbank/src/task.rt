@@ -1,11 +1,12 @@
-//! A task with the lines of some bytes, to any writer.
-ghost use Rattle.std.specs.Prelude.{◌≡◌, List, ℕ, Some, IfSome, false};
+//! A task with lines, from any reader to any writer.
+ghost use Rattle.std.specs.Prelude.{◌≡◌, ◌+◌, ◌≤◌, List, ℕ, false};
 ghost use Rattle.std.specs.Io.KnownBytes.{Appends};
-ghost use Rattle.rb_lines.specs.declared.fault.ScriptFault.TheVariants.{OutOfMemory as NoMemory};
-ghost use Rattle.rbbank.specs.Files.{TaskEndsAs};
+ghost use Rattle.rb_lines.specs.declared.limits.TheConstants.{MOST_READS};
+ghost use Rattle.rbbank.specs.Tasks.{DoesTask, task_status};
 
+use crate::FAULT_FOUND;
 use rb_cli::Task;
-use rb_lines::{FromBytes, ScriptFault, Sink};
+use rb_lines::{ScriptFault, Sink, Source};
 use rb_runs::{
     run_audit_explained, run_histories_explained, run_migrate_explained, run_script_explained,
 };
@@ -24,29 +25,38 @@ pub enum TaskRan {
     Migrate(Result<u64, ScriptFault>),
 }
 
-/// Does this with the lines of the bytes, to the writer. `why` becomes the reason of a line that stops it, if memory
+/// The status of a task that came to its end, or the fault that stopped it.
+pub fn status_of(ran: TaskRan) -> Result<u8, ScriptFault>
+    ensures { result ≡ task_status ran }
+{
+    match ran {
+        TaskRan::Script(Ok(_)) | TaskRan::Migrate(Ok(_)) => Ok(0),
+        TaskRan::Histories(Ok(())) | TaskRan::Audit(Ok(true)) => Ok(0),
+        TaskRan::Audit(Ok(false)) => Ok(FAULT_FOUND),
+        TaskRan::Script(Err(fault)) | TaskRan::Migrate(Err(fault)) => Err(fault),
+        TaskRan::Histories(Err(fault)) | TaskRan::Audit(Err(fault)) => Err(fault),
+    }
+}
+
+/// Does this with the lines of the reader, to the writer. `why` becomes the reason of a line that stops it, if memory
 /// suffices for it.
-pub fn run_task<W: Sink>(
+pub fn run_task<S: Source, W: Sink>(
     alloc: Global,
     task: Task,
-    bytes: &[u8],
+    reader: &mut S,
     writer: &mut W,
     why: &mut Option<String>,
 ) -> TaskRan
+    requires unread { S.calls reader.old ≡ 0 }
     requires fresh { W.failed writer.old ≡ false }
-    ensures { (text : List ℕ) × Appends (W.contents writer.old) (W.contents writer.new) text
-        × (left : List ℕ) × TaskEndsAs task result bytes.now (Some left) text }
+    ensures done { (text : List ℕ) × Appends (W.contents writer.old) (W.contents writer.new) text
+        × DoesTask task result (S.remaining reader.old) (S.remaining reader.new) text }
+    ensures calls { S.calls reader.new ≤ S.calls reader.old + MOST_READS }
 {
-    let mut reader = FromBytes::new(bytes);
     match task {
-        Task::Script => TaskRan::Script(run_script_explained(alloc, &mut reader, writer, why)),
-        Task::Histories => TaskRan::Histories(run_histories_explained(
-            alloc,
-            &mut reader,
-            writer,
-            why,
-        )),
-        Task::Audit => TaskRan::Audit(run_audit_explained(alloc, &mut reader, writer, why)),
-        Task::Migrate => TaskRan::Migrate(run_migrate_explained(alloc, &mut reader, writer, why)),
+        Task::Script => TaskRan::Script(run_script_explained(alloc, reader, writer, why)),
+        Task::Histories => TaskRan::Histories(run_histories_explained(alloc, reader, writer, why)),
+        Task::Audit => TaskRan::Audit(run_audit_explained(alloc, reader, writer, why)),
+        Task::Migrate => TaskRan::Migrate(run_migrate_explained(alloc, reader, writer, why)),
     }
 }

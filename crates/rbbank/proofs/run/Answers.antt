@@ -13,5 +13,5 @@ returns-in_default-collect g c = no_memory _ c.out_of_memory-in_default-collect.
 pub returns : goal.returns
 returns g c = words_end _ _ c.report_words.ensures
 
-pub returns-in-Ok-run_on_streams : goal.returns-in-Ok-run_on_streams
-returns-in-Ok-run_on_streams g c = any_end _ _ _ _ _ _ c.end.ensures.2
+pub returns-in-Ok-do_words : goal.returns-in-Ok-do_words
+returns-in-Ok-do_words g c = any_end _ _ c.in-Ok-do_words.ensures.status
