@@ -1,5 +1,5 @@
 -- The site that was opened goes on over what is behind the configuration's line.
-use Rattle.std.proofs.Common.{inl, inr, ℕ, Bool, List, ◌++◌, Option, Some, None, Result, Ok, Err, ap, subst}
+use Rattle.std.proofs.Common.{inl, inr, ℕ, List, ◌++◌, Option, Some, None, Result, Ok, Err, ap, subst}
 use Rattle.std.specs.Prelude.{IfSome}
 use Rattle.rb_journal.specs.Lines.{recovered}
 use Rattle.rb_lines.specs.Lines.{lines_of}
@@ -11,7 +11,7 @@ use Rattle.rb_run_site.specs.Ends.{AnswersAll, AnswersBehind, IsFullBehind, Runs
 use Rattle.rb_run_site.specs.Faults.{IsOpeningFault}
 use Rattle.rb_run_site.specs.Journals.{SiteAnswers, journal_of}
 use Rattle.rb_run_site.specs.Openings.{OpensSite}
-use Rattle.rb_run_site.specs.Runs.{AreBytesBehind, HasAnswered, IsNewOrAnswered, IsSiteRun}
+use Rattle.rb_run_site.specs.Runs.{AreBytesBehind, Found, HasAnswered, IsNewOrAnswered, IsSiteRun, SiteRun}
 use Rattle.rb_run_site.specs.Starts.{IsBehind, Starts, WaitsBehind}
 use Rattle.rb_run_site.specs.declared.fault.SiteFault.{SiteFault}
 use Rattle.rb_run_site.specs.declared.fault.SiteFault.TheVariants.{NoConfig, BadConfig, NoSite, AnotherJournal, BadEntry, WrongReply}
@@ -31,15 +31,16 @@ first_known : (input : Option (List ℕ)) (config : List ℕ) (number : ℕ) (pe
 first_known None config number pending left w = tt
 first_known (Some all) config number pending left w = (number, lines_of (pending ++ w.rest), w.behind)
 
-module _ (all : Bool) (me : ℕ) (bank : List ℕ) (most number : ℕ) (input left : Option (List ℕ)) (file config pending : List ℕ)
+module _ (run : SiteRun) (old : Found) (number : ℕ) (left : Option (List ℕ)) (config pending : List ℕ)
     (x : SeenAsked) (first sends : List ℕ)
-    (opens : OpensSite config me bank most file x first sends) (waits : IfSome input (WaitsBehind config number pending left)) where
+    (opens : OpensSite config run.me run.bank run.most old.file x first sends)
+    (waits : IfSome run.input (WaitsBehind config number pending left)) where
   -- the site that was opened is the one that the input and the journal say
-  pub starts : Starts me bank input (recovered file) x
+  pub starts : Starts run.me run.bank run.input (recovered old.file) x
   starts = record {
     config = config;
     is_of = opens.is_of;
-    first = first_known input config number pending left waits;
+    first = first_known run.input config number pending left waits;
     journal = opens.journal;
     replayed = opens.replayed;
     read = opens.read;
@@ -47,40 +48,40 @@ module _ (all : Bool) (me : ℕ) (bank : List ℕ) (most number : ℕ) (input le
   }
 
   -- what it may leave at any moment is what the whole run may leave
-  pub run_behind : (output c d : List ℕ) → IsNewOrAnswered all (recovered file) x sends number (served_input pending left) output c d
-      → IsSiteRun all me bank most input file output c d
-  run_behind output c d (inl still) = inl (inr (record { start = x; starts = starts; still_new = still }))
-  run_behind output c d (inr has) = inr (record {
+  pub run_behind : (c d : List ℕ)
+      → IsNewOrAnswered run.all (recovered old.file) x sends number (served_input pending left) old.output c d → IsSiteRun run old c d
+  run_behind c d (inl still) = inl (inr (record { start = x; starts = starts; still_new = still }))
+  run_behind c d (inr has) = inr (record {
     start = x;
     starts = starts;
     number = number;
     behind = served_input pending left;
-    behind_is = behind_known input config number pending left waits;
-    answered = subst (λ s. HasAnswered all x s number (served_input pending left) output c d) opens.sends_are has;
+    behind_is = behind_known run.input config number pending left waits;
+    answered = subst (λ s. HasAnswered run.all x s number (served_input pending left) old.output c d) opens.sends_are has;
   })
 
   -- how it ends is how the whole run ends
-  pub ends_behind : (output : List ℕ) (still : Option (List ℕ)) (now : List (List ℕ)) (said : List ℕ) (ended : Result ℕ ServeFault)
-      → AnswersAll all x sends number (served_input pending left) still output now said ended
-      → AnswersBehind all me bank most input still (recovered file) output now said ended
-  ends_behind output still now said ended a = record {
+  pub ends_behind : (still : Option (List ℕ)) (now : List (List ℕ)) (said : List ℕ) (ended : Result ℕ ServeFault)
+      → AnswersAll run.all x sends number (served_input pending left) still old.output now said ended
+      → AnswersBehind run still old now said ended
+  ends_behind still now said ended a = record {
     start = x;
     starts = starts;
     number = number;
     behind = served_input pending left;
-    behind_is = behind_known input config number pending left waits;
-    answered = subst (λ s. AnswersAll all x s number (served_input pending left) still output now said ended) opens.sends_are a;
+    behind_is = behind_known run.input config number pending left waits;
+    answered = subst (λ s. AnswersAll run.all x s number (served_input pending left) still old.output now said ended) opens.sends_are a;
   }
 
   -- if the site's journal is full, the whole run's is
-  pub full_behind : IsFull (SiteAnswers all) number (served_input pending left) x (journal_of x)
-      → IsFullBehind all me bank input (recovered file)
+  pub full_behind : IsFull (SiteAnswers run.all) number (served_input pending left) x (journal_of x)
+      → IsFullBehind run (recovered old.file)
   full_behind full = record {
     start = x;
     starts = starts;
     number = number;
     behind = served_input pending left;
-    behind_is = behind_known input config number pending left waits;
+    behind_is = behind_known run.input config number pending left waits;
     full = full;
   }
 

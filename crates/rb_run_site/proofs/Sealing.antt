@@ -30,7 +30,8 @@ module _ (me : ℕ) (file config : List ℕ) (number : ℕ) (pending : List ℕ)
   starts_alone x first sends opens = (
     record {
       start = x;
-      starts = starts true me [] 0 number (own_input file) left file config pending x first sends opens waits;
+      starts = starts (record { all = true; me = me; bank = []; most = 0; input = own_input file })
+          (record { file = file; output = [] }) number left config pending x first sends opens waits;
       lines_are = ⊎_elim (λ none. absurd (some_lines none.0)) (λ is. is) opens.journal;
     },
     ⊎_elim (λ new. absurd (some_lines new.0)) (λ at. at.1) opens.undamaged,

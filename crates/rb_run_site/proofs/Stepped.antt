@@ -1,7 +1,7 @@
 -- The turns of a site, as steps of a site with a disk.
 use Rattle.std.proofs.Common.{◌≡◌, ◌≤◌, ◌<◌, ◌+◌, ℕ, Bool, true, false, cond, List, [], ◌∷◌, ◌++◌, length, take, refl}
 use Rattle.std.proofs.Common.{sym, ap, subst, ◌∙◌, arith}
-use Rattle.std.proofs.Common.{append_assoc, append-nil, length-append, inl, inr, Option}
+use Rattle.std.proofs.Common.{append_assoc, append-nil, length-append, inl, inr}
 use Rattle.std.specs.Prelude.{◌⊎◌, map, nat_le}
 use Rattle.std.specs.List.{concat}
 use Rattle.std.proofs.Math.Seq.{take-length}
@@ -31,7 +31,7 @@ use Rattle.rb_node.specs.Asked.{SeenAsked, entries_alone, without_ids}
 use Rattle.rb_node.specs.LineAnswers.{question_on}
 use Rattle.rb_lines.specs.Lines.{is_long}
 use Rattle.rb_run_site.specs.Journals.{AnswersEither, IsAnswer, SiteAnswers, journal_of}
-use Rattle.rb_run_site.specs.Runs.{IsSiteRun}
+use Rattle.rb_run_site.specs.Runs.{Found, IsSiteRun, SiteRun}
 use Rattle.rb_run_site.specs.Steps.{AreEventsOf, AreSteps, AreStepsOf, IsRunOfSteps, IsJournalOnDisk, IsTurnInSteps, restarted, step_of}
 use Rattle.rb_run_site.proofs.Turned.{me_kept, settings_kept}
 
@@ -348,11 +348,10 @@ are_steps x turns file is are lines =
     }
 
 -- what has run is steps
-pub stepped_run : (all : Bool) (me : ℕ) (bank : List ℕ) (most : ℕ) (input : Option (List ℕ)) (file output c d : List ℕ)
-    → IsSiteRun all me bank most input file output c d → IsRunOfSteps all me bank most input file output c d
-stepped_run all me bank most input file output c d (inl at) = inl at
-stepped_run all me bank most input file output c d (inr run) = inr (
-  run,
-  are_steps run.start run.answered.turns c run.starts.replayed (by_either all run.start run.answered.turns run.answered.are)
-      run.answered.lines_are,
+pub stepped_run : (run : SiteRun) (old : Found) (c d : List ℕ) → IsSiteRun run old c d → IsRunOfSteps run old c d
+stepped_run run old c d (inl at) = inl at
+stepped_run run old c d (inr has) = inr (
+  has,
+  are_steps has.start has.answered.turns c has.starts.replayed (by_either run.all has.start has.answered.turns has.answered.are)
+      has.answered.lines_are,
 )

@@ -9,7 +9,7 @@ use Rattle.rb_journal.specs.declared.fault.ServeFault.TheVariants.{Read as NotRe
 use Rattle.rb_node.specs.Asked.{SeenAsked, without_ids}
 use Rattle.rb_node.specs.Resends.{sent_again}
 use Rattle.rb_run_site.specs.Journals.{SiteAnswers, journal_of}
-use Rattle.rb_run_site.specs.Runs.{AreBytesBehind}
+use Rattle.rb_run_site.specs.Runs.{AreBytesBehind, Found, SiteRun}
 use Rattle.rb_run_site.specs.Starts.{Starts}
 use Rattle.rb_run_site.specs.declared.fault.SiteFault.{SiteFault}
 use Rattle.rb_run_site.specs.declared.fault.SiteFault.TheVariants.{NoConfig, BadConfig, NoSite, AnotherJournal, BadEntry, WrongReply}
@@ -28,25 +28,25 @@ pub record AnswersAll (all : Bool) (x : SeenAsked) (sends : List ℕ) (number : 
 
 -- the site that the input's first line and the journal's lines say answered what is behind, and the run over that ended
 -- so
-pub record AnswersBehind (all : Bool) (me : ℕ) (bank : List ℕ) (most : ℕ) (input left : Option (List ℕ)) (lines : List (List ℕ))
-    (output : List ℕ)
-    (now : List (List ℕ)) (said : List ℕ) (ended : Result ℕ ServeFault) : Type 0 where
+pub record AnswersBehind (run : SiteRun) (left : Option (List ℕ)) (old : Found) (now : List (List ℕ)) (said : List ℕ)
+    (ended : Result ℕ ServeFault) : Type 0 where
   pub start : SeenAsked
-  pub starts : Starts me bank input lines start
+  pub starts : Starts run.me run.bank run.input (recovered old.file) start
   pub number : ℕ
   pub behind : Option (List ℕ)
-  pub behind_is : IfSome input (AreBytesBehind number behind)
-  pub answered : AnswersAll all start (sent_again start.bank most (without_ids start)) number behind left output now said ended
+  pub behind_is : IfSome run.input (AreBytesBehind number behind)
+  pub answered : AnswersAll run.all start (sent_again start.bank run.most (without_ids start)) number behind left old.output now said
+      ended
 
 -- the journal of the site that the input's first line and the journal's lines say, with what the first of the lines
 -- behind add, is full
-pub record IsFullBehind (all : Bool) (me : ℕ) (bank : List ℕ) (input : Option (List ℕ)) (lines : List (List ℕ)) : Type 0 where
+pub record IsFullBehind (run : SiteRun) (lines : List (List ℕ)) : Type 0 where
   pub start : SeenAsked
-  pub starts : Starts me bank input lines start
+  pub starts : Starts run.me run.bank run.input lines start
   pub number : ℕ
   pub behind : Option (List ℕ)
-  pub behind_is : IfSome input (AreBytesBehind number behind)
-  pub full : IsFull (SiteAnswers all) number behind start (journal_of start)
+  pub behind_is : IfSome run.input (AreBytesBehind number behind)
+  pub full : IsFull (SiteAnswers run.all) number behind start (journal_of start)
 
 -- the file is whole lines and a closed gate, all of it on the disk
 abbrev pub IsAtRest : List ℕ → (List ℕ → Type 0) → Type 0

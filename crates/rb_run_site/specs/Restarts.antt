@@ -18,11 +18,12 @@ use Rattle.rb_run_site.specs.declared.fault.SiteFault.TheVariants.{AnotherJourna
 pub data HasRestarted (me : ℕ) (bank : List ℕ) : SeenAsked → List (Turn SeenAsked) → List ℕ → Type 0 where
   -- one run
   Once : {all : Bool} {most : ℕ} {input : Option (List ℕ)} {lines : List (List ℕ)} {output c d : List ℕ}
-      → (run : HasRun all me bank most input lines output c d) → HasRestarted me bank run.start run.answered.turns c
+      → (run : HasRun (record { all = all; me = me; bank = bank; most = most; input = input }) lines output c d)
+      → HasRestarted me bank run.start run.answered.turns c
   -- one run more, over the file that the crash before it left
   Again : {all : Bool} {start : SeenAsked} {turns : List (Turn SeenAsked)} {file : List ℕ} {most : ℕ}
       {input : Option (List ℕ)} {output c d : List ℕ} → HasRestarted me bank start turns file
-      → (run : HasRun all me bank most input (recovered file) output c d)
+      → (run : HasRun (record { all = all; me = me; bank = bank; most = most; input = input }) (recovered file) output c d)
       → HasRestarted me bank start (turns ++ run.answered.turns) c
 
 -- the next run, over the file that the last crash left, starts with the very site that all these turns led to: of the

@@ -11,6 +11,20 @@ use Rattle.rb_run_site.specs.Files.{IsNew}
 use Rattle.rb_run_site.specs.Journals.{SiteAnswers, journal_head, journal_of}
 use Rattle.rb_run_site.specs.Starts.{IsBehind, Starts}
 
+-- a run of a site: whether it records all events or those that change the site, the site's number, the bytes of its
+-- bank's name, how many of its last entries are sent again, and the bytes of its input, where they are known
+pub record SiteRun : Type 0 where
+  pub all : Bool
+  pub me : ℕ
+  pub bank : List ℕ
+  pub most : ℕ
+  pub input : Option (List ℕ)
+
+-- what it finds: the bytes of the journal's file, and what was put out before
+pub record Found : Type 0 where
+  pub file : List ℕ
+  pub output : List ℕ
+
 -- these bytes are what is behind the configuration's line of the input, and their first line has this number
 abbrev pub AreBytesBehind : ℕ → Option (List ℕ) → List ℕ → Type 0
 AreBytesBehind number behind input = (bytes : List ℕ) × (behind ≡ Some bytes)
@@ -43,14 +57,13 @@ IsNewOrAnswered all lines x sends number bytes output c d =
     IsStillNew lines x output c d ⊎ HasAnswered all x sends number bytes output c d
 
 -- the site that the input's first line and the journal's lines say has answered some of the lines behind
-pub record HasRun (all : Bool) (me : ℕ) (bank : List ℕ) (most : ℕ) (input : Option (List ℕ)) (lines : List (List ℕ))
-    (output c d : List ℕ) : Type 0 where
+pub record HasRun (run : SiteRun) (lines : List (List ℕ)) (output c d : List ℕ) : Type 0 where
   pub start : SeenAsked
-  pub starts : Starts me bank input lines start
+  pub starts : Starts run.me run.bank run.input lines start
   pub number : ℕ
   pub behind : Option (List ℕ)
-  pub behind_is : IfSome input (AreBytesBehind number behind)
-  pub answered : HasAnswered all start (sent_again start.bank most (without_ids start)) number behind output c d
+  pub behind_is : IfSome run.input (AreBytesBehind number behind)
+  pub answered : HasAnswered run.all start (sent_again start.bank run.most (without_ids start)) number behind output c d
 
 -- the journal of the site that the input's first line says had no lines, and is still a new one
 pub record HasBegun (me : ℕ) (bank : List ℕ) (input : Option (List ℕ)) (lines : List (List ℕ)) (output c d : List ℕ) : Type 0 where
@@ -59,11 +72,10 @@ pub record HasBegun (me : ℕ) (bank : List ℕ) (input : Option (List ℕ)) (li
   pub still_new : IsStillNew lines start output c d
 
 -- nothing has changed, or a journal that was new still is
-abbrev pub HasNotRun : ℕ → List ℕ → Option (List ℕ) → List ℕ → List ℕ → List ℕ → List ℕ → Type 0
-HasNotRun me bank input file output c d = ((c ≡ file) × (d ≡ output)) ⊎ HasBegun me bank input (recovered file) output c d
+abbrev pub HasNotRun : SiteRun → Found → List ℕ → List ℕ → Type 0
+HasNotRun run old c d = ((c ≡ old.file) × (d ≡ old.output)) ⊎ HasBegun run.me run.bank run.input (recovered old.file) old.output c d
 
 -- at any moment nothing has changed yet, or the journal is still new, or the site has answered some lines: whatever was
 -- put out of their answers, their entries are in the file
-abbrev pub IsSiteRun : Bool → ℕ → List ℕ → ℕ → Option (List ℕ) → List ℕ → List ℕ → List ℕ → List ℕ → Type 0
-IsSiteRun all me bank most input file output c d =
-    HasNotRun me bank input file output c d ⊎ HasRun all me bank most input (recovered file) output c d
+abbrev pub IsSiteRun : SiteRun → Found → List ℕ → List ℕ → Type 0
+IsSiteRun run old c d = HasNotRun run old c d ⊎ HasRun run (recovered old.file) old.output c d

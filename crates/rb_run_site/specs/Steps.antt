@@ -1,5 +1,5 @@
 -- A run of a site, as steps of a site with a disk.
-use Rattle.std.specs.Prelude.{◌≡◌, ◌⊎◌, ℕ, Bool, true, List, [], ◌∷◌, ◌++◌, length, map, take, Option, Some, None}
+use Rattle.std.specs.Prelude.{◌≡◌, ◌⊎◌, ℕ, true, List, [], ◌∷◌, ◌++◌, length, map, take, Some, None}
 use Rattle.rb_lines.specs.Lines.{is_long}
 use Rattle.rb_money.specs.Settings.{Settings}
 use Rattle.rb_shadow.specs.declared.op_name.OpName.{OpName}
@@ -15,7 +15,7 @@ use Rattle.rb_node.specs.Answers.{asked_event_on}
 use Rattle.rb_node.specs.Asked.{SeenAsked, entries_alone, without_ids}
 use Rattle.rb_journal.specs.Turns.{Turn}
 use Rattle.rb_run_site.specs.Journals.{journal_of}
-use Rattle.rb_run_site.specs.Runs.{HasNotRun, HasRun}
+use Rattle.rb_run_site.specs.Runs.{Found, HasNotRun, HasRun, SiteRun}
 
 -- a site that restarts with its journal: all of its events are on its disk, and any of them may have been reported
 -- before
@@ -73,6 +73,6 @@ pub record AreSteps (x : SeenAsked) (turns : List (Turn SeenAsked)) (file : List
 -- at any moment nothing has changed yet, or the journal is still new, or the run of the site is one of steps: so what
 -- was put out is a prefix of what is sent again and of the texts of turns whose events are on the disk and count as
 -- reported
-abbrev pub IsRunOfSteps : Bool → ℕ → List ℕ → ℕ → Option (List ℕ) → List ℕ → List ℕ → List ℕ → List ℕ → Type 0
-IsRunOfSteps all me bank most input file output c d = HasNotRun me bank input file output c d
-    ⊎ ((run : HasRun all me bank most input (recovered file) output c d) × AreSteps run.start run.answered.turns c)
+abbrev pub IsRunOfSteps : SiteRun → Found → List ℕ → List ℕ → Type 0
+IsRunOfSteps run old c d = HasNotRun run old c d
+    ⊎ ((has : HasRun run (recovered old.file) old.output c d) × AreSteps has.start has.answered.turns c)

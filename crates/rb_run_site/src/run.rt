@@ -173,8 +173,10 @@ pub fn run_site<S: Source, H: Host, M: Records>(
     // and then the file is whole lines and a closed gate, all of it on the disk. Or the run stopped in the opening: the
     // host is as it was, and the fault comes only for its cause, by the input's first line and the file's lines.
     ensures ended { RunsTo
-        (λ end. AnswersBehind M.ALL me bank resend (S.remaining reader.old) (S.remaining reader.new)
-        (recovered bytes.items) (H.output host) (recovered (H.content result.host)) (H.output result.host) end
+        (λ end. AnswersBehind
+        (record { all = M.ALL; me = me; bank = bank; most = resend; input = S.remaining reader.old })
+        (S.remaining reader.new) (record { file = bytes.items; output = H.output host })
+        (recovered (H.content result.host)) (H.output result.host) end
         × IsAtRest (H.content result.host) (H.may_leave result.host))
         (λ fault. (result.host ≡ host)
         × IsOpeningCause me bank (S.remaining reader.old) (S.remaining reader.new) bytes.items fault)
@@ -183,11 +185,13 @@ pub fn run_site<S: Source, H: Host, M: Records>(
     // A crash at any moment since it is known what one leaves leaves a journal that some first lines of the input have,
     // and nothing was put out that it takes back. It is the file as it was, or one that isn't damaged.
     ensures any_moment { LeavesOnly H.moment H.left_since host result.host
-        (IsSiteRun M.ALL me bank resend (S.remaining reader.old) bytes.items (H.output host)) }
+        (IsSiteRun (record { all = M.ALL; me = me; bank = bank; most = resend; input = S.remaining reader.old })
+        (record { file = bytes.items; output = H.output host })) }
 
     // And that is a run of steps of a site with a disk, as the laws of worlds whose sites crash have them.
     ensures steps { LeavesOnly H.moment H.left_since host result.host
-        (IsRunOfSteps M.ALL me bank resend (S.remaining reader.old) bytes.items (H.output host)) }
+        (IsRunOfSteps (record { all = M.ALL; me = me; bank = bank; most = resend; input = S.remaining reader.old })
+        (record { file = bytes.items; output = H.output host })) }
 
     // A site whose journal is sealed never goes on: nothing is read, and nothing is changed.
     ensures sealed { IsSealed bytes.items → (result.ended ≡ Err Sealed) × (result.host ≡ host)
@@ -198,7 +202,8 @@ pub fn run_site<S: Source, H: Host, M: Records>(
     ensures read { result.ended ≡ Err NotRead → (S.failed reader.new ≡ true) ⊎ (S.calls reader.new ≡ MOST_READS) }
     ensures write { result.ended ≡ Err NotWritten → H.faults host < H.faults result.host }
     ensures journal { result.ended ≡ Err DiskFailed → (H.faults host < H.faults result.host)
-        ⊎ IsFullBehind M.ALL me bank (S.remaining reader.old) (recovered bytes.items) }
+        ⊎ IsFullBehind (record { all = M.ALL; me = me; bank = bank; most = resend; input = S.remaining reader.old })
+        (recovered bytes.items) }
     ensures calls { S.calls reader.new ≤ MOST_READS }
 {
     if is_sealed(&bytes) {

@@ -10,7 +10,7 @@ use Rattle.rbbank.specs.declared.done.Done.{Done}
 use Rattle.rbbank.specs.declared.done.Done.TheVariants.{Lines, BadBank, Closed}
 use Rattle.rbbank.specs.declared.done.Done.TheVariants.{Files as FilesRan, Threads as TellersRan, Site as SiteRan}
 use Rattle.rbbank.specs.Files.{ClosesFilesAs, FilesEndAs}
-use Rattle.rbbank.specs.OnDisk.{IsRunOn, IsSealOn, bank_name_of, records_all}
+use Rattle.rbbank.specs.OnDisk.{IsRunOn, IsSealOn, run_asked}
 use Rattle.rbbank.specs.Tasks.{DoesTask}
 
 -- the task was done with the lines of the reader
@@ -31,7 +31,7 @@ DoesAsAsked (Files task files) bytes left (FilesRan ran) text =
 DoesAsAsked (Threads sites tellers seed) bytes left (TellersRan r) text = ThreadsEndAs r sites tellers seed text × (left ≡ bytes)
 DoesAsAsked (Site me journal is_new resend recorded bank) bytes left (SiteRan ran) text =
     IfSome bank (λ name. is_id name.now ≡ true)
-    × IsRunOn (records_all recorded) me (bank_name_of bank) journal.now is_new resend bytes left ran.disk ran.ended × (text ≡ [])
+    × IsRunOn (run_asked me resend recorded bank bytes) journal.now is_new left ran.disk ran.ended × (text ≡ [])
 DoesAsAsked (Site me journal is_new resend recorded (Some name)) bytes left BadBank text =
     (is_id name.now ≡ false) × (text ≡ []) × (left ≡ bytes)
 DoesAsAsked (Seal me journal) bytes left (SiteRan ran) text = IsSealOn me journal.now ran.disk ran.ended × (text ≡ []) × (left ≡ bytes)

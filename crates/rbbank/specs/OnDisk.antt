@@ -16,7 +16,7 @@ use Rattle.rb_journal.specs.declared.open_error.OpenError.TheVariants.{NoFile, N
 use Rattle.rb_run_site.specs.Ends.{AnswersBehind, IsAtRest, IsFullBehind, RunsTo}
 use Rattle.rb_run_site.specs.Faults.{site_message_of}
 use Rattle.rb_run_site.specs.Openings.{IsOpeningCause}
-use Rattle.rb_run_site.specs.Runs.{IsSiteRun}
+use Rattle.rb_run_site.specs.Runs.{IsSiteRun, SiteRun}
 use Rattle.rb_run_site.specs.Seals.{HasSealed, IsSealCause, IsSealRun, SealsTo}
 use Rattle.rb_run_site.specs.Steps.{IsRunOfSteps}
 use Rattle.rb_cli.specs.declared.recorded.Record.{Record}
@@ -38,6 +38,11 @@ bank_name_of None = []
 abbrev pub records_all : Record → Bool
 records_all Changes = false
 records_all All = true
+
+-- the run that the words ask for
+abbrev pub run_asked : ℕ → Option ℕ → Record → Option (Bor (List ℕ)) → Option (List ℕ) → SiteRun
+run_asked me resend recorded bank input =
+    record { all = records_all recorded; me = me; bank = bank_name_of bank; most = most_of resend; input = input }
 
 -- the fault of a file that isn't opened, by the kind of the system's error
 abbrev pub fault_of_system : ErrorKind → SiteFault
@@ -82,29 +87,27 @@ module _ {R P : Type 0} where
     pub new : is_new ≡ true → file_of disk ≡ []
     pub untouched : disk_log disk ≡ opened_event (file_of disk) ∷ []
 
-  -- site `me` of this bank, which records all events or those that change it, ran over the file of this name: it
-  -- answered the lines behind the configuration, or stopped in the opening, as the promises of a site's run have it
-  pub record HasRunOn (all : Bool) (me : ℕ) (bank : List ℕ) (most : ℕ) (name : List ℕ) (is_new : Bool)
-      (input left : Option (List ℕ)) (disk : Disk R P) (ended : Result ℕ SiteFault) : Type 0 where
+  -- a site ran so over the file of this name: it answered the lines behind the configuration, or stopped in the opening,
+  -- as the promises of a site's run have it
+  pub record HasRunOn (run : SiteRun) (name : List ℕ) (is_new : Bool) (left : Option (List ℕ)) (disk : Disk R P)
+      (ended : Result ℕ SiteFault) : Type 0 where
     pub start : Disk R P
     pub opened : IsOpened name is_new start
     pub ended_as : RunsTo
-        (λ end. AnswersBehind all me bank most input left (recovered (file_of start)) [] (recovered (file_of disk))
+        (λ end. AnswersBehind run left (record { file = file_of start; output = [] }) (recovered (file_of disk))
         (output_of (disk_log disk)) end
         × IsAtRest (file_of disk) (leaves (disk_log disk)))
-        (λ fault. (disk ≡ start) × IsOpeningCause me bank input left (file_of start) fault) ended
-    pub any_moment : LeavesOnly moment_of crash_left_of start disk (IsSiteRun all me bank most input (file_of start) [])
-    pub steps : LeavesOnly moment_of crash_left_of start disk (IsRunOfSteps all me bank most input (file_of start) [])
+        (λ fault. (disk ≡ start) × IsOpeningCause run.me run.bank run.input left (file_of start) fault) ended
+    pub any_moment : LeavesOnly moment_of crash_left_of start disk (IsSiteRun run (record { file = file_of start; output = [] }))
+    pub steps : LeavesOnly moment_of crash_left_of start disk (IsRunOfSteps run (record { file = file_of start; output = [] }))
     pub write : ended ≡ Err Write → faults_of (disk_log start) < faults_of (disk_log disk)
     pub journal : ended ≡ Err Journal → (faults_of (disk_log start) < faults_of (disk_log disk))
-        ⊎ IsFullBehind all me bank input (recovered (file_of start))
+        ⊎ IsFullBehind run (recovered (file_of start))
 
   -- the file wasn't opened, and nothing was read; or the site ran over it
-  abbrev pub IsRunOn : Bool → ℕ → List ℕ → List ℕ → Bool → Option ℕ → Option (List ℕ) → Option (List ℕ)
-      → Option (Disk R P) → Result ℕ SiteFault → Type 0
-  IsRunOn all me bank name is_new resend input left None ended = (left ≡ input) × IsUnopened is_new ended
-  IsRunOn all me bank name is_new resend input left (Some disk) ended =
-      HasRunOn all me bank (most_of resend) name is_new input left disk ended
+  abbrev pub IsRunOn : SiteRun → List ℕ → Bool → Option (List ℕ) → Option (Disk R P) → Result ℕ SiteFault → Type 0
+  IsRunOn run name is_new left None ended = (left ≡ run.input) × IsUnopened is_new ended
+  IsRunOn run name is_new left (Some disk) ended = HasRunOn run name is_new left disk ended
 
   -- the file of this name was sealed as site `me`'s journal, or it stopped, as the promises of a seal have it
   pub record HasSealedOn (me : ℕ) (name : List ℕ) (disk : Disk R P) (ended : Result ℕ SiteFault) : Type 0 where

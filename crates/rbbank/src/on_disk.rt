@@ -5,7 +5,7 @@ ghost use Rattle.rb_lines.specs.declared.limits.TheConstants.{MOST_READS};
 ghost use Rattle.rb_run_site.specs.declared.fault.SiteFault.TheVariants.{Read as NotRead};
 ghost use Rattle.rb_history.specs.Ids.{is_id};
 ghost use Rattle.rbbank.specs.OnDisk.{IsJournalMessage, IsRunOn, IsSealOn, bank_name_of, fault_of_open, most_of};
-ghost use Rattle.rbbank.specs.OnDisk.{records_all};
+ghost use Rattle.rbbank.specs.OnDisk.{run_asked};
 ghost use Rattle.rbbank.specs.Statuses.{IsEndOfSite};
 
 use crate::{print_line, report_why};
@@ -163,8 +163,9 @@ fn run_recording<S: Source, M: Records>(
     bank: BankName,
 ) -> RanOnDisk
     requires { S.calls reader.old ≡ 0 }
-    ensures ran { IsRunOn M.ALL me bank journal.now is_new resend (S.remaining reader.old)
-        (S.remaining reader.new) result.disk result.ended }
+    ensures ran { IsRunOn
+        (record { all = M.ALL; me = me; bank = bank; most = most_of resend; input = S.remaining reader.old })
+        journal.now is_new (S.remaining reader.new) result.disk result.ended }
     ensures unread { result.disk ≡ None → reader.new ≡ reader.old }
     ensures status { IsEndOfSite result.ended (exit_status result.code) }
     ensures read { result.ended ≡ Err NotRead → (S.failed reader.new ≡ true) ⊎ (S.calls reader.new ≡ MOST_READS) }
@@ -210,8 +211,8 @@ pub fn run_on_disk<S: Source>(
 ) -> RanOnDisk
     requires unread { S.calls reader.old ≡ 0 }
     requires bank { IfSome bank (λ name. is_id name.now ≡ true) }
-    ensures ran { IsRunOn (records_all recorded) me (bank_name_of bank.entry) journal.now is_new resend
-        (S.remaining reader.old) (S.remaining reader.new) result.disk result.ended }
+    ensures ran { IsRunOn (run_asked me resend recorded bank.entry (S.remaining reader.old))
+        journal.now is_new (S.remaining reader.new) result.disk result.ended }
     ensures unread { result.disk ≡ None → reader.new ≡ reader.old }
     ensures status { IsEndOfSite result.ended (exit_status result.code) }
     ensures read { result.ended ≡ Err NotRead → (S.failed reader.new ≡ true) ⊎ (S.calls reader.new ≡ MOST_READS) }

@@ -1,5 +1,5 @@
 -- A site is opened, and then it goes on.
-use Rattle.std.proofs.Common.{◌≡◌, ◌<◌, ◌∙◌, ⊎_elim, inl, inr, refl, subst, sym, ℕ, List}
+use Rattle.std.proofs.Common.{◌≡◌, ◌<◌, ◌∙◌, ⊎_elim, inl, inr, refl, subst, sym, ℕ, Bool, List, Option}
 use Rattle.rb_journal.specs.Host.{LeavesOnly}
 use Rattle.rb_journal.specs.Lines.{recovered}
 use Rattle.rb_journal.specs.Ends.{IsFull}
@@ -7,7 +7,7 @@ use Rattle.rb_journal.specs.Run.{served_input}
 use Rattle.rb_run_site.specs.Ends.{AnswersAll, AnswersBehind, IsAtRest}
 use Rattle.rb_run_site.specs.Journals.{SiteAnswers, journal_of}
 use Rattle.rb_run_site.specs.Openings.{IsOpeningCause, OpensSite}
-use Rattle.rb_run_site.specs.Runs.{IsSiteRun}
+use Rattle.rb_run_site.specs.Runs.{Found, IsSiteRun, SiteRun}
 use Rattle.rb_run_site.specs.Steps.{IsRunOfSteps}
 use Rattle.rb_run_site.proofs.Behind.{ends_behind, full_behind, ran, run_behind, stopped_there}
 use Rattle.rb_run_site.proofs.Stepped.{stepped_run}
@@ -15,6 +15,13 @@ use Rattle.rb_journal.proofs.Public.Moments.{started, weaker}
 use Rattle.rb_run_site.proofs.run.run_site.Given.{Over}
 use Rattle.rb_run_site.proofs.run.run_site.Goals.{After-is_sealed, After-run_opened}
 use Rattle.rb_run_site.proofs.run.run_site.Goals as goal
+
+-- the run of these
+abbrev run_of : Bool → ℕ → List ℕ → ℕ → Option (List ℕ) → SiteRun
+run_of all me bank most input = record { all = all; me = me; bank = bank; most = most; input = input }
+
+abbrev found : List ℕ → List ℕ → Found
+found file output = record { file = file; output = output }
 
 -- the site is opened over the file's bytes
 opens : (g : Over) (c : After-run_opened g) → OpensSite c.in-Ok.ensures.opened.0 c.args.me c.args.bank c.args.resend c.args.bytes.items
@@ -27,14 +34,15 @@ opens g c =
 -- a crash while the opened site runs leaves a run of it
 run : (g : Over) (c : After-run_opened g) → LeavesOnly g.H.Host.moment g.H.Host.left_since c.args.host
     c.run_opened.result.host
-    (IsSiteRun g.M.Records.ALL c.args.me c.args.bank c.args.resend
-    (g.S.Source.remaining c.args.reader.now) c.args.bytes.items (g.H.Host.output c.args.host))
+    (IsSiteRun (run_of g.M.Records.ALL c.args.me c.args.bank c.args.resend (g.S.Source.remaining c.args.reader.now))
+    (found c.args.bytes.items (g.H.Host.output c.args.host)))
 run g c =
     let is = c.in-Ok.ensures.opened in
     weaker g.H.Host.moment g.H.Host.left_since _ _ _ _ c.run_opened.ensures.any_moment
-    (λ f d run. run_behind g.M.Records.ALL _ _ _ c.in-Ok.number _ (g.S.Source.remaining c.open_site.new.reader) c.args.bytes.items is.0
+    (run_behind (run_of g.M.Records.ALL c.args.me c.args.bank c.args.resend (g.S.Source.remaining c.args.reader.now))
+    (found c.args.bytes.items (g.H.Host.output c.args.host)) c.in-Ok.number (g.S.Source.remaining c.open_site.new.reader) is.0
     c.open_site.new.buffers.pending c.in-Ok.opened.responder.node.site c.in-Ok.opened.first.items
-    c.in-Ok.opened.sends.items (opens g c) is.2 _ f d run)
+    c.in-Ok.opened.sends.items (opens g c) is.2)
 
 -- a crash before the run leaves the file and the output as they were
 still : (g : Over) (c : After-is_sealed g) (f d : List ℕ)
@@ -61,13 +69,13 @@ returns-in-Ok-clause-ended g c =
     let said = host.output new in
     let file = c.args.bytes.items in
     let rest = IsAtRest (host.content new) (host.may_leave new) in
+    let asked = run_of g.M.Records.ALL c.args.me c.args.bank c.args.resend input in
     ran (λ e. AnswersAll g.M.Records.ALL x sends c.in-Ok.number (served_input mid.buffers.pending left) still output now said e × rest)
-    (λ e. AnswersBehind g.M.Records.ALL c.args.me c.args.bank c.args.resend input still (recovered file) output now said e × rest)
+    (λ e. AnswersBehind asked still (found file output) now said e × rest)
     (λ why. (new ≡ c.args.host) × IsOpeningCause c.args.me c.args.bank input still file why) c.run_opened.result.ended
     (λ e all. (
-      ends_behind g.M.Records.ALL c.args.me c.args.bank c.args.resend c.in-Ok.number input left file is.0 mid.buffers.pending x first sends
-          (opens g (goal.at.returns-in-Ok-clause-ended g c).After-run_opened) is.2
-          output still now said e all.0,
+      ends_behind asked (found file output) c.in-Ok.number left is.0 mid.buffers.pending x first sends
+          (opens g (goal.at.returns-in-Ok-clause-ended g c).After-run_opened) is.2 still now said e all.0,
       all.1,
     ))
     c.run_opened.ensures.ended
@@ -79,10 +87,10 @@ pub returns-in-Ok-clause-steps : goal.returns-in-Ok-clause-steps
 returns-in-Ok-clause-steps g c =
     let host = g.H.Host in
     let input = g.S.Source.remaining c.args.reader.now in
-    weaker host.moment host.left_since c.args.host c.run_opened.result.host _
-    (IsRunOfSteps g.M.Records.ALL c.args.me c.args.bank c.args.resend input c.args.bytes.items (host.output c.args.host))
-    (run g (goal.at.returns-in-Ok-clause-steps g c).After-run_opened)
-    (stepped_run g.M.Records.ALL c.args.me c.args.bank c.args.resend input _ _)
+    let asked = run_of g.M.Records.ALL c.args.me c.args.bank c.args.resend input in
+    let old = found c.args.bytes.items (host.output c.args.host) in
+    weaker host.moment host.left_since c.args.host c.run_opened.result.host _ (IsRunOfSteps asked old)
+    (run g (goal.at.returns-in-Ok-clause-steps g c).After-run_opened) (stepped_run asked old)
 
 pub returns-in-Ok-clause-journal : goal.returns-in-Ok-clause-journal
 returns-in-Ok-clause-journal g c = λ failed.
@@ -93,8 +101,8 @@ returns-in-Ok-clause-journal g c = λ failed.
     let x = c.in-Ok.opened.responder.node.site in
     ⊎_elim (λ (more : host.faults c.args.host < host.faults c.run_opened.result.host). inl more)
     (λ (full : IsFull (SiteAnswers g.M.Records.ALL) c.in-Ok.number (served_input mid.buffers.pending left) x (journal_of x)). inr
-    (full_behind g.M.Records.ALL c.args.me c.args.bank c.args.resend c.in-Ok.number
-    (g.S.Source.remaining c.args.reader.now) left c.args.bytes.items is.0
+    (full_behind (run_of g.M.Records.ALL c.args.me c.args.bank c.args.resend (g.S.Source.remaining c.args.reader.now))
+    (found c.args.bytes.items (host.output c.args.host)) c.in-Ok.number left is.0
     mid.buffers.pending x c.in-Ok.opened.first.items c.in-Ok.opened.sends.items
     (opens g (goal.at.returns-in-Ok-clause-journal g c).After-run_opened) is.2 full))
     (c.run_opened.ensures.journal failed)
@@ -106,8 +114,8 @@ returns-in-Err-clause-ended g c =
     let input = g.S.Source.remaining c.args.reader.now in
     let left = g.S.Source.remaining c.open_site.new.reader in
     let file = c.args.bytes.items in
-    stopped_there (λ e. AnswersBehind g.M.Records.ALL c.args.me c.args.bank c.args.resend input left (recovered file) (host.output was)
-    (recovered (host.content was)) (host.output was) e × IsAtRest (host.content was) (host.may_leave was))
+    stopped_there (λ e. AnswersBehind (run_of g.M.Records.ALL c.args.me c.args.bank c.args.resend input) left
+    (found file (host.output was)) (recovered (host.content was)) (host.output was) e × IsAtRest (host.content was) (host.may_leave was))
     (λ why. (was ≡ was) × IsOpeningCause c.args.me c.args.bank input left file why) c.in-Err.fault c.in-Err.ensures.only
     (refl, subst (λ f. IsOpeningCause c.args.me c.args.bank input left f c.in-Err.fault) c.deref-2.ensures.value c.in-Err.ensures.cause)
 
@@ -116,7 +124,7 @@ returns-in-Err-clause-any_moment g c =
     let host = g.H.Host in
     let input = g.S.Source.remaining c.args.reader.now in
     started host.moment host.left_since c.args.host
-    (IsSiteRun g.M.Records.ALL c.args.me c.args.bank c.args.resend input c.args.bytes.items (host.output c.args.host))
+    (IsSiteRun (run_of g.M.Records.ALL c.args.me c.args.bank c.args.resend input) (found c.args.bytes.items (host.output c.args.host)))
     (λ f d left. inl (inl (still g (goal.at.returns-in-Err-clause-any_moment g c).After-is_sealed f d left)))
 
 pub returns-in-Err-clause-steps : goal.returns-in-Err-clause-steps
@@ -124,7 +132,7 @@ returns-in-Err-clause-steps g c =
     let host = g.H.Host in
     let input = g.S.Source.remaining c.args.reader.now in
     started host.moment host.left_since c.args.host
-    (IsRunOfSteps g.M.Records.ALL c.args.me c.args.bank c.args.resend input c.args.bytes.items (host.output c.args.host))
+    (IsRunOfSteps (run_of g.M.Records.ALL c.args.me c.args.bank c.args.resend input) (found c.args.bytes.items (host.output c.args.host)))
     (λ f d left. inl (inl (still g (goal.at.returns-in-Err-clause-steps g c).After-is_sealed f d left)))
 
 pub returns-then-is_sealed-clause-any_moment : goal.returns-then-is_sealed-clause-any_moment
@@ -132,7 +140,7 @@ returns-then-is_sealed-clause-any_moment g c =
     let host = g.H.Host in
     let input = g.S.Source.remaining c.args.reader.now in
     started host.moment host.left_since c.args.host
-    (IsSiteRun g.M.Records.ALL c.args.me c.args.bank c.args.resend input c.args.bytes.items (host.output c.args.host))
+    (IsSiteRun (run_of g.M.Records.ALL c.args.me c.args.bank c.args.resend input) (found c.args.bytes.items (host.output c.args.host)))
     (λ f d left. inl (inl (still g (goal.at.returns-then-is_sealed-clause-any_moment g c).After-is_sealed f d left)))
 
 pub returns-then-is_sealed-clause-steps : goal.returns-then-is_sealed-clause-steps
@@ -140,5 +148,5 @@ returns-then-is_sealed-clause-steps g c =
     let host = g.H.Host in
     let input = g.S.Source.remaining c.args.reader.now in
     started host.moment host.left_since c.args.host
-    (IsRunOfSteps g.M.Records.ALL c.args.me c.args.bank c.args.resend input c.args.bytes.items (host.output c.args.host))
+    (IsRunOfSteps (run_of g.M.Records.ALL c.args.me c.args.bank c.args.resend input) (found c.args.bytes.items (host.output c.args.host)))
     (λ f d left. inl (inl (still g (goal.at.returns-then-is_sealed-clause-steps g c).After-is_sealed f d left)))

@@ -1,5 +1,5 @@
 -- A site's file is repaired, and its journal begins.
-use Rattle.std.proofs.Common.{◌≡◌, ◌∙◌, ◌++◌, ⊎_elim, inl, inr, sym, ap, subst, List, ℕ}
+use Rattle.std.proofs.Common.{◌≡◌, ◌∙◌, ◌++◌, ⊎_elim, inl, inr, sym, ap, subst}
 use Rattle.rb_money.specs.Settings.{IsConfigured}
 use Rattle.rb_journal.specs.Alone.{AreEither}
 use Rattle.rb_journal.specs.Host.{LeavesOnly}
@@ -8,7 +8,7 @@ use Rattle.rb_journal.specs.Lines.{recovered}
 use Rattle.rb_journal.proofs.Public.Moments.{runs_on, weaker}
 use Rattle.rb_run_site.specs.Journals.{journal_of}
 use Rattle.rb_run_site.specs.Openings.{IsToBegin}
-use Rattle.rb_run_site.proofs.Going.{Begins, begins}
+use Rattle.rb_run_site.proofs.Going.{begins}
 use Rattle.rb_run_site.proofs.opening.Opened.begin.Given.{Over}
 use Rattle.rb_run_site.proofs.opening.Opened.begin.Goals.{After-append}
 use Rattle.rb_run_site.proofs.opening.Opened.begin.Goals as goal
