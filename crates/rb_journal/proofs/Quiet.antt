@@ -40,8 +40,8 @@ module _ {H : Type 0} {h : Ghosts H} where
     cause = record {
       later = omega (arith, was.cause.later, is.cause.later);
       failed = λ e. omega (arith, was.cause.later, is.cause.failed e);
-      not_output = is.cause.not_output;
-      not_full = is.cause.not_full;
+      output_failed = is.cause.output_failed;
+      full = is.cause.full;
     };
   }
 
@@ -68,8 +68,8 @@ module _ {H : Type 0} {h : Ghosts H} where
     cause = record {
       later = quiet.cause.later;
       failed = λ e. quiet.cause.failed (cc (e, was, is));
-      not_output = λ e. quiet.cause.not_output (cc (e, was, is));
-      not_full = λ e. quiet.cause.not_full (cc (e, was, is));
+      output_failed = λ e. quiet.cause.output_failed (cc (e, was, is));
+      full = λ e. quiet.cause.full (cc (e, was, is));
     };
   }
 

@@ -70,16 +70,21 @@ pub record LeavesOnly {H : Type 0} (moment : H → ℕ) (left_since : H → ℕ 
   -- for a run that began earlier
   pub before : (t : ℕ) (c d : List ℕ) → t ≤ moment old → left_since new t c d → left_since old t c d ⊎ P c d
 
--- `DiskFailed` is answered only if the file has failed since, and the other errors aren't
-pub record DiskCause {T : Type 0} (before now : ℕ) (result : Result T HostError) : Type 0 where
+-- faults only grow, and an error is answered only for its cause: `DiskFailed`, `OutputFailed` and `Full` for these
+pub record HasCause (before now : ℕ) (disk output limit : Type 0) (answers : HostError → Type 0) : Type 0 where
   pub later : before ≤ now
-  pub failed : IsErrOf result DiskFailed → before < now
-  pub not_output : IsErrOf result OutputFailed → ⊥
-  pub not_full : IsErrOf result Full → ⊥
+  pub failed : answers DiskFailed → disk
+  pub output_failed : answers OutputFailed → output
+  pub full : answers Full → limit
 
--- `OutputFailed` is answered only if the output has failed since, and the other errors aren't
-pub record OutputCause {T : Type 0} (before now : ℕ) (result : Result T HostError) : Type 0 where
-  pub later : before ≤ now
-  pub output_failed : IsErrOf result OutputFailed → before < now
-  pub not_failed : IsErrOf result DiskFailed → ⊥
-  pub not_full : IsErrOf result Full → ⊥
+-- `DiskFailed` is answered only if the file has failed since, and the two other errors aren't
+abbrev pub DiskCause : {T : Type 0} → ℕ → ℕ → Result T HostError → Type 0
+DiskCause before now result = HasCause before now (before < now) ⊥ ⊥ (IsErrOf result)
+
+-- the same of the error
+abbrev pub IsDiskError : ℕ → ℕ → HostError → Type 0
+IsDiskError before now error = HasCause before now (before < now) ⊥ ⊥ (λ e. error ≡ e)
+
+-- `OutputFailed` is answered only if the output has failed since, and the two other errors aren't
+abbrev pub OutputCause : {T : Type 0} → ℕ → ℕ → Result T HostError → Type 0
+OutputCause before now result = HasCause before now ⊥ (before < now) ⊥ (IsErrOf result)

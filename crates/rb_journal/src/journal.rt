@@ -2,9 +2,10 @@
 //! a batch is written behind it, with a closed gate of its own at its end, and synced; then the gate is opened, by
 //! the one byte `{`, and synced. So a crash leaves all of a batch or none of it.
 ghost use Rattle.std.specs.Prelude.{◌≡◌, ◌⊎◌, ◌+◌, ◌<◌, ◌≤◌, ◌^◌, ◌++◌, [], ◌∷◌, List, ℕ, length, take, IfOk, IfErr};
-ghost use Rattle.std.specs.Prelude.{◌↔◌, drop, OnOk, IsErrOf, IsTrue, MatchOption};
+ghost use Rattle.std.specs.Prelude.{◌↔◌, drop, OnOk, IsErrOf, IsTrue, MatchOption, MatchResult};
 ghost use Rattle.std.specs.List.{concat};
-ghost use Rattle.rb_journal.specs.Host.{Cut, IsWritten, LeavesOnly, MayBeCut, Only, OutputCause, Outputs, TornByte};
+ghost use Rattle.rb_journal.specs.Host.{Cut, IsWritten, LeavesOnly, MayBeCut, Only, Outputs, TornByte};
+ghost use Rattle.rb_journal.specs.Host.{DiskCause, HasCause, IsDiskError, OutputCause};
 ghost use Rattle.rb_journal.specs.Quiet.{Quiet};
 ghost use Rattle.rb_journal.specs.Lines.{recovered, at_rest, IsBatch, IsDamaged, IsIntact, MayBeBehind};
 ghost use Rattle.rb_journal.specs.Lines.{is_bare_gate, to_keep, what_is_cut};
@@ -57,10 +58,8 @@ impl<H: Host> Journal<H> {
         ensures repaired_err { IfErr result (λ e. LeavesOnly H.moment H.left_since host e.1
             (λ c _. IsRepaired bytes.now c × (IsIntact bytes.now → IsIntact c))) }
 
-        ensures later { IfOk result (λ journal. H.faults host ≤ H.faults journal.host) }
-        ensures failed { IfErr result (λ e. e.0 ≡ HostError.DiskFailed → H.faults host < H.faults e.1) }
-        ensures no_output_fault { IfErr result (λ e. e.0 ≡ HostError.OutputFailed → ⊥) }
-        ensures full { IfErr result (λ e. e.0 ≡ HostError.Full → ⊥) }
+        ensures cause { MatchResult result (λ journal. H.faults host ≤ H.faults journal.host)
+            (λ e. IsDiskError (H.faults host) (H.faults e.1) e.0) }
     {
         match recover(&mut host, bytes) {
             Ok(end) => Ok(Journal { host, end }),
@@ -90,10 +89,9 @@ impl<H: Host> Journal<H> {
             (λ c _. IsAppended (recovered (H.content self.old.host)) batch.now c × IsIntact c) }
 
         // It doesn't give up by itself.
-        ensures later { H.faults self.old.host ≤ H.faults self.new.host }
-        ensures failed { IsErrOf result HostError.DiskFailed → H.faults self.old.host < H.faults self.new.host }
-        ensures no_output_fault { IsErrOf result HostError.OutputFailed → ⊥ }
-        ensures full { IsErrOf result HostError.Full → 2 ^ 60 ≤ self.old.end + length batch.now }
+        ensures cause { HasCause (H.faults self.old.host) (H.faults self.new.host)
+            (H.faults self.old.host < H.faults self.new.host) ⊥ (2 ^ 60 ≤ self.old.end + length batch.now)
+            (IsErrOf result) }
     {
         let [gate, tail @ ..] = batch else {
             return Ok(());
@@ -124,14 +122,12 @@ impl<H: Host> Journal<H> {
             (λ c _. IsAppended (recovered (H.content self.old.host)) batch.now c × IsIntact c) }
 
         // It doesn't give up by itself. If the output fails, the batch is on the disk all the same.
-        ensures later { H.faults self.old.host ≤ H.faults self.new.host }
-        ensures failed { IsErrOf result HostError.DiskFailed → H.faults self.old.host < H.faults self.new.host }
-        ensures output_failed { IsErrOf result HostError.OutputFailed →
-            H.faults self.old.host < H.faults self.new.host }
+        ensures cause { HasCause (H.faults self.old.host) (H.faults self.new.host)
+            (H.faults self.old.host < H.faults self.new.host) (H.faults self.old.host < H.faults self.new.host)
+            (2 ^ 60 ≤ self.old.end + length batch.now) (IsErrOf result) }
         ensures kept { IsErrOf result HostError.OutputFailed →
             (recovered (H.content self.new.host) ≡ recovered (H.content self.old.host) ++ recovered batch.now)
             × Only (H.content self.new.host) (H.may_leave self.new.host) }
-        ensures full { IsErrOf result HostError.Full → 2 ^ 60 ≤ self.old.end + length batch.now }
     {
         self.append(batch)?;
         put_out_all(&mut self.host, reply)
@@ -277,10 +273,7 @@ pub fn recover<H: Host>(host: &mut H, bytes: &[u8]) -> Result<usize, HostError>
     ensures repaired { LeavesOnly H.moment H.left_since host.old host.new
         (λ c _. IsRepaired bytes.now c × (IsIntact bytes.now → IsIntact c)) }
 
-    ensures later { H.faults host.old ≤ H.faults host.new }
-    ensures failed { IsErrOf result HostError.DiskFailed → H.faults host.old < H.faults host.new }
-    ensures no_output_fault { IsErrOf result HostError.OutputFailed → ⊥ }
-    ensures full { IsErrOf result HostError.Full → ⊥ }
+    ensures cause { DiskCause (H.faults host.old) (H.faults host.new) result }
 {
     let (lines, end) = count_lines(bytes);
     repair(host, bytes, lines, end)?;

@@ -2,7 +2,7 @@
 //! blank to a reader as the gate, and no crash of an append or of a repair leaves it. So a file is sealed or it isn't,
 //! and a copy from before isn't.
 ghost use Rattle.std.specs.Prelude.{◌≡◌, ◌≢◌, ◌<◌, ◌≤◌, ◌↔◌, [], ◌∷◌, IfErr, IfOk, IsTrue, MatchResult};
-ghost use Rattle.rb_journal.specs.Host.{LeavesOnly, Only};
+ghost use Rattle.rb_journal.specs.Host.{IsDiskError, LeavesOnly, Only};
 ghost use Rattle.rb_journal.specs.Lines.{recovered, sealed, IsSealed};
 ghost use Rattle.rb_journal.specs.Journal.{IsSealedOrNot, IsSettled};
 
@@ -48,11 +48,8 @@ impl<H: Host> Journal<H> {
             (IsSealedOrNot (H.content self.host) (H.output self.host))) }
 
         // It doesn't give up by itself.
-        ensures later { MatchResult result (λ host. H.faults self.host ≤ H.faults host)
-            (λ e. H.faults self.host ≤ H.faults e.1) }
-        ensures failed { IfErr result (λ e. e.0 ≡ HostError.DiskFailed → H.faults self.host < H.faults e.1) }
-        ensures no_output_fault { IfErr result (λ e. e.0 ≡ HostError.OutputFailed → ⊥) }
-        ensures full { IfErr result (λ e. e.0 ≡ HostError.Full → ⊥) }
+        ensures cause { MatchResult result (λ host. H.faults self.host ≤ H.faults host)
+            (λ e. IsDiskError (H.faults self.host) (H.faults e.1) e.0) }
     {
         let Journal { mut host, end } = self;
         match write_byte(&mut host, end, b'\t') {

@@ -1,6 +1,6 @@
 //! A journal is sealed by a site that is started with it: by its own configuration, and with all of its entries.
 ghost use Rattle.std.specs.Prelude.{◌≡◌, ◌≢◌, ◌<◌, [], Err, IfErr, IfOk, MatchResult};
-ghost use Rattle.rb_journal.specs.Host.{LeavesOnly, Only};
+ghost use Rattle.rb_journal.specs.Host.{IsDiskError, LeavesOnly, Only};
 ghost use Rattle.rb_journal.specs.Lines.{IsIntact, IsSealed, recovered, sealed};
 ghost use Rattle.rb_run_site.specs.Faults.{IsOpeningFault};
 ghost use Rattle.rb_run_site.specs.Seals.{HasSealed, IsSealCause, IsSealRun, SealsTo, StartsAlone};
@@ -62,9 +62,7 @@ fn seal_file<H: Host>(host: H, bytes: &[u8]) -> Result<H, (HostError, H)>
         (IsSealRun bytes.now (H.output host))) }
     ensures any_moment_err { IfErr result (λ e. LeavesOnly H.moment H.left_since host e.1
         (IsSealRun bytes.now (H.output host))) }
-    ensures failed { IfErr result (λ e. e.0 ≡ HostError.DiskFailed → H.faults host < H.faults e.1) }
-    ensures no_output_fault { IfErr result (λ e. e.0 ≡ HostError.OutputFailed → ⊥) }
-    ensures full { IfErr result (λ e. e.0 ≡ HostError.Full → ⊥) }
+    ensures cause { IfErr result (λ e. IsDiskError (H.faults host) (H.faults e.1) e.0) }
 {
     match Journal::open(host, bytes) {
         Ok(journal) => journal.seal(),

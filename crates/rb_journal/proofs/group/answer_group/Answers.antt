@@ -58,7 +58,7 @@ returns-clause-any_moment g c = run g (goal.at.returns-clause-any_moment g c).Af
 
 pub returns-in_err-commit_and_put_out-clause-journal : goal.returns-in_err-commit_and_put_out-clause-journal
 returns-in_err-commit_and_put_out-clause-journal g c = λ is.
-    let why = c.in_err-commit_and_put_out.ensures in
+    let why = c.in_err-commit_and_put_out.ensures.cause in
     let error = c.in_err-commit_and_put_out.field-0.0 in
     let passed : c.from_residual.result ≡ Err (fault_of_host error) = search rules in
     let journal : fault_of_host error ≡ Journal = cc (passed, is) in

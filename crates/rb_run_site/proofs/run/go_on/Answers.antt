@@ -118,7 +118,7 @@ returns-clause-journal g c = λ failed.
     let is = begins c.lines_are_single.ensures.configs lines x first (subst IsConfigured c.config.ensures c.sites-sites.ensures.configured)
     c.requires.journal (subst (λ f. IsToBegin lines x f) (sym c.deref.ensures.value) c.requires.begins) in
     let same : recovered (host.content mid) ≡ journal_of x = c.in_ok-commit_and_put_out.ensures.lines ∙ is.whole in
-    ⊎_elim (λ (more : host.faults mid < host.faults new). inl (omega (arith, more, c.commit_and_put_out.ensures.later)))
+    ⊎_elim (λ (more : host.faults mid < host.faults new). inl (omega (arith, more, c.commit_and_put_out.ensures.cause.later)))
     (λ (full : IsFull (SiteAnswers g.M.Records.ALL) c.args.number input x (recovered (host.content mid))).
     inr (subst (λ ls. IsFull (SiteAnswers g.M.Records.ALL) c.args.number input x ls) same full))
     (c.serve.ensures.journal failed)

@@ -68,7 +68,7 @@ returns-in-Err-ended-clause-journal g c = λ failed.
     let same : c.from.result ≡ fault_of_serve fault = search rules in
     let passed : c.from.result ≡ DiskFailed = cc failed in
     let is : fault ≡ JournalStopped = only_journal fault (sym same ∙ passed) in
-    ⊎_elim (λ (more : host.faults mid < host.faults new). inl (omega (arith, more, c.in-Ok.ensures.later)))
+    ⊎_elim (λ (more : host.faults mid < host.faults new). inl (omega (arith, more, c.in-Ok.ensures.cause)))
     (λ (full : IsFull (SiteAnswers g.M.Records.ALL) c.args.number input x (journal_of x)). inr full)
     (c.in-Err-ended.ensures.journal (ap Err is))
 
@@ -133,4 +133,4 @@ pub returns-in-Err-clause-journal : goal.returns-in-Err-clause-journal
 returns-in-Err-clause-journal g c = λ failed.
     let is : c.from-in-Err-2.result ≡ DiskFailed = cc failed in
     let cause = sym (passed g (goal.at.returns-in-Err-clause-journal g c).After-from-in-Err-2) ∙ is in
-    inl (c.in-Err.ensures.failed (only_disk c.in-Err.error cause c.in-Err.ensures.full))
+    inl (c.in-Err.ensures.cause.failed (only_disk c.in-Err.error cause c.in-Err.ensures.cause.full))
