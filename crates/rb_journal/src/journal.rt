@@ -5,7 +5,7 @@ ghost use Rattle.std.specs.Prelude.{◌≡◌, ◌⊎◌, ◌+◌, ◌<◌, ◌�
 ghost use Rattle.std.specs.Prelude.{◌↔◌, drop, OnOk, IsErrOf, IsTrue, MatchOption, MatchResult};
 ghost use Rattle.std.specs.List.{concat};
 ghost use Rattle.rb_journal.specs.Host.{Cut, IsWritten, LeavesOnly, MayBeCut, Only, Outputs, TornByte};
-ghost use Rattle.rb_journal.specs.Host.{DiskCause, HasCause, IsDiskError, OutputCause};
+ghost use Rattle.rb_journal.specs.Host.{HasCause, IsDiskError, OutputCause};
 ghost use Rattle.rb_journal.specs.Quiet.{Quiet};
 ghost use Rattle.rb_journal.specs.Lines.{recovered, at_rest, IsBatch, IsDamaged, IsIntact, MayBeBehind};
 ghost use Rattle.rb_journal.specs.Lines.{is_bare_gate, to_keep, what_is_cut};
@@ -61,8 +61,9 @@ impl<H: Host> Journal<H> {
         ensures cause { MatchResult result (λ journal. H.faults host ≤ H.faults journal.host)
             (λ e. IsDiskError (H.faults host) (H.faults e.1) e.0) }
     {
-        match recover(&mut host, bytes) {
-            Ok(end) => Ok(Journal { host, end }),
+        let (lines, end) = count_lines(bytes);
+        match repair(&mut host, bytes, lines, end) {
+            Ok(()) => Ok(Journal { host, end }),
             Err(error) => Err((error, host)),
         }
     }
@@ -246,38 +247,6 @@ fn repair<H: Host>(host: &mut H, bytes: &[u8], lines: u64, end: usize) -> Result
     cut_off(host, lines, end, &bytes[end..])?;
     // The cut has to be on the disk first: behind a gate that is torn open, what was there would count.
     write_byte(host, end, b' ')
-}
-
-/// Writes the bytes of a file that a crash may have left, these, again, repairs its end, and answers where its lines
-/// end, in bytes. It keeps the bytes that it cuts off, unless they are a bare gate. It may crash too. `damaged_line`
-/// finds a file that no crash left, before it. An `Err` means out of memory, or that the file failed.
-pub fn recover<H: Host>(host: &mut H, bytes: &[u8]) -> Result<usize, HostError>
-    requires opened { H.never_failed host.old }
-    requires bytes { bytes.now ≡ H.content host.old }
-    requires durable { H.knows_disk host.old → Only (H.content host.old) (H.may_leave host.old) }
-
-    ensures usable { OnOk result (H.is_usable host.new) }
-    ensures length { IfOk result (λ end. end ≡ length (concat (recovered bytes.now))) }
-    ensures at_rest { OnOk result (H.content host.new ≡ at_rest (recovered bytes.now)) }
-    ensures same { OnOk result (recovered (H.content host.new) ≡ recovered bytes.now) }
-    ensures durable { OnOk result (Only (H.content host.new) (H.may_leave host.new)) }
-    ensures output { H.output host.new ≡ H.output host.old }
-    ensures reported { H.reported host.new ≡ H.reported host.old }
-    ensures kept { OnOk result (H.kept host.new ≡ H.kept host.old ++ what_is_cut bytes.now) }
-
-    // A crash at any moment leaves the same lines, from when what was read is known to be on the disk.
-    ensures any_moment { LeavesOnly H.moment H.left_since host.old host.new
-        (IsLeftAs (recovered bytes.now) (H.output host.old)) }
-
-    // And a file with some bytes cut off, or its lines with a byte behind them: undamaged, if the file was.
-    ensures repaired { LeavesOnly H.moment H.left_since host.old host.new
-        (λ c _. IsRepaired bytes.now c × (IsIntact bytes.now → IsIntact c)) }
-
-    ensures cause { DiskCause (H.faults host.old) (H.faults host.new) result }
-{
-    let (lines, end) = count_lines(bytes);
-    repair(host, bytes, lines, end)?;
-    Ok(end)
 }
 
 // The number of lines in these bytes of a file, and their end, in bytes from its start.

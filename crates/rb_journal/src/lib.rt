@@ -44,7 +44,7 @@ pub use disk::{Disk, open_disk};
 pub use fault::ServeFault;
 pub use host::{Host, HostError};
 pub use input::Input;
-pub use journal::{Journal, damaged_line, end_of_lines, recover};
+pub use journal::{Journal, damaged_line, end_of_lines};
 pub use memory::Memory;
 pub use open_error::OpenError;
 pub use planned::Planned;
