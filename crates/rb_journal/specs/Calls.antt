@@ -42,25 +42,25 @@ content_after (opened bytes) file = bytes
 content_after (found bytes) file = bytes
 content_after (wrote ok at bytes) file = take at file ++ bytes ++ drop (at + length bytes) file
 content_after (cut ok len) file = take len file
-content_after (synced ok) file = file
-content_after (output count bytes) file = file
-content_after (output_failed bytes) file = file
-content_after (kept ok bytes) file = file
+content_after _ file = file
 
 abbrev pub content_of : List NotedCall → List ℕ
 content_of [] = []
 content_of (event ∷ past) = content_after (host_call_of event) (content_of past)
 
+-- the files that were opened, in their order
+abbrev pub files_after : HostCall → List (List ℕ) → List (List ℕ)
+files_after (opened bytes) files = files ++ bytes ∷ []
+files_after _ files = files
+
+abbrev pub files_read : List NotedCall → List (List ℕ)
+files_read [] = []
+files_read (event ∷ past) = files_after (host_call_of event) (files_read past)
+
 -- what has been put out after the call
 abbrev pub output_after : HostCall → List ℕ → List ℕ
 output_after (output count bytes) before = before ++ take count bytes
-output_after (opened bytes) before = before
-output_after (found bytes) before = before
-output_after (wrote ok at bytes) before = before
-output_after (cut ok len) before = before
-output_after (synced ok) before = before
-output_after (output_failed bytes) before = before
-output_after (kept ok bytes) before = before
+output_after _ before = before
 
 abbrev pub output_of : List NotedCall → List ℕ
 output_of [] = []
@@ -69,14 +69,7 @@ output_of (event ∷ past) = output_after (host_call_of event) (output_of past)
 -- what is kept of what was cut off, after the call
 abbrev pub kept_after : HostCall → List ℕ → List ℕ
 kept_after (kept true bytes) before = before ++ bytes
-kept_after (kept false bytes) before = before
-kept_after (opened bytes) before = before
-kept_after (found bytes) before = before
-kept_after (wrote ok at bytes) before = before
-kept_after (cut ok len) before = before
-kept_after (synced ok) before = before
-kept_after (output count bytes) before = before
-kept_after (output_failed bytes) before = before
+kept_after _ before = before
 
 -- since the file was opened
 abbrev pub kept_of : List NotedCall → List ℕ
@@ -90,10 +83,7 @@ leaves_after (found bytes) file before c = c ≡ bytes
 leaves_after (wrote ok at bytes) file before c = (d : List ℕ) × before d × Torn at bytes d c
 leaves_after (cut ok len) file before c = (d : List ℕ) × before d × Cut len d c
 leaves_after (synced true) file before c = (c ≡ file) × before c
-leaves_after (synced false) file before c = before c
-leaves_after (output count bytes) file before c = before c
-leaves_after (output_failed bytes) file before c = before c
-leaves_after (kept ok bytes) file before c = before c
+leaves_after _ file before c = before c
 
 abbrev pub leaves : List NotedCall → List ℕ → Type 0
 leaves [] c = c ≡ []
@@ -103,12 +93,7 @@ leaves (event ∷ past) c = leaves_after (host_call_of event) (content_of past) 
 abbrev pub known_after : HostCall → Bool → Bool
 known_after (opened bytes) before = false
 known_after (found bytes) before = true
-known_after (wrote ok at bytes) before = before
-known_after (cut ok len) before = before
-known_after (synced ok) before = before
-known_after (output count bytes) before = before
-known_after (output_failed bytes) before = before
-known_after (kept ok bytes) before = before
+known_after _ before = before
 
 abbrev pub knows_disk : List NotedCall → Bool
 knows_disk [] = true
@@ -118,12 +103,7 @@ knows_disk (event ∷ past) = known_after (host_call_of event) (knows_disk past)
 abbrev pub leaves_within : HostCall → (List ℕ → Type 0) → List ℕ → List ℕ → List ℕ → Type 0
 leaves_within (output count bytes) before so_far c d = before c × AddsPrefix so_far bytes d
 leaves_within (output_failed bytes) before so_far c d = before c × AddsPrefix so_far bytes d
-leaves_within (opened bytes) before so_far c d = ⊥
-leaves_within (found bytes) before so_far c d = ⊥
-leaves_within (wrote ok at bytes) before so_far c d = ⊥
-leaves_within (cut ok len) before so_far c d = ⊥
-leaves_within (synced ok) before so_far c d = ⊥
-leaves_within (kept ok bytes) before so_far c d = ⊥
+leaves_within _ before so_far c d = ⊥
 
 -- what a crash may have left since the time when there were t calls, at a moment at which that is known
 abbrev pub left_since : List NotedCall → ℕ → List ℕ → List ℕ → Type 0
@@ -138,13 +118,7 @@ faults_after (cut false len) n = suc n
 faults_after (synced false) n = suc n
 faults_after (output_failed bytes) n = suc n
 faults_after (kept false bytes) n = suc n
-faults_after (opened bytes) n = n
-faults_after (found bytes) n = n
-faults_after (wrote true at bytes) n = n
-faults_after (cut true len) n = n
-faults_after (synced true) n = n
-faults_after (output count bytes) n = n
-faults_after (kept true bytes) n = n
+faults_after _ n = n
 
 abbrev pub faults_of : List NotedCall → ℕ
 faults_of [] = 0

@@ -19,7 +19,7 @@ use crate::call_log::CallLog;
 use crate::named_file::{keep_beside, leads_to, open_file, read_locked, sync_folder, write_again};
 use crate::open_error::OpenError;
 use crate::streams::is_errors;
-use crate::{Host, HostError, calls};
+use crate::{Host, HostError};
 use std::os::fd::{AsFd, AsRawFd};
 use std::os::unix::fs::FileExt;
 use std::rt::Files;
@@ -171,7 +171,7 @@ pub fn open_disk<R: Files<File = fs::File> + Clock + AllocGlobal + Copy, P: Prin
         out,
         out_descriptor,
         failed: None,
-        log: calls::opened(&opened.bytes),
+        log: CallLog::opened(&opened.bytes),
     };
     Ok((disk, opened.bytes))
 }
@@ -252,14 +252,14 @@ impl<R: Files<File = fs::File> + Clock + Eprint + AllocGlobal, P: Print> Host fo
     fn write_again(&mut self, bytes: &[u8]) -> Result<(), HostError> {
         let done = self.make_durable(bytes);
         let ok = self.is_done(done);
-        calls::written_again(&mut self.log, bytes, ok)
+        self.log.written_again(bytes, ok)
     }
 
     fn write_at(&mut self, at: usize, bytes: &[u8]) -> Result<(), HostError> {
         let done = self.write_there(at, bytes);
         self.len = self.len.max((at as u64).saturating_add(bytes.len() as u64));
         let ok = self.is_done(done);
-        calls::wrote(&mut self.log, at, bytes, ok)
+        self.log.wrote(at, bytes, ok)
     }
 
     fn cut(&mut self, len: usize) -> Result<(), HostError> {
@@ -270,7 +270,7 @@ impl<R: Files<File = fs::File> + Clock + Eprint + AllocGlobal, P: Print> Host fo
         };
         self.len = len as u64;
         let ok = self.is_done(done);
-        calls::cut(&mut self.log, len, ok)
+        self.log.cut(len, ok)
     }
 
     fn keep(&mut self, lines: u64, bytes: &[u8]) -> Result<(), HostError> {
@@ -285,17 +285,17 @@ impl<R: Files<File = fs::File> + Clock + Eprint + AllocGlobal, P: Print> Host fo
         if ok {
             say_kept(&self.rt, self.path.as_str(), lines, bytes.len());
         }
-        calls::kept(&mut self.log, bytes, ok)
+        self.log.kept(bytes, ok)
     }
 
     fn sync(&mut self) -> Result<(), HostError> {
         let done = self.file.sync_data();
         let ok = self.is_done(done);
-        calls::synced(&mut self.log, ok)
+        self.log.synced(ok)
     }
 
     fn put_out(&mut self, bytes: &[u8]) -> Result<usize, HostError> {
         let count = put_out(&self.rt, &self.out, bytes);
-        calls::output(&mut self.log, bytes, count)
+        self.log.output(bytes, count)
     }
 }

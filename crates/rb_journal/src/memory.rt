@@ -6,7 +6,7 @@ ghost use Rattle.rb_journal.specs.Calls.{content_of, output_of, kept_of, knows_d
 ghost use Rattle.rb_journal.specs.CallLaws.{now_counts, now_alone};
 
 use crate::call_log::CallLog;
-use crate::{Host, HostError, calls};
+use crate::{Host, HostError};
 use std::alloc::{AllocError, Global};
 
 /// Each call is done at once, and what a crash may leave is all that a host allows.
@@ -35,7 +35,7 @@ impl Memory {
         ensures output { output_of (memory_log result) ≡ [] }
         ensures kept { kept_of (memory_log result) ≡ [] }
     {
-        let log = calls::found(&bytes);
+        let log = CallLog::found(&bytes);
         Memory {
             alloc,
             bytes,
@@ -115,25 +115,25 @@ impl Host for Memory {
 
     fn write_at(&mut self, at: usize, bytes: &[u8]) -> Result<(), HostError> {
         self.bytes = spliced(self.alloc, &self.bytes, at, bytes)?;
-        calls::wrote(&mut self.log, at, bytes, true)
+        self.log.wrote(at, bytes, true)
     }
 
     fn cut(&mut self, len: usize) -> Result<(), HostError> {
         self.bytes.truncate(len);
-        calls::cut(&mut self.log, len, true)
+        self.log.cut(len, true)
     }
 
     fn keep(&mut self, _lines: u64, bytes: &[u8]) -> Result<(), HostError> {
         self.kept.extend_from_slice(bytes)?;
-        calls::kept(&mut self.log, bytes, true)
+        self.log.kept(bytes, true)
     }
 
     fn sync(&mut self) -> Result<(), HostError> {
-        calls::synced(&mut self.log, true)
+        self.log.synced(true)
     }
 
     fn put_out(&mut self, bytes: &[u8]) -> Result<usize, HostError> {
         self.output.extend_from_slice(bytes)?;
-        calls::output(&mut self.log, bytes, Some(bytes.len()))
+        self.log.output(bytes, Some(bytes.len()))
     }
 }

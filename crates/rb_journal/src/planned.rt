@@ -10,7 +10,7 @@ ghost use Rattle.rb_journal.specs.Planned.{made_event};
 
 use crate::call::Call;
 use crate::call_log::CallLog;
-use crate::{Host, HostError, calls};
+use crate::{Host, HostError};
 use std::alloc::Global;
 
 /// The calls that are still to be made, the newest first, and the logs of those that were made and of all.
@@ -44,8 +44,8 @@ impl Planned {
         Planned {
             alloc,
             calls: Vec::new(alloc),
-            made: calls::found(bytes),
-            log: calls::found(bytes),
+            made: CallLog::found(bytes),
+            log: CallLog::found(bytes),
         }
     }
 
@@ -66,7 +66,7 @@ impl Planned {
         ensures same { log_planned self.new ≡ log_planned self.old }
     {
         let call = self.calls.pop()?;
-        calls::made(&mut self.made, &call);
+        self.made.made(&call);
         Some(call)
     }
 }
@@ -110,15 +110,15 @@ impl Host for Planned {
             bytes: bytes.to_vec(self.alloc)?,
         };
         self.calls.insert(0, call)?;
-        calls::wrote(&mut self.log, at, bytes, true)
+        self.log.wrote(at, bytes, true)
     }
 
     fn cut(&mut self, len: usize) -> Result<(), HostError> {
         // A cut that can't be noted counts as failed: nothing more may be asked then.
         match self.calls.insert(0, Call::Cut { len }) {
-            Ok(()) => calls::cut(&mut self.log, len, true),
+            Ok(()) => self.log.cut(len, true),
             Err(failed) => {
-                let _counted = calls::cut(&mut self.log, len, false);
+                let _counted = self.log.cut(len, false);
                 Err(HostError::from(failed))
             }
         }
@@ -130,12 +130,12 @@ impl Host for Planned {
             bytes: bytes.to_vec(self.alloc)?,
         };
         self.calls.insert(0, call)?;
-        calls::kept(&mut self.log, bytes, true)
+        self.log.kept(bytes, true)
     }
 
     fn sync(&mut self) -> Result<(), HostError> {
         self.calls.insert(0, Call::Sync)?;
-        calls::synced(&mut self.log, true)
+        self.log.synced(true)
     }
 
     fn put_out(&mut self, bytes: &[u8]) -> Result<usize, HostError> {
@@ -143,6 +143,6 @@ impl Host for Planned {
             bytes: bytes.to_vec(self.alloc)?,
         };
         self.calls.insert(0, call)?;
-        calls::output(&mut self.log, bytes, Some(bytes.len()))
+        self.log.output(bytes, Some(bytes.len()))
     }
 }

@@ -1,5 +1,5 @@
 -- Lines of files that are joined.
-use Rattle.std.proofs.Common.{◌≡◌, ◌≢◌, ◌∙◌, ◌==◌, ◌+◌, ◌-◌, ◌<◌, ◌≤◌, ◌++◌, ℕ, Bool, cond, true, false, true≢false, refl, sym, ap, subst}
+use Rattle.std.proofs.Common.{◌≡◌, ◌≢◌, ◌∙◌, ◌==◌, ◌+◌, ◌-◌, ◌≤◌, ◌++◌, ℕ, Bool, cond, true, false, true≢false, refl, sym, ap, subst}
 use Rattle.std.proofs.Common.{arith, suc, List, [], ◌∷◌, length, drop, map, Option, Some, None, append_assoc, append-nil, length-append}
 use Rattle.std.specs.Prelude.{slice_get, flat_map}
 use Rattle.std.proofs.lemmas.Bool.{ne_eqb}

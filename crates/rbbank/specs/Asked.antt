@@ -1,10 +1,11 @@
 -- The requests of the words, and what is done for them.
-use Rattle.std.specs.Prelude.{◌≡◌, ◌≤◌, ℕ, List, [], Option, Some, IfSome, false, true, length, map}
+use Rattle.std.specs.Prelude.{◌≡◌, ℕ, List, [], Option, Some, IfSome, false, true, length, map}
 use Rattle.rb_cli.specs.declared.task.Task.{Task}
 use Rattle.rb_cli.specs.declared.task.Task.TheVariants.{Script as ToAnswer, Histories as ToRecord, Audit as ToAudit, Migrate as ToMigrate}
 use Rattle.rb_cli.specs.declared.words.Words.{Words}
 use Rattle.rb_cli.specs.declared.words.Words.TheVariants.{Script, Histories, Audit, Migrate, Files, Threads, Site, Seal, Close}
 use Rattle.rb_history.specs.Ids.{is_id}
+use Rattle.rb_journal.specs.Calls.{files_read}
 use Rattle.rb_run_threads.specs.Runs.{ThreadsEndAs}
 use Rattle.rbbank.specs.declared.done.Done.{Done}
 use Rattle.rbbank.specs.declared.done.Done.TheVariants.{Lines, BadBank, Closed}
@@ -27,7 +28,7 @@ DoesAsAsked Histories bytes left done text = DoesLines ToRecord bytes left done 
 DoesAsAsked Audit bytes left done text = DoesLines ToAudit bytes left done text
 DoesAsAsked Migrate bytes left done text = DoesLines ToMigrate bytes left done text
 DoesAsAsked (Files task files) bytes left (FilesRan ran) text =
-    FilesEndAs task (length files.items) ran.ids.items ran.read.files ran.ended text × (left ≡ bytes)
+    FilesEndAs task (length files.items) ran.ids.items (files_read ran.read.events) ran.ended text × (left ≡ bytes)
 DoesAsAsked (Threads sites tellers seed) bytes left (TellersRan r) text = ThreadsEndAs r sites tellers seed text × (left ≡ bytes)
 DoesAsAsked (Site me journal is_new resend recorded bank) bytes left (SiteRan ran) text =
     IfSome bank (λ name. is_id name.now ≡ true)
@@ -37,5 +38,5 @@ DoesAsAsked (Site me journal is_new resend recorded (Some name)) bytes left BadB
 DoesAsAsked (Seal me journal) bytes left (SiteRan ran) text = IsSealOn me journal.now ran.disk ran.ended × (text ≡ []) × (left ≡ bytes)
 DoesAsAsked (Close sites accounts journals) bytes left (Closed ran) text =
     ClosesFilesAs (record { sites = sites; added = map (λ name. name.now) accounts.items }) (length journals.items)
-    ran.ids.items ran.read.files ran.ended text × (left ≡ bytes)
+    ran.ids.items (files_read ran.read.events) ran.ended text × (left ≡ bytes)
 DoesAsAsked _ bytes left _ text = ⊥

@@ -1,5 +1,5 @@
 -- Tasks with lines.
-use Rattle.std.specs.Prelude.{◌≡◌, ◌≢◌, ℕ, Bool, true, false, List, Option, IfSome, Result, Ok, Err}
+use Rattle.std.specs.Prelude.{◌≢◌, ℕ, true, false, List, Option, IfSome, Result, Ok, Err}
 use Rattle.rb_cli.specs.declared.task.Task.{Task}
 use Rattle.rb_cli.specs.declared.task.Task.TheVariants.{Script, Histories, Audit, Migrate}
 use Rattle.rb_lines.specs.declared.fault.ScriptFault.{ScriptFault}

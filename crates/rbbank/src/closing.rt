@@ -2,6 +2,7 @@
 ghost use Rattle.std.specs.Prelude.{◌≡◌, ◌≤◌, [], Err, IfSome, List, ℕ, false, length, map};
 ghost use Rattle.std.specs.Io.KnownBytes.{Appends};
 ghost use Rattle.std.specs.Process.{exit_status};
+ghost use Rattle.rb_journal.specs.Calls.{files_read};
 ghost use Rattle.rb_money.specs.declared.limits.TheConstants.{MOST_SITES};
 ghost use Rattle.rb_runs.specs.Closes.{close_status_of};
 ghost use Rattle.rbbank.specs.Files.{ClosesFilesAs};
@@ -9,10 +10,10 @@ ghost use Rattle.rbbank.specs.SameFiles.{AreFiles};
 ghost use Rattle.rbbank.specs.Statuses.{IsEndOfClosing, IsReportedStatus};
 
 use crate::files_on_disk::{FilesOnDisk, name_of, report_unread};
-use crate::read_log::ReadLog;
 use crate::same_file::{FileId, SameFile, first_same, ids_of, report_same};
 use crate::why::reason_of_file;
 use crate::{FAULT_FOUND, out_of_memory, print_line, report_fault, report_why};
+use rb_journal::CallLog;
 use rb_lines::{ScriptFault, Sink};
 use rb_runs::{
     CloseFault, NextBank, added_message, added_status, journal_message, journal_status, run_close,
@@ -34,7 +35,7 @@ pub enum ClosingFault {
 #[derive(Drop)]
 pub struct RanClosing {
     pub ids: Vec<Option<FileId>>,
-    pub read: ReadLog,
+    pub read: CallLog,
     pub ended: Result<bool, ClosingFault>,
     pub code: ExitCode,
 }
@@ -80,13 +81,13 @@ fn report_why_not(rt: &HostRuntime, journals: &[&str], fault: CloseFault) {
 /// The books aren't closed, and no file was opened.
 fn not_begun(ids: Vec<Option<FileId>>, fault: ClosingFault, code: ExitCode) -> RanClosing
     ensures ids { result.ids ≡ ids }
-    ensures none { result.read.files ≡ [] }
+    ensures none { files_read result.read.events ≡ [] }
     ensures ended { result.ended ≡ Err fault }
     ensures code { result.code ≡ code }
 {
     RanClosing {
         ids,
-        read: ReadLog::new(),
+        read: CallLog::new(),
         ended: Err(fault),
         code,
     }
@@ -107,7 +108,7 @@ fn close_by<W: Sink>(
     requires fresh { W.failed writer.old ≡ false }
     ensures written { (text : List ℕ) × Appends (W.contents writer.old) (W.contents writer.new) text
         × ClosesFilesAs (record { sites = sites; added = map (λ name. name.now) accounts.now }) (length journals.now)
-        result.ids.items result.read.files result.ended text }
+        result.ids.items (files_read result.read.events) result.ended text }
     ensures status { IsEndOfClosing result.ended (exit_status result.code) }
 {
     let ask = NextBank::new(sites, accounts);
@@ -145,7 +146,7 @@ pub fn close_books<W: Sink>(
     requires fresh { W.failed writer.old ≡ false }
     ensures written { (text : List ℕ) × Appends (W.contents writer.old) (W.contents writer.new) text
         × ClosesFilesAs (record { sites = sites; added = map (λ name. name.now) accounts.now }) (length journals.now)
-        result.ids.items result.read.files result.ended text }
+        result.ids.items (files_read result.read.events) result.ended text }
     ensures status { IsEndOfClosing result.ended (exit_status result.code) }
 {
     let Ok(ids) = ids_of(rt, journals) else {

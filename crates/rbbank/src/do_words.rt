@@ -76,7 +76,7 @@ fn do_asked<H: Threads + Wait + Sync, S: Source, W: Sink>(
     requires unread { S.calls reader.old ≡ 0 }
     requires fresh { W.failed writer.old ≡ false }
     ensures done { (text : List ℕ) × Appends (W.contents writer.old) (W.contents writer.new) text
-        × DoesAsAsked asked (S.remaining reader.old) (S.remaining reader.new) result.done text }
+        × DoesAsAsked asked.entry (S.remaining reader.old) (S.remaining reader.new) result.done text }
     ensures status { IsEndOf result.done (exit_status result.code) }
     ensures calls { S.calls reader.new ≤ S.calls reader.old + MOST_READS }
 {

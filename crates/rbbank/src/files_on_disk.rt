@@ -1,10 +1,11 @@
 //! Files of the operating system, read whole, one after another.
 ghost use Rattle.std.specs.Prelude.{◌≡◌, [], None};
 ghost use Rattle.std.specs.Process.{exit_status};
+ghost use Rattle.rb_journal.specs.Calls.{files_read};
 ghost use Rattle.rbbank.specs.Statuses.{IsReportedStatus};
 
-use crate::read_log::ReadLog;
 use crate::{out_of_memory, print_line};
+use rb_journal::CallLog;
 use rb_runs::JournalFiles;
 use std::alloc::{AllocError, Global};
 use std::process::ExitCode;
@@ -21,25 +22,25 @@ pub struct FilesOnDisk<'a> {
     taken: usize,
     /// The system's error, if the last file couldn't be read.
     error: Option<io::Error>,
-    log: ReadLog,
+    log: CallLog,
 }
 
 impl<'a> FilesOnDisk<'a> {
     /// Before the first file.
     pub fn new(rt: &'a HostRuntime, names: &'a [&'a str]) -> FilesOnDisk<'a>
-        ensures { result.log.files ≡ [] }
+        ensures { files_read result.log.events ≡ [] }
     {
         FilesOnDisk {
             rt,
             names,
             taken: 0,
             error: None,
-            log: ReadLog::new(),
+            log: CallLog::new(),
         }
     }
 
     /// The files that were read, and the system's error, if the next one couldn't be.
-    pub fn end(self) -> (ReadLog, Option<io::Error>)
+    pub fn end(self) -> (CallLog, Option<io::Error>)
         ensures { result.0 ≡ self.entry.log }
     {
         let FilesOnDisk {
@@ -54,7 +55,7 @@ impl<'a> FilesOnDisk<'a> {
 }
 
 impl<'a> JournalFiles for FilesOnDisk<'a> {
-    ghost read = { λ files. files.log.files };
+    ghost read = { λ files. files_read files.log.events };
 
     ghost known = { λ _. None };
 
@@ -63,7 +64,7 @@ impl<'a> JournalFiles for FilesOnDisk<'a> {
         match fs::read(self.rt, *name) {
             Ok(bytes) => {
                 self.taken += 1;
-                self.log.note(&bytes);
+                self.log.note_opened(&bytes);
                 Some(bytes)
             }
             Err(error) => {

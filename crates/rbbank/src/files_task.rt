@@ -2,6 +2,7 @@
 ghost use Rattle.std.specs.Prelude.{◌≡◌, ◌≤◌, ◌++◌, [], Err, IfOk, List, ℕ, codes, false, length, string_bytes};
 ghost use Rattle.std.specs.Io.KnownBytes.{Appends};
 ghost use Rattle.std.specs.Process.{exit_status};
+ghost use Rattle.rb_journal.specs.Calls.{files_read};
 ghost use Rattle.rbbank.specs.Files.{FilesEndAs, files_status_of, lines_message_of};
 ghost use Rattle.rbbank.specs.SameFiles.{AreFiles};
 ghost use Rattle.rb_lines.specs.Messages.{status_of};
@@ -10,12 +11,12 @@ ghost use Rattle.rbbank.specs.Tasks.{task_status};
 
 use crate::files_on_disk::{FilesOnDisk, name_of, report_unread};
 use crate::joined::{FilesFault, Joined, join_files};
-use crate::read_log::ReadLog;
 use crate::same_file::{FileId, first_same, ids_of, report_same};
 use crate::task::{TaskRan, run_task, status_of};
 use crate::why::reason_of_file;
 use crate::{out_of_memory, print_line, report_fault, report_why};
 use rb_cli::Task;
+use rb_journal::CallLog;
 use rb_lines::{FromBytes, ScriptFault, Sink, status};
 use rb_runs::{JournalFault, journal_message, journal_status};
 use std::alloc::{AllocError, Global};
@@ -27,7 +28,7 @@ use std::process::ExitCode;
 #[derive(Drop)]
 pub struct RanOverFiles {
     pub ids: Vec<Option<FileId>>,
-    pub read: ReadLog,
+    pub read: CallLog,
     pub ended: Result<TaskRan, FilesFault>,
     pub code: ExitCode,
 }
@@ -114,13 +115,13 @@ fn not_begun(
     fault: FilesFault,
 ) -> RanOverFiles
     ensures ids { result.ids ≡ ids }
-    ensures none { result.read.files ≡ [] }
+    ensures none { files_read result.read.events ≡ [] }
     ensures ended { result.ended ≡ Err fault }
     ensures status { IsEndOfFiles result.ended (exit_status result.code) }
 {
     RanOverFiles {
         ids,
-        read: ReadLog::new(),
+        read: CallLog::new(),
         ended: Err(fault),
         code: report_files(rt, names, fault, None),
     }
@@ -138,7 +139,7 @@ fn run_over<W: Sink>(
     requires some { 1 ≤ length names.now }
     requires fresh { W.failed writer.old ≡ false }
     ensures written { (text : List ℕ) × Appends (W.contents writer.old) (W.contents writer.new) text
-        × FilesEndAs task (length names.now) result.ids.items result.read.files result.ended text }
+        × FilesEndAs task (length names.now) result.ids.items (files_read result.read.events) result.ended text }
     ensures status { IsEndOfFiles result.ended (exit_status result.code) }
 {
     let mut files = FilesOnDisk::new(rt, names);
@@ -182,7 +183,7 @@ pub fn run_over_files<W: Sink>(
     requires some { 1 ≤ length names.now }
     requires fresh { W.failed writer.old ≡ false }
     ensures written { (text : List ℕ) × Appends (W.contents writer.old) (W.contents writer.new) text
-        × FilesEndAs task (length names.now) result.ids.items result.read.files result.ended text }
+        × FilesEndAs task (length names.now) result.ids.items (files_read result.read.events) result.ended text }
     ensures status { IsEndOfFiles result.ended (exit_status result.code) }
 {
     let Ok(ids) = ids_of(rt, names) else {

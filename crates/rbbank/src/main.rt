@@ -21,7 +21,6 @@ mod files_task;
 mod joined;
 mod on_disk;
 mod patient;
-mod read_log;
 mod same_file;
 mod task;
 mod why;

@@ -20,5 +20,5 @@ returns-in-Ok-clause-ran g c =
       any_moment = rw most at (rw file.output at (rw (sym file.content) at ran.any_moment));
       steps = rw most at (rw file.output at (rw (sym file.content) at ran.steps));
       write = ran.write;
-      journal = rw (sym file.content) at ran.journal;
+      journal = rw most at (rw (sym file.content) at ran.journal);
     }

@@ -1,7 +1,6 @@
 use Rattle.std.proofs.Common.{◌≡◌, ◌<◌, ◌≤◌, ◌∙◌, ◌⊎◌, Some, None, arith, inl, inr, sym, ap, slice_get}
 use Rattle.std.proofs.lemmas.Bool.{cases_lt}
 use Rattle.std.proofs.lemmas.Option.{slice_get-get_or}
-use Rattle.rbbank.specs.SameFiles.{IsSameFile}
 use Rattle.rbbank.proofs.same_file.same_before.Goals as goal
 
 pub loop-before-preserved : goal.loop-before-preserved

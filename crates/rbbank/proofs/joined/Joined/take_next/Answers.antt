@@ -1,6 +1,5 @@
 -- One file more is joined, or it has another first line.
-use Rattle.std.proofs.Common.{◌≡◌, ◌≤◌, ◌∙◌, ◌+◌, ◌++◌, ◌∷◌, [], ap, length, length-append, subst, sym}
-use Rattle.rb_lines.specs.Lines.{lines_of}
+use Rattle.std.proofs.Common.{◌≤◌, ◌∙◌, ◌+◌, ◌∷◌, [], ap, length, length-append, subst, sym}
 use Rattle.rbbank.specs.Files.{AreJoined, AreNoInput, first_line, lines_behind}
 use Rattle.rbbank.specs.declared.joined.FilesFault.TheVariants.{AnotherBank}
 use Rattle.rbbank.proofs.LinesOfFiles.{is_another, joined_more}
