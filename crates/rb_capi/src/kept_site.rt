@@ -9,8 +9,8 @@ ghost use Rattle.rb_node.specs.Answers.{asked_event_on, other_bank_on};
 ghost use Rattle.rb_node.specs.LineAnswers.{question_on};
 ghost use Rattle.rb_capi.specs.Sites.{AnswersSiteLine, IsNoEntryLine, IsWrongEntry, ReplaysEntryLine, first_kept};
 
-use rb_history::BankName;
-use rb_node::{Node, NodeFault};
+use rb_history::{BankName, LineFault};
+use rb_node::{EntryFault, Node, OpenFault};
 use std::alloc::Global;
 use std::marker::Model;
 use std::mem::swap;
@@ -51,11 +51,11 @@ impl Drop for KeptSite {
 
 impl KeptSite {
     /// The site of a number of the configuration on a line, before any event.
-    pub fn open(alloc: Global, config: &[u8], me: u8) -> Result<KeptSite, NodeFault>
+    pub fn open(alloc: Global, config: &[u8], me: u8) -> Result<KeptSite, OpenFault>
         ensures opened { IfOk result (λ site. (s : Settings) × (config_on config.now ≡ Some s) × (me < s.sites)
             × (site ≡ first_kept s me)) }
-        ensures bad { result ≡ Err NodeFault.BadConfig → config_on config.now ≡ None }
-        ensures no_site { result ≡ Err NodeFault.NoSite → (s : Settings) × (config_on config.now ≡ Some s)
+        ensures bad { result ≡ Err OpenFault.BadConfig → config_on config.now ≡ None }
+        ensures no_site { result ≡ Err OpenFault.NoSite → (s : Settings) × (config_on config.now ≡ Some s)
             × (s.sites ≤ me) }
     {
         let node = Node::open(alloc, config, me, BankName::none(alloc))?;
@@ -63,7 +63,7 @@ impl KeptSite {
             Ok(line) => line,
             Err(_) => {
                 node.close();
-                return Err(NodeFault::OutOfMemory);
+                return Err(OpenFault::OutOfMemory);
             }
         };
         Ok(KeptSite {
@@ -79,10 +79,10 @@ impl KeptSite {
     /// event is recorded, but for one whose id is known, and for one that changes nothing and whose entry's line would
     /// be longer than a line may be.
     ///
-    /// Errors: `BadLine` if the line is none, and nothing has changed then; `OutOfMemory`.
-    pub fn answer_line(&mut self, line: &[u8]) -> Result<(), NodeFault>
+    /// Errors: `Bad` if the line is none, and nothing has changed then; `OutOfMemory`.
+    pub fn answer_line(&mut self, line: &[u8]) -> Result<(), LineFault>
         ensures answered { OnOk result (AnswersSiteLine self.old self.new line.now) }
-        ensures bad { result ≡ Err NodeFault.BadLine
+        ensures bad { result ≡ Err LineFault.Bad
             → (asked_event_on self.old.site.settings self.old.site.bank line.now ≡ None)
             × (other_bank_on self.old.site.settings self.old.site.bank line.now ≡ false)
             × (question_on self.old.site.bank line.now ≡ None) × (self.new ≡ self.old) }
@@ -100,11 +100,11 @@ impl KeptSite {
     ///
     /// Errors: `BadLine` if the line is no entry of this site, or has the id of an entry before, and nothing has
     /// changed then; `WrongReply` if the site gives another reply, or its history is full; `OutOfMemory`.
-    pub fn replay_line(&mut self, line: &[u8]) -> Result<(), NodeFault>
+    pub fn replay_line(&mut self, line: &[u8]) -> Result<(), EntryFault>
         ensures replayed { OnOk result (ReplaysEntryLine self.old self.new line.now) }
-        ensures bad { result ≡ Err NodeFault.BadLine
+        ensures bad { result ≡ Err EntryFault.BadLine
             → IsNoEntryLine self.old.site line.now × (self.new ≡ self.old) }
-        ensures wrong { result ≡ Err NodeFault.WrongReply → IsWrongEntry self.old.site line.now }
+        ensures wrong { result ≡ Err EntryFault.WrongReply → IsWrongEntry self.old.site line.now }
     {
         self.node.replay(line)?;
         self.answer.clear();

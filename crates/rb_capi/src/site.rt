@@ -11,7 +11,8 @@ ghost use Rattle.rb_capi.specs.Sites.{first_kept, kept_entries, kept_text};
 use crate::copy::copy_text;
 use crate::kept_site::KeptSite;
 use crate::site_handle::SiteHandle;
-use rb_node::NodeFault;
+use rb_history::LineFault;
+use rb_node::{EntryFault, OpenFault};
 use std::alloc::Global;
 
 /// Opens the site `me` (0 to 15) of the configuration on a line, before any event. A site that was kept there before is
@@ -36,9 +37,9 @@ pub extern "C" fn rbbank_site_open(
     site.clear(alloc);
     let opened = match KeptSite::open(alloc, config, me) {
         Ok(opened) => opened,
-        Err(NodeFault::BadConfig) => return 2,
-        Err(NodeFault::NoSite) => return 3,
-        Err(_) => return 4,
+        Err(OpenFault::BadConfig) => return 2,
+        Err(OpenFault::NoSite) => return 3,
+        Err(OpenFault::OutOfMemory) => return 4,
     };
     match Box::new(alloc, opened) {
         Ok(opened) => {
@@ -82,11 +83,11 @@ pub extern "C" fn rbbank_site_answer(alloc: Global, site: &mut SiteHandle, line:
             site.put(kept);
             0
         }
-        Err(NodeFault::BadLine) => {
+        Err(LineFault::Bad) => {
             site.put(kept);
             2
         }
-        Err(_) => 4,
+        Err(LineFault::OutOfMemory) => 4,
     }
 }
 
@@ -120,12 +121,12 @@ pub extern "C" fn rbbank_site_replay(alloc: Global, site: &mut SiteHandle, line:
             site.put(kept);
             0
         }
-        Err(NodeFault::BadLine) => {
+        Err(EntryFault::BadLine) => {
             site.put(kept);
             2
         }
-        Err(NodeFault::WrongReply) => 3,
-        Err(_) => 4,
+        Err(EntryFault::WrongReply) => 3,
+        Err(EntryFault::OutOfMemory) => 4,
     }
 }
 

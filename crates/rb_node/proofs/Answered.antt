@@ -7,13 +7,10 @@ use Rattle.std.proofs.lemmas.List.{drop_at}
 use Rattle.std.proofs.lemmas.Slice.Eq.{bytes_eq-Decides}
 use Rattle.rb_site.specs.declared.event.Event.{Event}
 use Rattle.rb_history.specs.declared.question.Question.{Question}
-use Rattle.rb_node.specs.declared.fault.NodeFault.{NodeFault}
-use Rattle.rb_node.specs.declared.fault.NodeFault.TheVariants.{BadLine, OutOfMemory}
 use Rattle.rb_history.specs.Ids.{AskedEvent}
 use Rattle.rb_history.proofs.Public.Appended.{front_of_sum}
 use Rattle.rb_node.specs.Answers.{asked_event_on, line_of, other_bank_json, other_bank_on}
 use Rattle.rb_node.specs.Asked.{SeenAsked, known_of, without_ids}
-use Rattle.rb_node.specs.Faults.{IsLineFault}
 use Rattle.rb_node.specs.LineAnswers.{IsLineAnswer, question_on, question_text}
 use Rattle.rb_node.specs.Steps.{Again, AnswersAsked, AnswersEvent, KnownAdded, KnownAdds, New}
 
@@ -113,14 +110,14 @@ answered_new (Ok y) all old new x a b c k l none h =
 answered_new (Err y) all old new x a b c k l none h = (subst (λ t. take (length t) c ≡ t) none.1 h.0, h.1)
 
 -- the same, if there was an answer
-pub event_answered : {A : Type 0} (r : Result A NodeFault) (all : Bool) (old new : SeenAsked) (line : List ℕ) (x : AskedEvent)
+pub event_answered : {A E : Type 0} (r : Result A E) (all : Bool) (old new : SeenAsked) (line : List ℕ) (x : AskedEvent)
     (a b k l : List ℕ) → asked_event_on old.settings old.bank line ≡ Some x → OnOk r (AnswersAsked all old new x a b k l)
     → OnOk r (Adds all old new line a b k l)
 event_answered (Ok y) all old new line x a b k l is h = asked_answered all old new line x a b k l is h
 event_answered (Err y) all old new line x a b k l is h = tt
 
 -- the answer to a question
-pub question_answered : {A : Type 0} (r : Result A NodeFault) (all : Bool) (old : SeenAsked) (line a b k : List ℕ)
+pub question_answered : {A E : Type 0} (r : Result A E) (all : Bool) (old : SeenAsked) (line a b k : List ℕ)
     → OnOk r ((q : Question) × (question_on old.bank line ≡ Some q) × (b ≡ a ++ question_text old.bank (without_ids old) q))
     → OnOk r (Adds all old old line a b k k)
 question_answered (Ok x) all old line a b k h = (
@@ -139,7 +136,7 @@ question_answered (Ok x) all old line a b k h = (
 question_answered (Err x) all old line a b k h = tt
 
 -- the answer to a line of another bank
-pub other_answered : {A : Type 0} (r : Result A NodeFault) (all : Bool) (old : SeenAsked) (line a b k : List ℕ)
+pub other_answered : {A E : Type 0} (r : Result A E) (all : Bool) (old : SeenAsked) (line a b k : List ℕ)
     → other_bank_on old.settings old.bank line ≡ true → OnOk r (b ≡ a ++ line_of other_bank_json) → OnOk r (Adds all old old line a b k k)
 other_answered (Ok x) all old line a b k is h = (
   line_of other_bank_json,
@@ -156,16 +153,6 @@ other_answered (Ok x) all old line a b k is h = (
 other_answered (Err x) all old line a b k is h = tt
 
 -- a question adds no entries, nor does a line of another bank
-pub entries_stay : {A : Type 0} (P : Type 0) (r : Result A NodeFault) (k : List ℕ) → OnErr r P → OnErr r (P × (k ≡ k))
+pub entries_stay : {A E : Type 0} (P : Type 0) (r : Result A E) (k : List ℕ) → OnErr r P → OnErr r (P × (k ≡ k))
 entries_stay P (Ok x) k h = tt
 entries_stay P (Err x) k h = (h, refl)
-
--- want of memory is no bad line
-pub no_bad_line : {A P : Type 0} (r : Result A NodeFault) → IfErr r (λ why. why ≡ OutOfMemory) → r ≡ Err BadLine → P
-no_bad_line (Ok x) h e = absurd (cc)
-no_bad_line (Err x) h e = absurd (cc)
-
--- and a fault of a line
-pub memory_of_line : {A : Type 0} (r : Result A NodeFault) → IfErr r (λ why. why ≡ OutOfMemory) → IfErr r IsLineFault
-memory_of_line (Ok x) h = tt
-memory_of_line (Err x) h = subst IsLineFault (sym h) tt

@@ -1,7 +1,6 @@
 -- An entry, replayed from its line.
 use Rattle.std.proofs.Common.{◌≡◌, ◌≢◌, ◌++◌, ℕ, Bool, true, false, cond, not, List, [], ◌∷◌, inl, inr, refl, sym, ap, subst, ◌∙◌}
-use Rattle.std.specs.Prelude.{map, is_some, Option, Some, None, MatchOption, Result, Ok, Err, IfErr, OnOk}
-use Rattle.std.specs.Result.{IsErrAnd}
+use Rattle.std.specs.Prelude.{map, is_some, Option, Some, None, MatchOption, Result, Ok, Err, OnOk}
 use Rattle.std.specs.Str.{is_utf8}
 use Rattle.std.specs.Cmp.Lexicographic.{pointwise}
 use lib.Dec.{eqb}
@@ -15,26 +14,11 @@ use Rattle.rb_history.specs.Entries.{asked_entry_json, asked_entry_of_line, aske
 use Rattle.rb_history.specs.Fits.{ReadEntriesFit}
 use Rattle.rb_history.specs.Ids.{AskedEntry, IsAsked, may_be_asked}
 use Rattle.rb_node.specs.declared.known_request.KnownRequest.{KnownRequest}
-use Rattle.rb_node.specs.declared.fault.NodeFault.{NodeFault}
-use Rattle.rb_node.specs.declared.fault.NodeFault.TheVariants.{OutOfMemory}
 use Rattle.rb_node.specs.Answers.{SeenNode}
 use Rattle.rb_node.specs.Asked.{SeenAsked, asked_state, known_of, without_ids, with_id, with_more}
-use Rattle.rb_node.specs.Faults.{IsEntryFault}
 use Rattle.rb_node.specs.Kept.{IsKeptAs}
 use Rattle.rb_node.specs.Replays.{IsReadBack, IsReplayedAs}
 use Rattle.rb_node.proofs.Recorded.{which-one}
-
--- ---- faults
-
--- what the one fault is the other is
-pub fault_of : {A : Type 0} (r : Result A NodeFault) (why : NodeFault) → IsErrAnd r (λ x. x ≡ why) → IsEntryFault why
-    → IfErr r IsEntryFault
-fault_of (Ok x) why h is = tt
-fault_of (Err x) why h is = subst IsEntryFault (sym h) is
-
--- want of memory is a fault of an entry
-pub memory_fault : {A : Type 0} (r : Result A NodeFault) → IsErrAnd r (λ why. why ≡ OutOfMemory) → IfErr r IsEntryFault
-memory_fault r h = fault_of r OutOfMemory h tt
 
 -- ---- lines
 
@@ -150,13 +134,13 @@ replayed_entry old new x ys asked free unknown is next reply sent = record {
 }
 
 -- what is known beside a replay
-pub beside : {A P : Type 0} (r : Result A NodeFault) (inside old : SeenAsked) (new : SeenNode) (x : AskedEntry) → inside ≡ old → P
+pub beside : {A E P : Type 0} (r : Result A E) (inside old : SeenAsked) (new : SeenNode) (x : AskedEntry) → inside ≡ old → P
     → OnOk r (IsReplayedAs inside new x) → OnOk r (P × IsReplayedAs old new x)
 beside (Ok y) inside old new x seen p h = (p, subst (λ s. IsReplayedAs s new x) seen h)
 beside (Err y) inside old new x seen p h = tt
 
 -- what the line shows beside a replay
-pub read_from : {A : Type 0} (r : Result A NodeFault) (old : SeenAsked) (new : SeenNode) (x : AskedEntry) (line : List ℕ)
+pub read_from : {A E : Type 0} (r : Result A E) (old : SeenAsked) (new : SeenNode) (x : AskedEntry) (line : List ℕ)
     → asked_entry_on old.settings line ≡ Some (old.me, x)
     → OnOk r ((line ≡ compact_text (asked_entry_json old.settings old.me x)) × IsReplayedAs old new x)
     → OnOk r ((y : AskedEntry) × (line ≡ compact_text (asked_entry_json old.settings old.me y)) × IsReadBack old.settings old.me y
@@ -165,7 +149,7 @@ read_from (Ok v) old new x line on h = (x, h.0, back old.settings old.me x line 
 read_from (Err v) old new x line on h = tt
 
 -- the entry that was replayed, if it is the one on a line
-pub read_on : {A : Type 0} (r : Result A NodeFault) (old : SeenAsked) (new : SeenNode) (x : AskedEntry) (line : List ℕ)
+pub read_on : {A E : Type 0} (r : Result A E) (old : SeenAsked) (new : SeenNode) (x : AskedEntry) (line : List ℕ)
     → asked_entry_on old.settings line ≡ Some (old.me, x) → OnOk r (IsReplayedAs old new x)
     → OnOk r ((y : AskedEntry) × (asked_entry_on old.settings line ≡ Some (old.me, y)) × IsReplayedAs old new y)
 read_on (Ok v) old new x line on h = (x, on, h)

@@ -1,7 +1,6 @@
 pub mod About
 pub mod Asked
 pub mod Answers
-pub mod Faults
 pub mod Index
 pub mod Kept
 pub mod Laws

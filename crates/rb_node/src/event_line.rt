@@ -16,12 +16,11 @@ ghost use Rattle.rb_history.specs.Ids.{IsIdOrNone, between_if_any};
 ghost use Rattle.rb_node.specs.Answers.{IsAllApplied, IsNextName, asked_event_on, messages_json};
 ghost use Rattle.rb_node.specs.Answers.{other_bank_on};
 ghost use Rattle.rb_node.specs.Asked.{asked_state, known_of};
-ghost use Rattle.rb_node.specs.Faults.{IsLineFault};
 ghost use Rattle.rb_node.specs.LineAnswers.{IsLineAnswer, question_on};
 ghost use Rattle.rb_node.specs.Steps.{AnswersAsked, AnswersEvent, Applies, AppliesOne};
 
 use crate::other_bank::append_other_bank;
-use crate::{Node, NodeFault};
+use crate::Node;
 use rb_history::write::append::append;
 use rb_history::{
     BankName, LineFault, RequestId, append_sent_message, append_value, read_event_to, spell,
@@ -108,22 +107,18 @@ pub(crate) fn append_rest(
 impl Node {
     /// The event on a line, and its id in its place. `None` if the line is of another bank.
     #[tactic(auto, unfolding(crate::specs::Answers::asked_event_on, crate::specs::Answers::other_bank_on))]
-    fn event_of(&self, line: &[u8], id: &mut RequestId) -> Result<Option<Event>, NodeFault>
+    fn event_of(&self, line: &[u8], id: &mut RequestId) -> Result<Option<Event>, LineFault>
         ensures read { MatchResult result
             (λ found. MatchOption found (other_bank_on self.now.site.settings self.now.site.bank line.now ≡ true)
             (λ event. asked_event_on self.now.site.settings self.now.site.bank line.now
             ≡ Some (record { id = id.new; event = event })))
-            (λ why. (why ≡ NodeFault.BadLine
+            (λ why. why ≡ LineFault.Bad
             → (asked_event_on self.now.site.settings self.now.site.bank line.now ≡ None)
-            × (other_bank_on self.now.site.settings self.now.site.bank line.now ≡ false)) × IsLineFault why) }
-        ensures not_text { is_utf8 line.now ≡ false → result ≡ Err NodeFault.BadLine }
+            × (other_bank_on self.now.site.settings self.now.site.bank line.now ≡ false)) }
+        ensures not_text { is_utf8 line.now ≡ false → result ≡ Err LineFault.Bad }
     {
-        let text = text_on(line).ok_or(NodeFault::BadLine)?;
-        match read_event_to(self.alloc, &self.config, self.site.bank(), text, id) {
-            Ok(found) => Ok(found),
-            Err(LineFault::Bad) => Err(NodeFault::BadLine),
-            Err(LineFault::OutOfMemory) => Err(NodeFault::OutOfMemory),
-        }
+        let text = text_on(line).ok_or(LineFault::Bad)?;
+        read_event_to(self.alloc, &self.config, self.site.bank(), text, id)
     }
 
     /// Applies what is held and ready, one operation after another, until nothing is or the history is full. The
@@ -233,12 +228,12 @@ impl Node {
         event: Event,
         answers: &mut Vec<u8>,
         entries: &mut Vec<u8>,
-    ) -> Result<(), NodeFault>
+    ) -> Result<(), LineFault>
         ensures answered { OnOk result (AnswersAsked all self.old.site self.new.site
             (record { id = id.now; event = event }) answers.old.items answers.new.items entries.old.items
             entries.new.items) }
         ensures err { OnErr result ((answers.new.items ≡ answers.old.items) × (entries.new.items ≡ entries.old.items)) }
-        ensures memory { IfErr result (λ why. why ≡ NodeFault.OutOfMemory) }
+        ensures memory { IfErr result (λ why. why ≡ LineFault.OutOfMemory) }
     {
         let (answered, recorded) = (answers.len(), entries.len());
         let done = self.answer_asked(all, id, event, answers, entries);
@@ -269,7 +264,7 @@ impl Node {
     /// the site applied and holds, and `{"resend":N}` (N 0 to 100,000,000) a reply `{"resent":K}` behind K lines
     /// `{"sends":[M..]}`, one for each of the last N entries that sent any message.
     ///
-    /// Errors: `BadLine` if the line is no event and no question, and nothing has changed then; a line that isn't UTF-8
+    /// Errors: `Bad` if the line is no event and no question, and nothing has changed then; a line that isn't UTF-8
     /// takes no memory, and is always that. `OutOfMemory`, after which nothing more may be asked of the site: it may
     /// come with any other line, as the JSON reader may want memory for it, and what is written may. Each leaves
     /// answers and entries as they were.
@@ -279,23 +274,22 @@ impl Node {
         all: bool,
         answers: &mut Vec<u8>,
         entries: &mut Vec<u8>,
-    ) -> Result<(), NodeFault>
+    ) -> Result<(), LineFault>
         ensures answered { OnOk result ((text : List ℕ) × (lines : List ℕ)
             × IsLineAnswer all self.old.site self.new.site line.now text lines
             × (answers.new.items ≡ answers.old.items ++ text) × (entries.new.items ≡ entries.old.items ++ lines)) }
-        ensures bad { result ≡ Err NodeFault.BadLine
+        ensures bad { result ≡ Err LineFault.Bad
             → (asked_event_on self.old.site.settings self.old.site.bank line.now ≡ None)
             × (other_bank_on self.old.site.settings self.old.site.bank line.now ≡ false)
             × (question_on self.old.site.bank line.now ≡ None) × (self.new ≡ self.old) }
-        ensures not_text { is_utf8 line.now ≡ false → result ≡ Err NodeFault.BadLine }
+        ensures not_text { is_utf8 line.now ≡ false → result ≡ Err LineFault.Bad }
         ensures err { OnErr result ((answers.new.items ≡ answers.old.items) × (entries.new.items ≡ entries.old.items)) }
-        ensures refusals { IfErr result IsLineFault }
     {
         let mut id = RequestId::none(self.alloc);
         match self.event_of(line, &mut id) {
             Ok(Some(event)) => self.answer_whole(all, &id, event, answers, entries),
             Ok(None) => append_other_bank(answers),
-            Err(NodeFault::BadLine) => self.answer_question(line, answers),
+            Err(LineFault::Bad) => self.answer_question(line, answers),
             Err(fault) => Err(fault),
         }
     }

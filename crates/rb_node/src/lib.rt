@@ -22,7 +22,7 @@ mod step;
 ghost use Rattle.rb_node.specs.Laws.{AnswersAreOne, AnswersAreReplayed, AnswersAreTheSame, ConfigsAreJournalLines};
 ghost use Rattle.rb_node.specs.Laws.{EntriesAreJournalLines, IdsStayOnce, OtherBanksAreRefused};
 
-pub use fault::NodeFault;
+pub use fault::{EntryFault, OpenFault};
 pub use node::Node;
 
 /// The line of a configuration and that of each entry are lines of a journal: each begins with `{` and has no line feed

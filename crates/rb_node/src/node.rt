@@ -7,7 +7,7 @@ ghost use Rattle.rb_node.specs.Answers.{line_of};
 ghost use Rattle.rb_node.specs.Asked.{first_asked};
 
 use crate::asked_site::AskedSite;
-use crate::fault::NodeFault;
+use crate::fault::OpenFault;
 use rb_history::{BankName, LineFault, open_config, write_config};
 use rb_money::Config;
 use rb_site::Message;
@@ -43,22 +43,20 @@ impl Node {
     /// has it: those that are sent, and those that come.
     ///
     /// Errors: `BadConfig` if the line is none; `NoSite` if it has no such site; `OutOfMemory`.
-    pub fn open(alloc: Global, line: &[u8], me: u8, bank: BankName) -> Result<Node, NodeFault>
+    pub fn open(alloc: Global, line: &[u8], me: u8, bank: BankName) -> Result<Node, OpenFault>
         ensures opened { IfOk result (λ node. (s : Settings) × (config_on line.now ≡ Some s) × (me < s.sites)
             × (node.site ≡ first_asked s me bank)) }
-        ensures bad { result ≡ Err NodeFault.BadConfig → config_on line.now ≡ None }
-        ensures no_site { result ≡ Err NodeFault.NoSite → (s : Settings) × (config_on line.now ≡ Some s)
+        ensures bad { result ≡ Err OpenFault.BadConfig → config_on line.now ≡ None }
+        ensures no_site { result ≡ Err OpenFault.NoSite → (s : Settings) × (config_on line.now ≡ Some s)
             × (s.sites ≤ me) }
-        ensures not_bad_line { result ≡ Err NodeFault.BadLine → ⊥ }
-        ensures not_wrong { result ≡ Err NodeFault.WrongReply → ⊥ }
     {
         let config = match open_config(alloc, line) {
             Ok(config) => config,
-            Err(LineFault::Bad) => return Err(NodeFault::BadConfig),
-            Err(LineFault::OutOfMemory) => return Err(NodeFault::OutOfMemory),
+            Err(LineFault::Bad) => return Err(OpenFault::BadConfig),
+            Err(LineFault::OutOfMemory) => return Err(OpenFault::OutOfMemory),
         };
         if me >= config.sites() {
-            return Err(NodeFault::NoSite);
+            return Err(OpenFault::NoSite);
         }
         let site = AskedSite::open(alloc, &config, me, bank)?;
         Ok(Node {

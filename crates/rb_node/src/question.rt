@@ -1,13 +1,12 @@
 //! The line of a question, answered.
-ghost use Rattle.std.specs.Prelude.{◌≡◌, ◌++◌, Some, None, false, Err, IfErr, MatchResult, OnErr, OnOk};
+ghost use Rattle.std.specs.Prelude.{◌≡◌, ◌++◌, Some, None, false, Err, MatchResult, OnErr, OnOk};
 ghost use Rattle.std.specs.Str.{is_utf8};
 ghost use Rattle.rb_history.specs.Adds.{Adds};
 ghost use Rattle.rb_history.specs.declared.question.Question.{Question as TheQuestion};
-ghost use Rattle.rb_node.specs.Faults.{IsLineFault};
 ghost use Rattle.rb_node.specs.Asked.{without_ids};
 ghost use Rattle.rb_node.specs.LineAnswers.{question_on, question_text};
 
-use crate::{Node, NodeFault};
+use crate::Node;
 use rb_history::{LineFault, Question, read_question_to};
 use rb_lines::{text_on, whole_or_none};
 use std::alloc::AllocError;
@@ -15,18 +14,14 @@ use std::alloc::AllocError;
 impl Node {
     /// The question on a line.
     #[tactic(auto, unfolding(crate::specs::LineAnswers::question_on))]
-    fn question_of(&self, line: &[u8]) -> Result<Question, NodeFault>
+    fn question_of(&self, line: &[u8]) -> Result<Question, LineFault>
         ensures read { MatchResult result
             (λ question. question_on self.now.site.bank line.now ≡ Some question)
-            (λ why. (why ≡ NodeFault.BadLine → question_on self.now.site.bank line.now ≡ None) × IsLineFault why) }
-        ensures not_text { is_utf8 line.now ≡ false → result ≡ Err NodeFault.BadLine }
+            (λ why. why ≡ LineFault.Bad → question_on self.now.site.bank line.now ≡ None) }
+        ensures not_text { is_utf8 line.now ≡ false → result ≡ Err LineFault.Bad }
     {
-        let text = text_on(line).ok_or(NodeFault::BadLine)?;
-        match read_question_to(self.alloc, self.site.bank(), text) {
-            Ok(question) => Ok(question),
-            Err(LineFault::Bad) => Err(NodeFault::BadLine),
-            Err(LineFault::OutOfMemory) => Err(NodeFault::OutOfMemory),
-        }
+        let text = text_on(line).ok_or(LineFault::Bad)?;
+        read_question_to(self.alloc, self.site.bank(), text)
     }
 
     /// The text of the answer to a question.
@@ -42,19 +37,18 @@ impl Node {
 
     /// Answers the question on a line.
     ///
-    /// Errors: `BadLine` if there is none; `OutOfMemory`. Each leaves the answers as they were.
+    /// Errors: `Bad` if there is none; `OutOfMemory`. Each leaves the answers as they were.
     pub(crate) fn answer_question(
         &self,
         line: &[u8],
         answers: &mut Vec<u8>,
-    ) -> Result<(), NodeFault>
+    ) -> Result<(), LineFault>
         ensures answered { OnOk result ((question : TheQuestion)
             × (question_on self.now.site.bank line.now ≡ Some question) × (answers.new.items ≡ answers.old.items
             ++ question_text self.now.site.bank (without_ids self.now.site) question)) }
-        ensures bad { result ≡ Err NodeFault.BadLine → question_on self.now.site.bank line.now ≡ None }
-        ensures not_text { is_utf8 line.now ≡ false → result ≡ Err NodeFault.BadLine }
+        ensures bad { result ≡ Err LineFault.Bad → question_on self.now.site.bank line.now ≡ None }
+        ensures not_text { is_utf8 line.now ≡ false → result ≡ Err LineFault.Bad }
         ensures err { OnErr result (answers.new.items ≡ answers.old.items) }
-        ensures refusals { IfErr result IsLineFault }
     {
         let question = self.question_of(line)?;
         let before = answers.len();

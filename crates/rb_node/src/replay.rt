@@ -1,6 +1,6 @@
 //! The line of an entry, replayed. A journal's line is taken only as the site writes it: it is written once more and
 //! compared, so that the replayed entry and the file can't differ.
-ghost use Rattle.std.specs.Prelude.{◌≡◌, ◌≢◌, ◌++◌, Some, None, length, take, Err, IfErr, IfOk, OnOk, OnErr};
+ghost use Rattle.std.specs.Prelude.{◌≡◌, ◌≢◌, ◌++◌, Some, None, length, take, Err, IfOk, OnOk, OnErr};
 ghost use Rattle.std.specs.Prelude.{MatchResult};
 ghost use Rattle.rb_history.specs.Adds.{Adds};
 ghost use Rattle.rb_history.specs.Entries.{asked_entry_json, asked_entry_on};
@@ -8,11 +8,10 @@ ghost use Rattle.rb_history.specs.Ids.{AskedEntry, IsAsked};
 ghost use Rattle.serde_json.specs.Written.{compact_text};
 ghost use Rattle.rb_node.specs.Answers.{sent_line};
 ghost use Rattle.rb_node.specs.Asked.{known_of};
-ghost use Rattle.rb_node.specs.Faults.{IsEntryFault};
 ghost use Rattle.rb_node.specs.Replays.{IsNotNext, IsReadBack, IsReplayedAs};
 
 use crate::event_line::append_messages;
-use crate::{Node, NodeFault};
+use crate::{EntryFault, Node};
 use rb_history::write::append::append;
 use rb_history::{
     BankName, LineFault, RequestId, append_asked_line, append_reply, read_asked_entry, spell,
@@ -42,24 +41,24 @@ pub(crate) fn append_sends(
 impl Node {
     /// The entry of this site on a line, and its id in its place.
     #[tactic(auto, unfolding(rb_history::specs::Entries::asked_entry_on))]
-    fn entry_of(&self, line: &[u8], id: &mut RequestId) -> Result<Entry, NodeFault>
+    fn entry_of(&self, line: &[u8], id: &mut RequestId) -> Result<Entry, EntryFault>
         ensures read { MatchResult result
             (λ entry. asked_entry_on self.now.site.settings line.now
             ≡ Some (self.now.site.me, record { id = id.new; entry = entry }))
-            (λ why. (why ≡ NodeFault.BadLine → (x : AskedEntry) → asked_entry_on self.now.site.settings line.now
-            ≢ Some (self.now.site.me, x)) × IsEntryFault why × (why ≢ NodeFault.WrongReply)) }
+            (λ why. (why ≡ EntryFault.BadLine → (x : AskedEntry) → asked_entry_on self.now.site.settings line.now
+            ≢ Some (self.now.site.me, x)) × (why ≢ EntryFault.WrongReply)) }
         ensures asked { IfOk result (λ entry. IsAsked (record { id = id.new; entry = entry })) }
     {
         rb_history::read_entries_fit();
-        let text = text_on(line).ok_or(NodeFault::BadLine)?;
+        let text = text_on(line).ok_or(EntryFault::BadLine)?;
         let mut entry = Entry {
             event: Event::Pass(0),
             reply: Reply::Taken(0),
         };
         match read_asked_entry(self.alloc, &self.config, text, &mut entry, id) {
             Ok(site) if site == self.me() => Ok(entry),
-            Err(LineFault::OutOfMemory) => Err(NodeFault::OutOfMemory),
-            _ => Err(NodeFault::BadLine),
+            Err(LineFault::OutOfMemory) => Err(EntryFault::OutOfMemory),
+            _ => Err(EntryFault::BadLine),
         }
     }
 
@@ -69,16 +68,15 @@ impl Node {
     /// Errors: `BadLine` if the line is no entry of this site, or has the id of an entry before; `WrongReply` if the
     /// site gives another reply, or its history is full; `OutOfMemory`. After the last two nothing more may be asked of
     /// the site.
-    pub fn replay(&mut self, line: &[u8]) -> Result<(), NodeFault>
+    pub fn replay(&mut self, line: &[u8]) -> Result<(), EntryFault>
         ensures replayed { OnOk result ((x : AskedEntry) × (asked_entry_on self.old.site.settings line.now
             ≡ Some (self.old.site.me, x)) × IsReplayedAs self.old.site self.new x) }
-        ensures bad { result ≡ Err NodeFault.BadLine → ((x : AskedEntry)
+        ensures bad { result ≡ Err EntryFault.BadLine → ((x : AskedEntry)
             → asked_entry_on self.old.site.settings line.now ≡ Some (self.old.site.me, x)
             → known_of self.old.site x.id ≢ None) × (self.new ≡ self.old) }
-        ensures wrong { result ≡ Err NodeFault.WrongReply → (x : AskedEntry)
+        ensures wrong { result ≡ Err EntryFault.WrongReply → (x : AskedEntry)
             × (asked_entry_on self.old.site.settings line.now ≡ Some (self.old.site.me, x))
             × IsNotNext self.old.site x }
-        ensures refusals { IfErr result IsEntryFault }
     {
         let mut id = RequestId::none(self.alloc);
         let entry = self.entry_of(line, &mut id)?;
@@ -86,19 +84,18 @@ impl Node {
     }
 
     /// The same, of a line that is exactly what `answer` adds to the entries: any other spelling of it is `BadLine`.
-    pub fn replay_written(&mut self, line: &[u8]) -> Result<(), NodeFault>
+    pub fn replay_written(&mut self, line: &[u8]) -> Result<(), EntryFault>
         ensures replayed { OnOk result ((x : AskedEntry) × (line.now
             ≡ compact_text (asked_entry_json self.old.site.settings self.old.site.me x))
             × IsReadBack self.old.site.settings self.old.site.me x × IsReplayedAs self.old.site self.new x) }
-        ensures bad { result ≡ Err NodeFault.BadLine → ((x : AskedEntry)
+        ensures bad { result ≡ Err EntryFault.BadLine → ((x : AskedEntry)
             → asked_entry_on self.old.site.settings line.now ≡ Some (self.old.site.me, x)
             → known_of self.old.site x.id ≡ None → line.now
             ≢ compact_text (asked_entry_json self.old.site.settings self.old.site.me x)) × (self.new ≡ self.old) }
-        ensures wrong { result ≡ Err NodeFault.WrongReply → (x : AskedEntry)
+        ensures wrong { result ≡ Err EntryFault.WrongReply → (x : AskedEntry)
             × (line.now ≡ compact_text (asked_entry_json self.old.site.settings self.old.site.me x))
             × IsReadBack self.old.site.settings self.old.site.me x
             × IsNotNext self.old.site x }
-        ensures refusals { IfErr result IsEntryFault }
     {
         let mut id = RequestId::none(self.alloc);
         let entry = self.entry_of(line, &mut id)?;
@@ -111,54 +108,52 @@ impl Node {
         line: &[u8],
         id: &RequestId,
         entry: &Entry,
-    ) -> Result<(), NodeFault>
+    ) -> Result<(), EntryFault>
         requires { IsAsked (record { id = id.now; entry = entry.now }) }
         ensures replayed { OnOk result ((line.now ≡ compact_text (asked_entry_json self.old.site.settings
             self.old.site.me (record { id = id.now; entry = entry.now })))
             × IsReplayedAs self.old.site self.new (record { id = id.now; entry = entry.now })) }
-        ensures bad { result ≡ Err NodeFault.BadLine → (known_of self.old.site id.now ≡ None → line.now
+        ensures bad { result ≡ Err EntryFault.BadLine → (known_of self.old.site id.now ≡ None → line.now
             ≢ compact_text (asked_entry_json self.old.site.settings self.old.site.me
             (record { id = id.now; entry = entry.now }))) × (self.new ≡ self.old) }
-        ensures wrong { result ≡ Err NodeFault.WrongReply
+        ensures wrong { result ≡ Err EntryFault.WrongReply
             → (line.now ≡ compact_text (asked_entry_json self.old.site.settings self.old.site.me
             (record { id = id.now; entry = entry.now })))
             × IsNotNext self.old.site (record { id = id.now; entry = entry.now }) }
-        ensures refusals { IfErr result IsEntryFault }
     {
         let me = self.me();
         self.written.clear();
         append_asked_line(&mut self.written, &self.config, me, id, entry)?;
         if self.written.as_slice() != line {
-            return Err(NodeFault::BadLine);
+            return Err(EntryFault::BadLine);
         }
         self.replay_entry(id, entry)
     }
 
     /// An entry of this site is its next one, if its id isn't known and the site gives the reply that it has.
-    fn replay_entry(&mut self, id: &RequestId, entry: &Entry) -> Result<(), NodeFault>
+    fn replay_entry(&mut self, id: &RequestId, entry: &Entry) -> Result<(), EntryFault>
         requires { IsAsked (record { id = id.now; entry = entry.now }) }
         ensures replayed { OnOk result (IsReplayedAs self.old.site self.new
             (record { id = id.now; entry = entry.now })) }
-        ensures bad { result ≡ Err NodeFault.BadLine → (known_of self.old.site id.now ≢ None)
+        ensures bad { result ≡ Err EntryFault.BadLine → (known_of self.old.site id.now ≢ None)
             × (self.new ≡ self.old) }
-        ensures wrong { result ≡ Err NodeFault.WrongReply
+        ensures wrong { result ≡ Err EntryFault.WrongReply
             → IsNotNext self.old.site (record { id = id.now; entry = entry.now }) }
-        ensures refusals { IfErr result IsEntryFault }
     {
         if self.site.known(id).is_some() {
-            return Err(NodeFault::BadLine);
+            return Err(EntryFault::BadLine);
         }
         self.sent.clear();
         let mut reply = Reply::Refused(Refusal::HistoryFull);
         if self.site.site().is_full() {
             self.keep_replies(&entry.reply, &reply);
-            return Err(NodeFault::WrongReply);
+            return Err(EntryFault::WrongReply);
         }
         self.site
             .answer(id, &entry.event, &mut self.sent, &mut reply)?;
         if !reply.same(&entry.reply) {
             self.keep_replies(&entry.reply, &reply);
-            return Err(NodeFault::WrongReply);
+            return Err(EntryFault::WrongReply);
         }
         Ok(())
     }

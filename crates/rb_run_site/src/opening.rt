@@ -26,7 +26,7 @@ use crate::why::{reason_of_config, reason_of_journal};
 use rb_history::{BankName, lines_are_single};
 use rb_journal::damaged_line;
 use rb_lines::{Buffers, Source, ToBytes};
-use rb_node::{Node, NodeFault};
+use rb_node::{Node, OpenFault};
 use std::alloc::Global;
 
 /// A site before its first event line.
@@ -64,9 +64,9 @@ pub fn open_node(
 {
     match Node::open(alloc, line, me, bank) {
         Ok(node) => Ok(node),
-        Err(NodeFault::NoSite) => Err(SiteFault::NoSite),
-        Err(NodeFault::OutOfMemory) => Err(SiteFault::OutOfMemory),
-        Err(_) => Err(SiteFault::BadConfig { line: number }),
+        Err(OpenFault::BadConfig) => Err(SiteFault::BadConfig { line: number }),
+        Err(OpenFault::NoSite) => Err(SiteFault::NoSite),
+        Err(OpenFault::OutOfMemory) => Err(SiteFault::OutOfMemory),
     }
 }
 

@@ -6,7 +6,7 @@ ghost use Rattle.rb_run_site.specs.Replays.{EndsReplay, IsSplit, ReplaysLine, Re
 
 use crate::fault::SiteFault;
 use rb_lines::first_feed;
-use rb_node::{Node, NodeFault};
+use rb_node::{EntryFault, Node};
 
 /// The first line, without its line feed, and the lines behind it; `None` if there is none.
 fn split_line(lines: &[u8]) -> Option<(&[u8], &[u8])>
@@ -48,9 +48,9 @@ fn replay_one(
 {
     match node.replay_written(line) {
         Ok(()) => {}
-        Err(NodeFault::WrongReply) => return Err(SiteFault::WrongReply { line: number }),
-        Err(NodeFault::OutOfMemory) => return Err(SiteFault::OutOfMemory),
-        Err(_) => return Err(SiteFault::BadEntry { line: number }),
+        Err(EntryFault::BadLine) => return Err(SiteFault::BadEntry { line: number }),
+        Err(EntryFault::WrongReply) => return Err(SiteFault::WrongReply { line: number }),
+        Err(EntryFault::OutOfMemory) => return Err(SiteFault::OutOfMemory),
     }
     if again && node.append_sent(sends).is_err() {
         return Err(SiteFault::OutOfMemory);

@@ -6,9 +6,9 @@ ghost use Rattle.std.specs.Prelude.{◌≡◌};
 
 use crate::bad_line::{append_bad_line, append_long_line};
 use crate::records::Records;
-use rb_history::{lines_are_single, read_events_fit};
+use rb_history::{LineFault, lines_are_single, read_events_fit};
 use rb_journal::{JournaledResponder, LineBatch};
-use rb_node::{Node, NodeFault};
+use rb_node::Node;
 use rb_reasons::reason_at_site;
 use std::alloc::{AllocError, Global};
 use std::marker::PhantomData;
@@ -74,11 +74,11 @@ impl<M: Records> JournaledResponder for SiteResponder<M> {
         self.entries.clear();
         match self.node.answer(line, M::ALL, text, &mut self.entries) {
             Ok(()) => {}
-            Err(NodeFault::BadLine) => {
+            Err(LineFault::Bad) => {
                 let why = reason_at_site(self.alloc, self.node.config(), self.node.bank(), line);
                 return append_bad_line(self.alloc, text, number, why);
             }
-            Err(_) => return Err(AllocError),
+            Err(LineFault::OutOfMemory) => return Err(AllocError),
         }
         match batch.extend(&self.entries) {
             Ok(()) => Ok(()),

@@ -4,59 +4,34 @@ use Rattle.std.proofs.lemmas.Bool.{false≢true}
 use Rattle.rb_site.specs.Events.{is_full, reply_to, sent_at}
 use Rattle.rb_site.specs.Seen.{SeenSite, next_site, state_of}
 use Rattle.rb_history.specs.Ids.{AskedEntry}
-use Rattle.rb_node.specs.declared.fault.NodeFault.TheVariants.{BadLine, OutOfMemory, WrongReply}
 use Rattle.rb_node.specs.Answers.{SeenNode}
 use Rattle.rb_node.specs.Asked.{SeenAsked, asked_state, known_of, without_ids, with_id, with_more}
-use Rattle.rb_node.proofs.Failed.{ended_by, no_fault, no_value, other_fault}
-use Rattle.rb_node.proofs.Spelled.{known_is, memory_fault, replayed_entry, where_none, where_some}
+use Rattle.rb_node.proofs.Spelled.{known_is, replayed_entry, where_none, where_some}
 use Rattle.rb_node.proofs.node.Node.replay_entry.Goals as goal
 
-pub returns-then-is_some : goal.returns-then-is_some
-returns-then-is_some c =
+pub returns-then-is_some-clause-bad : goal.returns-then-is_some-clause-bad
+returns-then-is_some-clause-bad c e =
     let id = c.args.id.now in
     let seen : c.self.inside.site ≡ c.args.self.now.site = ap (λ (v : SeenNode). v.site) c.self.view_is in
     let kept = where_some _ c.known.result _ c.if-is_some.ensures c.known.ensures in
-    record {
-      replayed = tt;
-      bad = λ e. (subst (λ (y : SeenAsked). known_of y id ≢ None) seen (known_is c.self.inside.site id kept.0.now kept.1), refl);
-      wrong = other_fault _ BadLine WrongReply refl refl;
-      refusals = tt;
-    }
+    (subst (λ (y : SeenAsked). known_of y id ≢ None) seen (known_is c.self.inside.site id kept.0.now kept.1), refl)
 
-pub returns-then-is_full : goal.returns-then-is_full
-returns-then-is_full c =
+pub returns-then-is_full-clause-wrong : goal.returns-then-is_full-clause-wrong
+returns-then-is_full-clause-wrong c e =
     let seen : c.self.inside.site ≡ c.args.self.now.site = ap (λ (v : SeenNode). v.site) c.self.view_is in
-    record {
-      replayed = tt;
-      bad = other_fault _ WrongReply BadLine refl refl;
-      wrong = λ e. inl (ap (λ (y : SeenSite). is_full y.settings (state_of y))
-          (sym (c.site.ensures ∙ ap without_ids seen)) ∙ sym c.if-is_full.ensures);
-      refusals = tt;
-    }
+    inl (ap (λ (y : SeenSite). is_full y.settings (state_of y)) (sym (c.site.ensures ∙ ap without_ids seen)) ∙ sym c.if-is_full.ensures)
 
-pub returns-in_err-answer : goal.returns-in_err-answer
-returns-in_err-answer c =
-    let ended = ended_by c.from_residual.result OutOfMemory c.from_residual.ensures.1 in
-    record {
-      replayed = no_value c.from_residual.result _ c.from_residual.ensures.0;
-      bad = other_fault _ OutOfMemory BadLine ended refl;
-      wrong = other_fault _ OutOfMemory WrongReply ended refl;
-      refusals = memory_fault c.from_residual.result c.from_residual.ensures.1;
-    }
-
-pub returns-then-not-same : goal.returns-then-not-same
-returns-then-not-same c =
+pub returns-then-not-same-clause-wrong : goal.returns-then-not-same-clause-wrong
+returns-then-not-same-clause-wrong c e =
     let old = c.args.self.now.site in
     let x = c.args.entry.now in
     let seen : c.self.inside.site ≡ old = ap (λ (v : SeenNode). v.site) c.self.view_is in
     let given : c.answer.new.reply ≡ reply_to old.settings (asked_state old) x.event =
     c.in_ok-answer.ensures.ok.3 ∙ ap (λ (y : SeenAsked). reply_to y.settings (asked_state y) x.event) seen in
-    let other : x.reply ≢ reply_to old.settings (asked_state old) x.event =
-    λ e. false≢true (sym c.if-not-same.true ∙ c.same.ensures.1 (given ∙ sym e)) in
-    record { replayed = tt; bad = other_fault _ WrongReply BadLine refl refl; wrong = λ e. inr other; refusals = tt }
+    inr (λ e. false≢true (sym c.if-not-same.true ∙ c.same.ensures.1 (given ∙ sym e)))
 
-pub returns : goal.returns
-returns c =
+pub returns-clause-replayed : goal.returns-clause-replayed
+returns-clause-replayed c =
     let old = c.args.self.now.site in
     let e = c.args.entry.now.event in
     let x : AskedEntry = record { id = c.args.id.now; entry = c.args.entry.now } in
@@ -64,16 +39,11 @@ returns c =
     let ok = c.in_ok-answer.ensures.ok in
     let given : c.answer.new.reply ≡ reply_to old.settings (asked_state old) e =
     ok.3 ∙ ap (λ (y : SeenAsked). reply_to y.settings (asked_state y) e) seen in
-    record {
-      replayed = replayed_entry old (record { site = c.answer.new.self; sent = c.answer.new.sent.items }) x ok.0 c.requires
+    replayed_entry old (record { site = c.answer.new.self; sent = c.answer.new.sent.items }) x ok.0 c.requires
           (ap (λ (y : SeenSite). is_full y.settings (state_of y)) (sym (c.site.ensures ∙ ap without_ids seen)) ∙ sym c.if-is_full.ensures)
           (sym (ap (λ (y : SeenAsked). known_of y x.id) seen) ∙ where_none c.known.result _ c.if-is_some.ensures c.known.ensures)
           (ok.1 ∙ ap (λ (y : SeenAsked). with_more y (map (with_id x.id) ok.0)) seen)
           (ok.2 ∙ ap (λ (y : SeenAsked). next_site (without_ids y) e) seen)
           (sym (c.same.ensures.0 c.if-not-same.false) ∙ given)
           (ok.4 ∙ ap (λ l. l ++ sent_at c.self.inside.site.settings (asked_state c.self.inside.site) e) c.clear.ensures.items
-          ∙ ap (λ (y : SeenAsked). sent_at y.settings (asked_state y) e) seen);
-      bad = no_fault _ BadLine;
-      wrong = no_fault _ WrongReply;
-      refusals = tt;
-    }
+          ∙ ap (λ (y : SeenAsked). sent_at y.settings (asked_state y) e) seen)

@@ -1,43 +1,25 @@
-use Rattle.std.proofs.Common.{◌≡◌, ap, refl, subst, sym, ◌∙◌}
+use Rattle.std.proofs.Common.{◌≡◌, ap, subst, sym, ◌∙◌}
 use Rattle.serde_json.specs.Written.{compact_text}
 use Rattle.rb_history.specs.Entries.{asked_entry_json}
 use Rattle.rb_history.specs.Ids.{AskedEntry}
-use Rattle.rb_node.specs.declared.fault.NodeFault.TheVariants.{BadLine, WrongReply, OutOfMemory}
 use Rattle.rb_node.specs.Answers.{SeenNode}
 use Rattle.rb_node.specs.Asked.{SeenAsked, known_of}
 use Rattle.rb_node.specs.Replays.{IsNotNext}
-use Rattle.rb_node.proofs.Failed.{ended_by, no_value, other_fault}
-use Rattle.rb_node.proofs.Spelled.{beside, memory_fault, other_bytes, same_bytes, written_for}
+use Rattle.rb_node.proofs.Spelled.{beside, other_bytes, same_bytes, written_for}
 use Rattle.rb_node.proofs.node.Node.replay_spelled.Goals as goal
 
-pub returns-in_err-append_asked_line : goal.returns-in_err-append_asked_line
-returns-in_err-append_asked_line c =
-    let ended = ended_by c.from_residual.result OutOfMemory c.from_residual.ensures.1 in
-    record {
-      replayed = no_value c.from_residual.result _ c.from_residual.ensures.0;
-      bad = other_fault _ OutOfMemory BadLine ended refl;
-      wrong = other_fault _ OutOfMemory WrongReply ended refl;
-      refusals = memory_fault c.from_residual.result c.from_residual.ensures.1;
-    }
-
-pub returns-then-ne : goal.returns-then-ne
-returns-then-ne c =
+pub returns-then-ne-clause-bad : goal.returns-then-ne-clause-bad
+returns-then-ne-clause-bad c e =
     let old = c.args.self.now.site in
     let seen : c.self.inside.site ≡ old = ap (λ (v : SeenNode). v.site) c.self.view_is in
     let x : AskedEntry = record { id = c.args.id.now; entry = c.args.entry.now } in
     let written = written_for c.self.inside.site old c.self.inside.config c.me-me.result x c.clear.new.self.items
     c.append_asked_line.new.out.items seen c.self.invariant
-    (c.me-me.ensures ∙ ap (λ (y : SeenAsked). y.me) (sym seen)) c.clear.ensures.items c.in_ok-append_asked_line.ensures.ok in
-    record {
-      replayed = tt;
-      bad = λ e. (
-        λ unknown spelled. other_bytes c.as_slice.result.now c.args.line.now c.if-ne.ensures (c.as_slice.ensures.value
-            ∙ written ∙ sym spelled),
-        c.self.view_is,
-      );
-      wrong = other_fault _ BadLine WrongReply refl refl;
-      refusals = tt;
-    }
+    (c.me-me.ensures ∙ ap (λ (y : SeenAsked). y.me) (sym seen)) c.clear.ensures.items c.in_ok-append_asked_line.ensures.ok in (
+      λ unknown spelled. other_bytes c.as_slice.result.now c.args.line.now c.if-ne.ensures (c.as_slice.ensures.value
+          ∙ written ∙ sym spelled),
+      c.self.view_is,
+    )
 
 pub returns : goal.returns
 returns c =
@@ -57,5 +39,4 @@ returns c =
         b.1 ∙ c.self.view_is,
       );
       wrong = λ e. (spelled, subst (λ (y : SeenAsked). IsNotNext y x) seen (replay.ensures.wrong e));
-      refusals = replay.ensures.refusals;
     }

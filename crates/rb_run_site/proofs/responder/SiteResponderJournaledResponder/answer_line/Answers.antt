@@ -31,14 +31,14 @@ returns-in-Ok-extend-clause-answered g c =
     (c.deref.ensures.value ∙ lines ∙ ap (λ l. l ++ entries) c.clear.ensures.items))
     c.lines_are_single.ensures.entries c.read_events_fit.ensures a
 
-pub returns-in-Err-BadLine-clause-answered : goal.returns-in-Err-BadLine-clause-answered
-returns-in-Err-BadLine-clause-answered g c =
+pub returns-in-Err-Bad-clause-answered : goal.returns-in-Err-Bad-clause-answered
+returns-in-Err-Bad-clause-answered g c =
     let ok = subst IsConfigured c.config.ensures c.sites-sites.ensures.configured in
-    let bad = c.in-Err-BadLine.ensures.bad (ap Err c.in-Err-BadLine.field-0-is) in
+    let bad = c.in-Err-Bad.ensures.bad (ap Err c.in-Err-Bad.field-0-is) in
     on_ok_weaker c.append_bad_line.result
     (λ adds. bad_line g.M.Records.ALL c.args.self.now.node.site c.answer.new.self.site c.args.number adds.0 c.args.line.now
     c.args.text.now.items c.append_bad_line.new.out.items _ _ ok
     (may_have string_bytes c.reason_at_site-why.result adds.0 c.reason_at_site-why.ensures.plain adds.1)
     (short_line c.args.line.now c.requires.short) bad.0 bad.1 bad.2 (ap (λ (n : SeenNode). n.site) bad.3)
-    (adds.2 ∙ ap (λ l. l ++ line_of (bad_json (codes "line") c.args.number adds.0)) c.in-Err-BadLine.ensures.err.0) refl)
+    (adds.2 ∙ ap (λ l. l ++ line_of (bad_json (codes "line") c.args.number adds.0)) c.in-Err-Bad.ensures.err.0) refl)
     c.append_bad_line.ensures.ok
