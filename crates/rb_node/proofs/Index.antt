@@ -1,7 +1,6 @@
 -- The index of a history, as it grows.
 use Rattle.std.proofs.Common.{◌≡◌, ℕ, suc, ◌+◌, Bool, true, false, cond, List, [], ◌∷◌, ◌++◌, length, refl, sym, ap, ◌∙◌, arith}
 use Rattle.std.proofs.Common.{◌-◌, append_assoc, append-nil, drop, length-drop, take, take_all}
-use Rattle.std.specs.Prelude.{OnErr, OnOk, Result, Ok, Err}
 use Rattle.std.proofs.lemmas.List.{drop_at, length-map, map-append}
 use Rattle.rb_money.specs.Settings.{Settings}
 use Rattle.rb_site.specs.declared.entry.Entry.{Entry}
@@ -90,9 +89,3 @@ index_unchanging x e h =
     index_next x e
     ∙ ap (λ ms. index_of x ++ noted_of (length x.entries) (length (state_of x).ops) (length (state_of (next_site x e)).ops) ms)
     (sent_at_nothing x.settings (state_of x) e h) ∙ append-nil (index_of x)
-
--- the index stays if the site is as before, or after an event that has no note
-pub index_either : {A E : Type 0} (r : Result A E) (x new : SeenSite) (e : Event) (index : List SentEntry) → index ≡ index_of x
-    → changes_site x.settings (state_of x) e ≡ false → OnOk r (new ≡ next_site x e) → OnErr r (new ≡ x) → index ≡ index_of new
-index_either (Ok y) x new e index is none ok err = is ∙ sym (index_unchanging x e none) ∙ ap index_of (sym ok)
-index_either (Err y) x new e index is none ok err = is ∙ ap index_of (sym err)

@@ -25,15 +25,15 @@ use Rattle.rb_site.specs.declared.reply.Reply.TheVariants.{Refused}
 use Rattle.rb_site.specs.Events.{Makes, MakesAll, ModelSite, Outcome, Refuses, changes, is_full, outcome_of, reply_of}
 use Rattle.rb_site.specs.Events.{reply_to, sent_at, sent_by}
 use Rattle.rb_site.specs.Events.{unless_full}
-use Rattle.rb_site.specs.Seen.{SeenSite, entry, next_site, next_sites, state_of}
-use Rattle.rb_site.specs.Unchanging.{changes_site, next_if_changes, reply_if_changes}
+use Rattle.rb_site.specs.Seen.{SeenSite, entry, next_site, next_sites, state_of, stepped}
+use Rattle.rb_site.specs.Unchanging.{changes_site, reply_if_changes}
 use Rattle.rb_history.specs.Entries.{asked_entry_json, entry_json}
 use Rattle.rb_history.specs.Adds.{Adds}
 use Rattle.rb_history.proofs.Public.Appended.{both, front_of_sum, front_stays}
 use Rattle.rb_history.specs.Ids.{AskedEntry, is_refusal, may_be_asked}
 use Rattle.rb_node.specs.Answers.{entry_lines, is_kept, kept_events, line_of, reply_kept}
 use Rattle.rb_node.specs.Asked.{SeenAsked, asked_state, entries_alone, without_ids, with_id, with_more}
-use Rattle.rb_node.specs.Steps.{IsUnchanging, Notes, RecordsShort, Steps, StepsKept, if_short, without_id}
+use Rattle.rb_node.specs.Steps.{IsUnchanging, Notes, RecordsIf, RecordsShort, Steps, StepsKept, if_short, without_id}
 use Rattle.rb_node.proofs.Failed.{stayed}
 pub use Rattle.rb_node.proofs.NextSite.{me-next, next-free, next-full}
 
@@ -74,18 +74,21 @@ pub which : (old new : SeenAsked) (id : List ℕ) (xs ys : List Entry) → new �
 which old new id xs ys is more = append_cancel_left (without_ids old).entries xs ys
     (sym (more-alone old id xs) ∙ ap (λ (y : SeenAsked). (without_ids y).entries) (sym is) ∙ more)
 
--- the one of an event
-pub which-one : (old new : SeenAsked) (id : List ℕ) (e : Event) (xs : List Entry) → is_full old.settings (asked_state old) ≡ false
-    → new ≡ with_more old (map (with_id id) xs) → without_ids new ≡ next_site (without_ids old) e
-    → xs ≡ entry e (reply_to old.settings (asked_state old) e) ∷ []
-which-one old new id e xs free is after = which old new id xs _ is
-    (ap (λ (y : SeenSite). y.entries) (after ∙ next-free (without_ids old) e free))
+-- an event's entry more
+pub with_one : (x : SeenAsked) (id : List ℕ) (e : Event)
+    → without_ids (with_more x (with_id id (entry e (reply_to x.settings (asked_state x) e)) ∷ [])) ≡ stepped (without_ids x) e
+with_one x id e = ap with_entries (more-alone x id (entry e (reply_to x.settings (asked_state x) e) ∷ []))
+  where
+    with_entries : List Entry → SeenSite
+    with_entries ys = record (without_ids x) { entries = ys }
 
--- none
-which-none : (old new : SeenAsked) (id : List ℕ) (xs : List Entry) → new ≡ with_more old (map (with_id id) xs)
-    → without_ids new ≡ without_ids old → xs ≡ []
-which-none old new id xs is after = which old new id xs [] is
-    (ap (λ (y : SeenSite). y.entries) after ∙ sym (append-nil (without_ids old).entries))
+-- if the history isn't full, it is the site after the event
+recorded-next : (old new : SeenAsked) (id : List ℕ) (e : Event) (reply : Reply) → is_full old.settings (asked_state old) ≡ false
+    → new ≡ with_more old (with_id id (entry e reply) ∷ []) → reply ≡ reply_to old.settings (asked_state old) e
+    → without_ids new ≡ next_site (without_ids old) e
+recorded-next old new id e reply free is given =
+    ap without_ids is ∙ ap (λ r. without_ids (with_more old (with_id id (entry e r) ∷ []))) given
+    ∙ with_one old id e ∙ sym (next-free (without_ids old) e free)
 
 -- ---- entries that may have no id
 
@@ -134,26 +137,28 @@ unasked s t (AsOf a n) none = refl
 unasked s t (Statement a) none = refl
 
 -- so its entry has no id
-unchanging-unasked : (s : Settings) (t : ModelSite) (e : Event) (id : List ℕ) → is_full s t ≡ false → changes_site s t e ≡ false
-    → with_id id (entry e (reply_to s t e)) ≡ without_id (entry e (reply_to s t e))
-unchanging-unasked s t e id free none = with-unasked id (entry e (reply_to s t e))
-    (ap (λ b. may_be_asked (entry e (cond b (Refused HistoryFull) (reply_of s t.ops (outcome_of s t e))))) free ∙ unasked s t e none)
+no-id : (x : SeenAsked) (id : List ℕ) (y : Entry) → IsUnchanging x y → with_id id y ≡ without_id y
+no-id x id y is =
+    let s = x.settings in
+    let t = asked_state x in
+    with-unasked id y (ap (λ r. may_be_asked (entry y.event r)) is.reply
+    ∙ ap (λ b. may_be_asked (entry y.event (cond b (Refused HistoryFull) (reply_of s t.ops (outcome_of s t y.event))))) is.free
+    ∙ unasked s t y.event is.unchanging)
 
 -- ---- steps
 
 -- an event of no id was recorded
-pub recorded : (old new : SeenAsked) (e : Event) (reply : Reply) (xs : List Entry) (config : Settings) (me : ℕ) (entries after : List ℕ)
-    → is_full old.settings (asked_state old) ≡ false → new ≡ with_more old (map (with_id []) xs)
-    → without_ids new ≡ next_site (without_ids old) e → reply ≡ reply_to old.settings (asked_state old) e
+pub recorded : (old new : SeenAsked) (e : Event) (reply : Reply) (config : Settings) (me : ℕ) (entries after : List ℕ)
+    → is_full old.settings (asked_state old) ≡ false → new ≡ with_more old (with_id [] (entry e reply) ∷ [])
+    → reply ≡ reply_to old.settings (asked_state old) e
     → config ≡ old.settings → me ≡ old.me → after ≡ entries ++ line_of (entry_json config me (entry e reply))
     → Steps old new e reply entries after
-recorded old new e reply xs config me entries after free is next given same number added =
+recorded old new e reply config me entries after free is given same number added =
     let x = entry e reply in
-    let one : xs ≡ x ∷ [] = which-one old new [] e xs free is next ∙ ap (λ r. entry e r ∷ []) (sym given) in
     record {
-      site = next;
+      site = recorded-next old new [] e reply free is given;
       reply_is = given;
-      recorded_are = is ∙ ap (λ ys. with_more old (map (with_id []) ys)) one ∙ ap (λ y. with_more old (y ∷ [])) (with-none x);
+      recorded_are = is ∙ ap (λ y. with_more old (y ∷ [])) (with-none x);
       entries_are = added ∙ ap (λ s. entries ++ line_of (entry_json s me x)) same
           ∙ ap (λ n. entries ++ line_of (entry_json old.settings n x)) number
           ∙ ap (λ l. entries ++ l) (sym (append-nil (line_of (entry_json old.settings old.me x))));
@@ -178,67 +183,62 @@ step-full old id e entries full = record {
 
 -- what is left out if only changes are recorded stays
 stays-out : (x : SeenSite) (e : Event) → (changes_site x.settings (state_of x) e && not (is_full x.settings (state_of x))) ≡ false
-    → (next_if_changes x e ≡ x) × (next_sites x (kept_events false x e) ≡ x)
+    → next_sites x (kept_events false x e) ≡ x
 stays-out x e out = by (changes_site x.settings (state_of x) e) (is_full x.settings (state_of x)) refl out
   where
     by : (b full : Bool) → is_full x.settings (state_of x) ≡ full → (b && not full) ≡ false
-        → (cond b (next_site x e) x ≡ x) × (next_sites x (cond (b || false) (e ∷ []) []) ≡ x)
-    by true true q h = (next-full x e q, next-full x e q)
+        → next_sites x (cond (b || false) (e ∷ []) []) ≡ x
+    by true true q h = next-full x e q
     by true false q h = absurd (cc)
-    by false full q h = (refl, refl)
+    by false full q h = refl
 
 -- an event that isn't recorded, if only changes are
-step-left-out : (old new : SeenAsked) (id : List ℕ) (e : Event) (reply : Reply) (xs : List Entry) (entries : List ℕ)
-    → (changes_site old.settings (asked_state old) e && not (is_full old.settings (asked_state old))) ≡ false
-    → new ≡ with_more old (map (with_id id) xs) → without_ids new ≡ next_if_changes (without_ids old) e
-    → reply ≡ reply_if_changes old.settings (asked_state old) e → StepsKept false old new id e reply entries entries
-step-left-out old new id e reply xs entries out is next given =
-    let stays = stays-out (without_ids old) e out in
-    record {
-      site = next ∙ stays.0 ∙ sym stays.1;
-      reply_is = given;
-      recorded = xs;
-      recorded_are = is;
-      entries_are = sym (append-nil entries)
-          ∙ ap (λ ys. entries ++ entry_lines old.settings old.me (map (with_id id) ys))
-          (sym (which-none old new id xs is (next ∙ stays.0)));
-    }
+step-left-out : (old mid : SeenAsked) (id : List ℕ) (e : Event) (reply : Reply) (entries : List ℕ)
+    → RecordsIf old mid id e reply false → StepsKept false old mid id e reply entries entries
+step-left-out old mid id e reply entries h = record {
+  site = ap without_ids (h.site ∙ sym (more-none old)) ∙ sym (stays-out (without_ids old) e (sym h.recorded_is));
+  reply_is = h.reply_is;
+  recorded = [];
+  recorded_are = h.site;
+  entries_are = sym (append-nil entries);
+}
 
--- if an event changes the site, and the history isn't full, it is recorded
+-- if an event changes the site, it is recorded
 next-changed : (all : Bool) (x : SeenSite) (e : Event) → changes_site x.settings (state_of x) e ≡ true
-    → (next_if_changes x e ≡ next_site x e) × (next_sites x (kept_events all x e) ≡ next_site x e)
+    → next_sites x (kept_events all x e) ≡ next_site x e
 next-changed all x e changed = by (changes_site x.settings (state_of x) e) _ changed
   where
-    by : (b rest : Bool) → b ≡ true → (cond b (next_site x e) x ≡ next_site x e)
-        × (next_sites x (cond (b || rest) (e ∷ []) []) ≡ next_site x e)
-    by true rest q = (refl, refl)
+    by : (b rest : Bool) → b ≡ true → next_sites x (cond (b || rest) (e ∷ []) []) ≡ next_site x e
+    by true rest q = refl
     by false rest q = absurd (cc)
 
+-- an event that changes the site was recorded at a history that isn't full
+record Changed (old : SeenAsked) (e : Event) (reply : Reply) : Type 0 where
+  changed : changes_site old.settings (asked_state old) e ≡ true
+  free : is_full old.settings (asked_state old) ≡ false
+  given : reply ≡ reply_to old.settings (asked_state old) e
+
+changed : (old mid : SeenAsked) (id : List ℕ) (e : Event) (reply : Reply) → RecordsIf old mid id e reply true → Changed old e reply
+changed old mid id e reply h =
+    let parts = and_parts (changes_site old.settings (asked_state old) e) _ (sym h.recorded_is) in
+    let free : is_full old.settings (asked_state old) ≡ false = not-true _ parts.1 in
+    record { changed = parts.0; free = free; given = h.reply_is ∙ reply-free old.settings (asked_state old) e free }
+
 -- an event that changes the site
-step-changed : (all : Bool) (old new : SeenAsked) (id : List ℕ) (e : Event) (reply : Reply) (xs : List Entry) (config : Settings) (me : ℕ)
-    (entries after : List ℕ) → (changes_site old.settings (asked_state old) e && not (is_full old.settings (asked_state old))) ≡ true
-    → new ≡ with_more old (map (with_id id) xs) → without_ids new ≡ next_if_changes (without_ids old) e
-    → reply ≡ reply_if_changes old.settings (asked_state old) e → config ≡ old.settings → me ≡ old.me
-    → after ≡ entries ++ line_of (asked_entry_json config me (with_id id (entry e reply)))
-    → StepsKept all old new id e reply entries after
-step-changed all old new id e reply xs config me entries after both is next given same number added =
+step-changed : (all : Bool) (old mid : SeenAsked) (id : List ℕ) (e : Event) (reply : Reply) (entries after : List ℕ)
+    → RecordsIf old mid id e reply true → after ≡ entries ++ line_of (asked_entry_json mid.settings mid.me (with_id id (entry e reply)))
+    → StepsKept all old mid id e reply entries after
+step-changed all old mid id e reply entries after h added =
     let s = old.settings in
-    let t = asked_state old in
-    let parts = and_parts (changes_site s t e) (not (is_full s t)) both in
-    let free : is_full s t ≡ false = not-true (is_full s t) parts.1 in
-    let here = next-changed all (without_ids old) e parts.0 in
     let x = with_id id (entry e reply) in
-    let one : xs ≡ entry e reply ∷ [] = which-one old new id e xs free is (next ∙ here.0)
-    ∙ ap (λ r. entry e r ∷ []) (sym (given ∙ reply-free s t e free)) in
+    let here = changed old mid id e reply h in
     record {
-      site = next ∙ here.0 ∙ sym here.1;
-      reply_is = given ∙ reply-free s t e free ∙ sym (kept-free all (without_ids old) e free);
-      recorded = xs;
-      recorded_are = is;
-      entries_are = added ∙ ap (λ k. entries ++ line_of (asked_entry_json k me x)) same
-          ∙ ap (λ n. entries ++ line_of (asked_entry_json s n x)) number
-          ∙ ap (λ l. entries ++ l) (sym (append-nil (line_of (asked_entry_json s old.me x))))
-          ∙ ap (λ ys. entries ++ entry_lines s old.me (map (with_id id) ys)) (sym one);
+      site = recorded-next old mid id e reply here.free h.site here.given ∙ sym (next-changed all (without_ids old) e here.changed);
+      reply_is = here.given ∙ sym (kept-free all (without_ids old) e here.free);
+      recorded = entry e reply ∷ [];
+      recorded_are = h.site;
+      entries_are = added ∙ ap (λ (y : SeenAsked). entries ++ line_of (asked_entry_json y.settings y.me x)) h.site
+          ∙ ap (λ l. entries ++ l) (sym (append-nil (line_of (asked_entry_json s old.me x))));
     }
 
 -- what changes nothing, of what isn't recorded
@@ -253,20 +253,16 @@ record Unchanged (old mid : SeenAsked) (x : Entry) : Type 0 where
   unchanging : IsUnchanging old x
 
 -- so it is if the event wasn't recorded and the history isn't full
-unchanged : (old mid : SeenAsked) (id : List ℕ) (e : Event) (reply : Reply) (xs : List Entry)
-    → (changes_site old.settings (asked_state old) e && not (is_full old.settings (asked_state old))) ≡ false
-    → is_full old.settings (asked_state old) ≡ false → mid ≡ with_more old (map (with_id id) xs)
-    → without_ids mid ≡ next_if_changes (without_ids old) e → reply ≡ reply_if_changes old.settings (asked_state old) e
-    → Unchanged old mid (entry e reply)
-unchanged old mid id e reply xs out free is next given =
-    let s = old.settings in
-    let t = asked_state old in
-    let none : changes_site s t e ≡ false = no-change (changes_site s t e) (is_full s t) free out in
-    let stays : without_ids mid ≡ without_ids old = next ∙ ap (λ b. cond b (next_site (without_ids old) e) (without_ids old)) none in
-    record {
-      same = is ∙ ap (λ ys. with_more old (map (with_id id) ys)) (which-none old mid id xs is stays) ∙ sym (more-none old);
-      unchanging = record { free = free; unchanging = none; reply = given ∙ reply-free s t e free };
-    }
+unchanged : (old mid : SeenAsked) (id : List ℕ) (e : Event) (reply : Reply) → RecordsIf old mid id e reply false
+    → is_full old.settings (asked_state old) ≡ false → Unchanged old mid (entry e reply)
+unchanged old mid id e reply h free = record {
+  same = h.site ∙ sym (more-none old);
+  unchanging = record {
+    free = free;
+    unchanging = no-change (changes_site old.settings (asked_state old) e) _ free (sym h.recorded_is);
+    reply = h.reply_is ∙ reply-free old.settings (asked_state old) e free;
+  };
+}
 
 -- an event that changes nothing, if all are recorded
 step-unchanging : (old mid new : SeenAsked) (id : List ℕ) (e : Event) (reply : Reply) (entries after : List ℕ)
@@ -302,8 +298,7 @@ step-unchanging old mid new id e reply entries after is short = record {
     reply_is = is.unchanging.reply
 
     tagged : without_id x ≡ with_id id x
-    tagged = ap (λ r. without_id (entry e r)) reply_is ∙ sym (unchanging-unasked s t e id free none)
-        ∙ ap (λ r. with_id id (entry e r)) (sym reply_is)
+    tagged = sym (no-id old id x is.unchanging)
 
     long : Bool
     long = is_long (compact_text (entry_json s old.me x))
@@ -364,38 +359,49 @@ short-recorded old new x config me entries added after now is number line short 
 -- ---- what follows an event
 
 -- if all are recorded and none is refused, the history isn't full
-not-full : (all full : Bool) → false ≡ (all && full) → all ≡ true → full ≡ false
+pub not-full : (all full : Bool) → false ≡ (all && full) → all ≡ true → full ≡ false
 not-full true full spare each = sym spare
 not-full false full spare each = absurd (cc)
 
--- an event that wasn't recorded, though all are, changes nothing
-pub still-unchanging : (all recorded : Bool) (old mid : SeenAsked) (id : List ℕ) (e : Event) (reply : Reply) (xs : List Entry)
-    → recorded ≡ (changes_site old.settings (asked_state old) e && not (is_full old.settings (asked_state old)))
-    → false ≡ (all && is_full old.settings (asked_state old)) → mid ≡ with_more old (map (with_id id) xs)
-    → without_ids mid ≡ next_if_changes (without_ids old) e → reply ≡ reply_if_changes old.settings (asked_state old) e
-    → recorded ≡ false → all ≡ true → IsUnchanging mid (entry e reply)
-still-unchanging all recorded old mid id e reply xs changed spare is next given out each =
-    let here = unchanged old mid id e reply xs (sym changed ∙ out)
-    (not-full all (is_full old.settings (asked_state old)) spare each) is next given in
-    subst (λ y. IsUnchanging y (entry e reply)) (sym here.same) here.unchanging
+-- an event that wasn't recorded, though the history isn't full, changes nothing
+pub still-unchanging : (recorded : Bool) (old mid : SeenAsked) (id : List ℕ) (e : Event) (reply : Reply)
+    → RecordsIf old mid id e reply recorded → is_full old.settings (asked_state old) ≡ false → recorded ≡ false
+    → IsUnchanging mid (entry e reply)
+still-unchanging true old mid id e reply h free out = absurd (cc)
+still-unchanging false old mid id e reply h free out =
+    let here = unchanged old mid id e reply h free in subst (λ y. IsUnchanging y (entry e reply)) (sym here.same) here.unchanging
+
+-- an event that was recorded
+pub recorded-now : (recorded : Bool) (old mid : SeenAsked) (id : List ℕ) (e : Event) (reply : Reply)
+    → RecordsIf old mid id e reply recorded → true ≡ recorded → (mid ≡ with_more old (with_id id (entry e reply) ∷ []))
+    × (reply ≡ reply_to old.settings (asked_state old) e)
+recorded-now true old mid id e reply h is = (h.site, (changed old mid id e reply h).given)
+recorded-now false old mid id e reply h is = absurd (cc)
+
+-- and one that wasn't, and is recorded then without an id
+pub recorded-then : (recorded : Bool) (old mid new : SeenAsked) (id : List ℕ) (e : Event) (reply : Reply)
+    → RecordsIf old mid id e reply recorded → is_full old.settings (asked_state old) ≡ false → false ≡ recorded
+    → new ≡ with_more mid (without_id (entry e reply) ∷ []) → (new ≡ with_more old (with_id id (entry e reply) ∷ []))
+    × (reply ≡ reply_to old.settings (asked_state old) e)
+recorded-then true old mid new id e reply h free out now = absurd (cc)
+recorded-then false old mid new id e reply h free out now =
+    let here = unchanged old mid id e reply h free in (
+      now ∙ ap (λ y. with_more y (without_id (entry e reply) ∷ [])) here.same
+          ∙ ap (λ y. with_more old (y ∷ [])) (sym (no-id old id (entry e reply) here.unchanging)),
+      here.unchanging.reply,
+    )
 
 -- a step, from what follows its event
-pub stepped-by : (all recorded : Bool) (old mid new : SeenAsked) (id : List ℕ) (e : Event) (reply : Reply) (xs : List Entry)
-    (entries after : List ℕ)
-    → recorded ≡ (changes_site old.settings (asked_state old) e && not (is_full old.settings (asked_state old)))
-    → false ≡ (all && is_full old.settings (asked_state old)) → mid ≡ with_more old (map (with_id id) xs)
-    → without_ids mid ≡ next_if_changes (without_ids old) e → reply ≡ reply_if_changes old.settings (asked_state old) e
+pub stepped-by : (all recorded : Bool) (old mid new : SeenAsked) (id : List ℕ) (e : Event) (reply : Reply) (entries after : List ℕ)
+    → RecordsIf old mid id e reply recorded → false ≡ (all && is_full old.settings (asked_state old))
     → Notes recorded all mid new id (entry e reply) entries after → StepsKept all old new id e reply entries after
-stepped-by all true old mid new id e reply xs entries after changed spare is next given noted =
-    subst (λ y. StepsKept all old y id e reply entries after) (sym noted.0)
-    (step-changed all old mid id e reply xs mid.settings mid.me entries after (sym changed) is next given
-    (ap (λ (y : SeenAsked). y.settings) is) (ap (λ (y : SeenAsked). y.me) is) noted.1)
-stepped-by true false old mid new id e reply xs entries after changed spare is next given short =
-    step-unchanging old mid new id e reply entries after (unchanged old mid id e reply xs (sym changed) (sym spare) is next given) short
-stepped-by false false old mid new id e reply xs entries after changed spare is next given noted =
+stepped-by all true old mid new id e reply entries after h spare noted =
+    subst (λ y. StepsKept all old y id e reply entries after) (sym noted.0) (step-changed all old mid id e reply entries after h noted.1)
+stepped-by true false old mid new id e reply entries after h spare short =
+    step-unchanging old mid new id e reply entries after (unchanged old mid id e reply h (sym spare)) short
+stepped-by false false old mid new id e reply entries after h spare noted =
     subst (λ y. StepsKept false old y id e reply entries after) (sym noted.0)
-    (subst (λ l. StepsKept false old mid id e reply entries l) (sym noted.1)
-    (step-left-out old mid id e reply xs entries (sym changed) is next given))
+    (subst (λ l. StepsKept false old mid id e reply entries l) (sym noted.1) (step-left-out old mid id e reply entries h))
 
 -- if all are recorded and the history is full, each is refused
 pub refused-by : (all : Bool) (old : SeenAsked) (id : List ℕ) (e : Event) (entries : List ℕ)

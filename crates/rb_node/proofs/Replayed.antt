@@ -24,7 +24,7 @@ use Rattle.rb_node.specs.Answers.{AreReadyInTurn, IsSiteAnswer, asked_event_on, 
 use Rattle.rb_node.specs.Asked.{SeenAsked, asked_state, known_of, without_ids, with_id, with_more}
 use Rattle.rb_node.specs.Laws.{AnswersAreReplayed, AreReplayed, IsRecorded}
 use Rattle.rb_node.specs.Replays.{IsReadBack, IsReplayedAs}
-use Rattle.rb_node.proofs.Recorded.{more-alone, more-none, next-free, next-full, which}
+use Rattle.rb_node.proofs.Recorded.{more-none, next-free, next-full, which, with_one}
 
 -- the laws of lines
 pub record LineLaws : Type 0 where
@@ -149,14 +149,6 @@ entry_read read lines s me x configured within fits asked =
     let line = compact_text (asked_entry_json s me x) in
     ap (λ b. cond b (asked_entry_of_line s line) None) (lines s configured me x (id_or_none x asked)).utf8
     ∙ read s configured me x within fits.0 fits.1 asked
-
--- a site with an entry more, at these ids
-with_one : (x : SeenAsked) (id : List ℕ) (e : Event)
-    → without_ids (with_more x (with_id id (entry e (reply_to x.settings (asked_state x) e)) ∷ [])) ≡ stepped (without_ids x) e
-with_one x id e = ap with_entries (more-alone x id (entry e (reply_to x.settings (asked_state x) e) ∷ []))
-  where
-    with_entries : List Entry → SeenSite
-    with_entries ys = record (without_ids x) { entries = ys }
 
 -- an event's entry is replayed if its id isn't known
 replayed_one : (x : SeenAsked) (id : List ℕ) (e : Event) → is_full x.settings (asked_state x) ≡ false

@@ -2,6 +2,7 @@
 use Rattle.std.proofs.Common.{◌≡◌, ◌≢◌, ◌⊎◌, inl, inr, ℕ, ◌-◌, Bool, true, false, cond, not, ◌&&◌, nat_le, List, [], ◌∷◌, ◌++◌, length, map}
 use Rattle.std.proofs.Common.{take, drop, refl, sym, ap, subst, ◌∙◌, append_assoc, append-nil, Bor}
 use Rattle.std.specs.Prelude.{bytes_eq, IfSome, MatchOption, OnOk, option_copied, Option, Some, None, Result, Ok, Err}
+use Rattle.std.proofs.lemmas.Bool.{and_parts, not-true}
 use Rattle.std.specs.Cmp.Lexicographic.{nat_list_eq_equiv}
 use Rattle.std.specs.Map.{lookup}
 use Rattle.std.specs.Result.{IsOk}
@@ -25,10 +26,10 @@ use Rattle.rb_site.specs.declared.message.Message.TheVariants.{Shadow as ShadowM
 use Rattle.rb_site.specs.declared.reply.Reply.{Reply}
 use Rattle.rb_site.specs.declared.reply.Reply.TheVariants.{Names as NamesMade, Refused}
 use Rattle.rb_site.specs.Events.{ModelSite, Outcome, Makes, MakesAll, Refuses, after_event, after_events, changed, first_site, is_full}
-use Rattle.rb_site.specs.Events.{outcome_of, reply_of, reply_to, sent_at, sent_by, unless_full}
-use Rattle.rb_site.specs.Unchanging.{changes_site, next_if_changes, reply_if_changes}
+use Rattle.rb_site.specs.Events.{outcome_of, reply_of, reply_to, sent_at, sent_by}
+use Rattle.rb_site.specs.Unchanging.{changes_site, next_if_changes}
 use Rattle.rb_site.specs.Histories.{events_of}
-use Rattle.rb_site.specs.Seen.{Replays, SeenSite, entry, first_seen, next_site, state_of, stepped}
+use Rattle.rb_site.specs.Seen.{Replays, SeenSite, entry, next_site, state_of, stepped}
 use Rattle.rb_site.proofs.Public.Seen.{replays-push, settings-next, state-stepped}
 use Rattle.rb_history.specs.Fits.{Each}
 use Rattle.rb_history.specs.Ids.{AskedEntry, is_refusal, may_be_asked}
@@ -244,10 +245,6 @@ not_found x asked kept view id has is at none =
     unknown_kept (state_of (without_ids (seen [] x asked))).ops (find_request id kept) (known_of (seen [] x asked) id)
     (kept_as_known x asked kept id has is) (ap (λ (v : SeenAsked). known_of v id) at ∙ none)
 
--- before any event
-pub keep_first : (s : Settings) (me : ℕ) → IsKeeping (first_seen s me) [] []
-keep_first s me = record { entries = refl; replays = tt; requests = refl }
-
 -- the requests with an entry more behind them
 kept_behind : (s : Settings) (t : ModelSite) (xs : List AskedEntry) (x : AskedEntry) →
     let u = after_events s t (events_of (entries_alone xs)) in
@@ -350,20 +347,6 @@ next_seen {bank} x new asked after kept kept_after view id e reply at h =
     ∙ ap (λ n. let v : SeenAsked = record { settings = x.settings; bank = bank; me = n; asked = after } in v) (me-next x e)
     ∙ ap (λ l. seen bank x l) h.entry_noted ∙ ap (λ (v : SeenAsked). with_more v (with_id id (entry e reply) ∷ [])) at
 
--- and without its ids it is the site after the event
-pub next_alone : {bank : List ℕ} (x new : SeenSite) (asked after : List AskedEntry) (kept kept_after : Requests)
-    (view : SeenAsked) (id : List ℕ)
-    (e : Event) (reply : Reply) → IsKeeping x asked kept → seen bank x asked ≡ view
-    → IsNotedAs x new asked after kept kept_after id e reply → without_ids (seen bank new after) ≡ next_site (without_ids view) e
-next_alone x new asked after kept kept_after view id e reply is at h =
-    same_site new after kept_after (still_keeps x new asked after kept kept_after id e reply is h) ∙ h.site
-    ∙ ap (λ (z : SeenSite). next_site z e) (sym (same_site x asked kept is) ∙ ap (λ (v : SeenAsked). without_ids v) at)
-
--- a site with no entry more
-pub same_seen : (view : SeenAsked) → view ≡ with_more view []
-same_seen view = ap (λ l. let v : SeenAsked = record { settings = view.settings; bank = view.bank; me = view.me; asked = l } in v)
-    (sym (append-nil view.asked))
-
 -- a request that is noted isn't kept yet
 pub copies_new : (copies : Option (Vec ℕ Global × Event)) (id : List ℕ) (e : Event) (kept : Requests) → AreCopies copies id e
     → find_request id kept ≡ None → IfSome copies (λ p. find_request p.0.items kept ≡ None)
@@ -378,31 +361,15 @@ copies_of_id (Some p) id e is f = f is.0
 
 -- ---- an event that may be recorded or not
 
--- both were so
-both_so : (a b : Bool) → (a && not b) ≡ true → (a ≡ true) × (b ≡ false)
-both_so true true h = absurd (cc)
-both_so true false h = (refl, refl)
-both_so false b h = absurd (cc)
-
 -- an event that is recorded finds spare capacity
 pub free_if_recorded : (x : SeenSite) (e : Event) → (changes_site x.settings (state_of x) e && not (is_full x.settings (state_of x))) ≡ true
     → is_full x.settings (state_of x) ≡ false
-free_if_recorded x e h = (both_so (changes_site x.settings (state_of x) e) (is_full x.settings (state_of x)) h).1
+free_if_recorded x e h = not-true (is_full x.settings (state_of x)) (and_parts (changes_site x.settings (state_of x) e) _ h).1
 
 -- and the site after it has its entry
 pub next_if_recorded : (x : SeenSite) (e : Event) → (changes_site x.settings (state_of x) e && not (is_full x.settings (state_of x))) ≡ true
     → next_if_changes x e ≡ next_site x e
-next_if_recorded x e h =
-    ap (λ b. cond b (next_site x e) x) (both_so (changes_site x.settings (state_of x) e) (is_full x.settings (state_of x)) h).0
-
--- with the reply that it gives there
-pub reply_if_recorded : (x : SeenSite) (e : Event) → (changes_site x.settings (state_of x) e && not
-    (is_full x.settings (state_of x))) ≡ true
-    → reply_if_changes x.settings (state_of x) e ≡ reply_to x.settings (state_of x) e
-reply_if_recorded x e h =
-    let free = free_if_recorded x e h in
-    ap (λ b. reply_of x.settings (state_of x).ops (unless_full b (outcome_of x.settings (state_of x) e))) free
-    ∙ sym (ap (λ b. cond b (Refused HistoryFull) (reply_of x.settings (state_of x).ops (outcome_of x.settings (state_of x) e))) free)
+next_if_recorded x e h = ap (λ b. cond b (next_site x e) x) (and_parts (changes_site x.settings (state_of x) e) _ h).0
 
 -- one that isn't recorded leaves the site as it was
 pub next_unrecorded : (x : SeenSite) (e : Event) → (changes_site x.settings (state_of x) e && not (is_full x.settings (state_of x))) ≡ false
@@ -413,16 +380,6 @@ next_unrecorded x e h = by (changes_site x.settings (state_of x) e) (is_full x.s
     by true true q = refl
     by true false q = absurd (cc)
     by false b q = refl
-
--- ---- an entry without an id
-
--- an entry of no id
-pub no_id : (x : Entry) → with_id [] x ≡ record { id = []; entry = x }
-no_id x = by (may_be_asked x)
-  where
-    by : (m : Bool) → (let y : AskedEntry = record { id = cond m [] []; entry = x } in y) ≡ record { id = []; entry = x }
-    by true = refl
-    by false = refl
 
 -- ---- the map
 

@@ -1,24 +1,23 @@
 -- An entry, replayed from its line.
 use Rattle.std.proofs.Common.{◌≡◌, ◌≢◌, ◌++◌, ℕ, Bool, true, false, cond, not, List, [], ◌∷◌, inl, inr, refl, sym, ap, subst, ◌∙◌}
-use Rattle.std.specs.Prelude.{map, is_some, Option, Some, None, MatchOption, Result, Ok, Err, OnOk}
+use Rattle.std.specs.Prelude.{is_some, Option, Some, None, MatchOption, Result, Ok, Err, OnOk}
 use Rattle.std.specs.Str.{is_utf8}
 use Rattle.std.specs.Cmp.Lexicographic.{pointwise}
 use lib.Dec.{eqb}
 use lib.Pointwise.{bytes_decides}
 use Rattle.serde_json.specs.Written.{compact_text}
 use Rattle.rb_money.specs.Settings.{Settings}
-use Rattle.rb_site.specs.declared.entry.Entry.{Entry}
+use Rattle.rb_site.specs.declared.reply.Reply.{Reply}
 use Rattle.rb_site.specs.Events.{is_full, reply_to, sent_at}
-use Rattle.rb_site.specs.Seen.{entry, next_site}
+use Rattle.rb_site.specs.Seen.{entry}
 use Rattle.rb_history.specs.Entries.{asked_entry_json, asked_entry_of_line, asked_entry_on}
 use Rattle.rb_history.specs.Fits.{ReadEntriesFit}
 use Rattle.rb_history.specs.Ids.{AskedEntry, IsAsked, may_be_asked}
 use Rattle.rb_node.specs.declared.known_request.KnownRequest.{KnownRequest}
 use Rattle.rb_node.specs.Answers.{SeenNode}
-use Rattle.rb_node.specs.Asked.{SeenAsked, asked_state, known_of, without_ids, with_id, with_more}
+use Rattle.rb_node.specs.Asked.{SeenAsked, asked_state, known_of, with_id, with_more}
 use Rattle.rb_node.specs.Kept.{IsKeptAs}
 use Rattle.rb_node.specs.Replays.{IsReadBack, IsReplayedAs}
-use Rattle.rb_node.proofs.Recorded.{which-one}
 
 -- ---- lines
 
@@ -118,18 +117,16 @@ tagged x (inr is) = ap (λ b. with_the (cond b x.id [])) is.1
 -- ---- replays
 
 -- an entry was replayed: it was recorded with its id, and the site gave its reply
-pub replayed_entry : (old : SeenAsked) (new : SeenNode) (x : AskedEntry) (ys : List Entry) → IsAsked x
+pub replayed_entry : (old : SeenAsked) (new : SeenNode) (x : AskedEntry) (reply : Reply) → IsAsked x
     → is_full old.settings (asked_state old) ≡ false → known_of old x.id ≡ None
-    → new.site ≡ with_more old (map (with_id x.id) ys) → without_ids new.site ≡ next_site (without_ids old) x.entry.event
-    → x.entry.reply ≡ reply_to old.settings (asked_state old) x.entry.event
+    → new.site ≡ with_more old (with_id x.id (entry x.entry.event reply) ∷ [])
+    → reply ≡ reply_to old.settings (asked_state old) x.entry.event → reply ≡ x.entry.reply
     → new.sent ≡ sent_at old.settings (asked_state old) x.entry.event → IsReplayedAs old new x
-replayed_entry old new x ys asked free unknown is next reply sent = record {
+replayed_entry old new x reply asked free unknown is given same sent = record {
   free = free;
   unknown = unknown;
-  reply = reply;
-  site = is ∙ ap (λ l. with_more old (map (with_id x.id) l)) (which-one old new.site x.id x.entry.event ys free is next)
-      ∙ ap (λ r. with_more old (with_id x.id (entry x.entry.event r) ∷ [])) (sym reply)
-      ∙ ap (λ y. with_more old (y ∷ [])) (tagged x asked);
+  reply = sym same ∙ given;
+  site = is ∙ ap (λ r. with_more old (with_id x.id (entry x.entry.event r) ∷ [])) same ∙ ap (λ y. with_more old (y ∷ [])) (tagged x asked);
   sent = sent;
 }
 

@@ -1,5 +1,5 @@
 -- Steps of a site with the lines of its entries, between two buffers.
-use Rattle.std.specs.Prelude.{◌≡◌, ◌≢◌, ℕ, Bool, true, false, if◌then◌else◌, List, [], ◌∷◌, ◌++◌, map, Some, None}
+use Rattle.std.specs.Prelude.{◌≡◌, ◌≢◌, ℕ, Bool, true, false, not, ◌&&◌, if◌then◌else◌, List, [], ◌∷◌, ◌++◌, map, Some, None}
 use Rattle.serde_json.specs.View.{items_of}
 use Rattle.serde_json.specs.Written.{compact_text, items_text}
 use Rattle.rb_lines.specs.Lines.{is_long}
@@ -11,7 +11,7 @@ use Rattle.rb_site.specs.declared.reply.Reply.{Reply}
 use Rattle.rb_site.specs.declared.event.Event.TheVariants.{Apply}
 use Rattle.rb_site.specs.Events.{after_events, is_full, replies_to_events, reply_to, sent_at}
 use Rattle.rb_site.specs.Seen.{SeenSite, entry, next_site, next_sites, state_of}
-use Rattle.rb_site.specs.Unchanging.{changes_site}
+use Rattle.rb_site.specs.Unchanging.{changes_site, reply_if_changes}
 use Rattle.rb_history.specs.Entries.{asked_entry_json, entry_json}
 use Rattle.rb_history.specs.Ids.{AskedEntry, AskedEvent}
 use Rattle.rb_history.specs.Replies.{reply_json}
@@ -22,6 +22,12 @@ use Rattle.rb_node.specs.Asked.{Known, SeenAsked, asked_state, known_of, without
 -- an entry without an id
 abbrev pub without_id : Entry → AskedEntry
 without_id x = record { id = []; entry = x }
+
+-- one event with its id, which is recorded, with its reply, if it changes the site and the history isn't full
+pub record RecordsIf (old new : SeenAsked) (id : List ℕ) (e : Event) (reply : Reply) (recorded : Bool) : Type 0 where
+  pub recorded_is : recorded ≡ (changes_site old.settings (asked_state old) e && not (is_full old.settings (asked_state old)))
+  pub reply_is : reply ≡ reply_if_changes old.settings (asked_state old) e
+  pub site : new ≡ with_more old (if recorded then with_id id (entry e reply) ∷ [] else [])
 
 -- one event of no id, which is recorded: the site after it, its reply, and the line of its entry behind those before
 pub record Steps (old new : SeenAsked) (e : Event) (reply : Reply) (entries after : List ℕ) : Type 0 where

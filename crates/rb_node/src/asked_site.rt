@@ -1,42 +1,47 @@
-//! A site whose entries may have ids, by which requests are found that were made before. The ids of all entries are in
-//! a list of which nothing is kept in memory, so that contracts speak of entries alone; a map from ids to requests is
-//! what runs, and the invariant ties it to the list. Whatever may fail comes before the event: an id is noted without
+//! A site that keeps no history, but what is asked for again: the requests that were made by an id, and the messages of
+//! its entries.
+//!
+//! The entries with their ids are in a list of which nothing is kept in memory, so that contracts speak of entries
+//! alone. What runs is a map from ids to requests, and an index of messages: the operations that the site made are in
+//! its ledger, each behind those that were applied before it, so the index says which they are, and it keeps the token's
+//! messages. The invariant ties both to the list. Whatever may fail comes before the event, which is noted without
 //! memory.
-ghost use Rattle.std.specs.Prelude.{◌≡◌, ◌<◌, ◌++◌, ◌∷◌, ◌&&◌, [], not, List, ℕ, None, Some, IfOk, OnErr, OnOk, map};
-ghost use Rattle.std.specs.Prelude.{MatchOption, false};
-ghost use Rattle.rb_site.specs.declared.entry.Entry.{Entry as TheEntry};
-ghost use Rattle.rb_site.specs.Events.{is_full, reply_to, sent_at};
-ghost use Rattle.rb_site.specs.Seen.{next_site};
-ghost use Rattle.rb_site.specs.Unchanging.{changes_site, next_if_changes, reply_if_changes};
-ghost use Rattle.rb_history.specs.Ids.{AskedEntry};
+ghost use Rattle.std.specs.Prelude.{◌≡◌, ◌<◌, ◌++◌, ◌∷◌, [], None, IfOk, OnErr, OnOk, MatchOption, false, length};
+ghost use Rattle.rb_site.specs.Events.{first_site, is_full, reply_to, sent_at};
+ghost use Rattle.rb_site.specs.Seen.{entry};
+ghost use Rattle.rb_site.specs.Unchanging.{changes_site};
 ghost use Rattle.rb_node.specs.Asked.{asked_state, first_asked, known_of, without_ids, with_id, with_more};
+ghost use Rattle.rb_node.specs.Index.{lines_again};
 ghost use Rattle.rb_node.specs.Kept.{IsKeptAs};
+ghost use Rattle.rb_node.specs.Resends.{resent, resent_count};
+ghost use Rattle.rb_node.specs.Steps.{RecordsIf, without_id};
 
 use crate::erased_asked::{ErasedAsked, note_entry};
-use crate::indexed_site::IndexedSite;
 use crate::known_request::{KnownRequest, copy_asked, note_request, request_of, reserve_request};
+use crate::sent_entry::{SentEntry, note_sent};
 use indexmap::IndexMap;
 use rb_history::{BankName, RequestId};
 use rb_kit::reserve_one;
-use rb_money::{Config, Refusal};
-use rb_site::{Event, Message, Reply};
+use rb_money::Config;
+use rb_site::{ErasedEntry, Event, Message, Reply, Site};
 use std::alloc::{AllocError, Global};
 use std::marker::Model;
 
-/// A site, its bank's name, the ids of its entries, and the requests that were made by an id. Clients see the site, the
-/// name and the ids.
+/// A site, its bank's name, the ids of its entries, the requests that were made by an id, and the index of messages.
+/// Clients see the site, the name and the ids.
 pub struct AskedSite {
     alloc: Global,
     bank: BankName,
-    site: IndexedSite,
+    site: Site<ErasedEntry>,
+    index: Vec<SentEntry>,
     asked: Vec<ErasedAsked>,
     by_id: IndexMap<Vec<u8>, KnownRequest>,
 }
 
 impl Model for AskedSite {
-    ghost use Rattle.std.specs.Prelude.{map};
-    ghost use Rattle.rb_history.specs.Ids.{AskedEntry};
+    ghost use Rattle.std.specs.Prelude.{◌≡◌, map};
     ghost use Rattle.rb_node.specs.Asked.{SeenAsked};
+    ghost use Rattle.rb_node.specs.Index.{index_of};
     ghost use Rattle.rb_node.specs.Kept.{IsKeeping, entry_erased, by_bytes};
 
     ghost Value = { SeenAsked };
@@ -48,7 +53,8 @@ impl Model for AskedSite {
       asked = map entry_erased s.asked.items;
     } };
 
-    ghost invariant = { λ s. IsKeeping s.site (map entry_erased s.asked.items) (by_bytes s.by_id.entries) };
+    ghost invariant = { λ s. IsKeeping s.site (map entry_erased s.asked.items) (by_bytes s.by_id.entries)
+        × (s.index.items ≡ index_of s.site) };
 }
 
 impl AskedSite {
@@ -62,11 +68,12 @@ impl AskedSite {
         requires { me < config.now.sites }
         ensures { IfOk result (λ site. site ≡ first_asked config.now me bank) }
     {
-        let site = IndexedSite::open(alloc, config, me)?;
+        let site = Site::open_keeping(alloc, config, me)?;
         Ok(AskedSite {
             alloc,
             bank,
             site,
+            index: Vec::new(alloc),
             asked: Vec::new(alloc),
             by_id: IndexMap::new(alloc),
         })
@@ -80,7 +87,7 @@ impl AskedSite {
     }
 
     /// The site, without its ids.
-    pub fn site(&self) -> &IndexedSite
+    pub fn site(&self) -> &Site<ErasedEntry>
         ensures { result.now ≡ without_ids self.now }
     {
         &self.site
@@ -96,39 +103,20 @@ impl AskedSite {
         request_of(&self.by_id, id)
     }
 
-    /// One event, which is recorded with its id, if it is made: as `IndexedSite::answer`. The id isn't known.
-    pub fn answer(
-        &mut self,
-        id: &RequestId,
-        event: &Event,
-        sent: &mut Vec<Message>,
-        reply: &mut Reply,
-    ) -> Result<(), AllocError>
-        requires { known_of self.old id.now ≡ None }
-        ensures ok { OnOk result ((xs : List TheEntry)
-            × (self.new ≡ with_more self.old (map (with_id id.now) xs))
-            × (without_ids self.new ≡ next_site (without_ids self.old) event.now)
-            × (reply.new ≡ reply_to self.old.settings (asked_state self.old) event.now)
-            × (sent.new.items ≡ sent.old.items ++ sent_at self.old.settings (asked_state self.old) event.now)) }
-        ensures err { OnErr result ((self.new ≡ self.old) × (sent.new.items ≡ sent.old.items)) }
+    /// The entries that sent any message, of those that have at least this number before them.
+    pub fn sent_since(&self, before: u32) -> &[SentEntry]
+        ensures lines { lines_again self.now.settings self.now.bank (asked_state self.now).ops result.now
+            ≡ resent self.now.settings self.now.bank (first_site self.now.me) before (without_ids self.now).entries }
+        ensures count { length result.now ≡ resent_count self.now.settings (first_site self.now.me) before
+            (without_ids self.now).entries }
     {
-        if self.site.is_full() {
-            *reply = Reply::Refused(Refusal::HistoryFull);
-            return Ok(());
-        }
-        reserve_one(&mut self.asked)?;
-        reserve_request(&mut self.by_id, id)?;
-        let copies = copy_asked(self.alloc, id, event)?;
-        let first = self.site.ledger().len();
-        self.site.answer(event, sent, reply)?;
-        let end = self.site.ledger().len();
-        note_entry(&mut self.asked, id, event, reply);
-        note_request(&mut self.by_id, copies, reply, first, end);
-        Ok(())
+        let index = self.index.as_slice();
+        let skipped = index.partition_point(|entry| entry.before < before);
+        &index[skipped..]
     }
 
-    /// One event, which is recorded only if it changes more than the history: as `Site::answer_if_changes`. Whether it
-    /// was recorded. The id isn't known.
+    /// One event, which is recorded with its id only if it changes more than the history: as `Site::answer_if_changes`.
+    /// Whether it was recorded. The id isn't known.
     pub fn answer_if_changes(
         &mut self,
         id: &RequestId,
@@ -137,25 +125,24 @@ impl AskedSite {
         reply: &mut Reply,
     ) -> Result<bool, AllocError>
         requires { known_of self.old id.now ≡ None }
-        ensures ok { OnOk result ((xs : List TheEntry)
-            × (self.new ≡ with_more self.old (map (with_id id.now) xs))
-            × (without_ids self.new ≡ next_if_changes (without_ids self.old) event.now)
-            × (reply.new ≡ reply_if_changes self.old.settings (asked_state self.old) event.now)
-            × (sent.new.items ≡ sent.old.items ++ sent_at self.old.settings (asked_state self.old) event.now)) }
-        ensures recorded { IfOk result (λ recorded. recorded
-            ≡ (changes_site self.old.settings (asked_state self.old) event.now
-            && not (is_full self.old.settings (asked_state self.old)))) }
+        ensures recorded { IfOk result (RecordsIf self.old self.new id.now event.now reply.new) }
+        ensures sent { OnOk result (sent.new.items
+            ≡ sent.old.items ++ sent_at self.old.settings (asked_state self.old) event.now) }
         ensures err { OnErr result ((self.new ≡ self.old) × (sent.new.items ≡ sent.old.items)) }
     {
+        reserve_one(&mut self.index)?;
         reserve_one(&mut self.asked)?;
         reserve_request(&mut self.by_id, id)?;
         let copies = copy_asked(self.alloc, id, event)?;
-        let first = self.site.ledger().len();
+        let (before, first) = (self.site.len(), self.site.ledger().len());
+        let sent_before = sent.len();
         let recorded = self.site.answer_if_changes(event, sent, reply)?;
         if !recorded {
             return Ok(false);
         }
         let end = self.site.ledger().len();
+        let messages = &sent.as_slice()[sent_before..];
+        note_sent(&mut self.index, before, first, end, messages);
         note_entry(&mut self.asked, id, event, reply);
         note_request(&mut self.by_id, copies, reply, first, end);
         Ok(true)
@@ -166,13 +153,7 @@ impl AskedSite {
         requires free { is_full self.old.settings (asked_state self.old) ≡ false }
         requires unchanging { changes_site self.old.settings (asked_state self.old) event.now ≡ false }
         requires reply { reply.now ≡ reply_to self.old.settings (asked_state self.old) event.now }
-        ensures ok { OnOk result (self.new ≡ with_more self.old (record {
-          id = [];
-          entry = record {
-            event = event.now;
-            reply = reply.now;
-          };
-        } ∷ [])) }
+        ensures ok { OnOk result (self.new ≡ with_more self.old (without_id (entry event.now reply.now) ∷ [])) }
         ensures err { OnErr result (self.new ≡ self.old) }
     {
         reserve_one(&mut self.asked)?;
@@ -182,15 +163,37 @@ impl AskedSite {
         Ok(())
     }
 
+    /// One event, which is recorded with its id whatever it changes: the history has spare capacity, and the id isn't
+    /// known. After an `Err`, out of memory, nothing more may be asked of the site.
+    pub fn answer(
+        &mut self,
+        id: &RequestId,
+        event: &Event,
+        sent: &mut Vec<Message>,
+        reply: &mut Reply,
+    ) -> Result<(), AllocError>
+        requires free { is_full self.old.settings (asked_state self.old) ≡ false }
+        requires unknown { known_of self.old id.now ≡ None }
+        ensures { OnOk result ((self.new ≡ with_more self.old (with_id id.now (entry event.now reply.new) ∷ []))
+            × (reply.new ≡ reply_to self.old.settings (asked_state self.old) event.now)
+            × (sent.new.items ≡ sent.old.items ++ sent_at self.old.settings (asked_state self.old) event.now)) }
+    {
+        if self.answer_if_changes(id, event, sent, reply)? {
+            return Ok(());
+        }
+        self.record_unchanging(event, reply)
+    }
+
     /// Closes the site.
     pub fn close(self) {
         let AskedSite {
             alloc: _,
             bank: _,
             site,
+            index: _,
             asked: _,
             by_id: _,
         } = self;
-        site.close();
+        let _report = site.close();
     }
 }

@@ -9,7 +9,6 @@ mod asked_site;
 mod erased_asked;
 mod event_line;
 mod fault;
-mod indexed_site;
 mod known_request;
 mod node;
 mod other_bank;

@@ -87,7 +87,7 @@ impl Node {
             (without_ids self.now.site) (Resend most)) }
     {
         let skipped = self.site.site().len().saturating_sub(most);
-        let entries = self.site.site().sent_since(skipped);
+        let entries = self.site.sent_since(skipped);
         self.append_all_again(out, entries)?;
         append_number(
             out,

@@ -1,11 +1,10 @@
 use Rattle.std.proofs.Common.{◌≡◌, ◌++◌, ap, sym, subst, ◌∙◌}
-use Rattle.std.specs.Prelude.{◌&&◌, not, map}
+use Rattle.std.specs.Prelude.{◌&&◌}
 use Rattle.rb_site.specs.Events.{is_full, sent_at}
-use Rattle.rb_site.specs.Unchanging.{changes_site, next_if_changes, reply_if_changes}
 use Rattle.rb_node.specs.Answers.{SeenNode}
-use Rattle.rb_node.specs.Asked.{SeenAsked, asked_state, without_ids, with_id, with_more}
-use Rattle.rb_node.specs.Steps.{StepsKept}
-use Rattle.rb_node.proofs.Recorded.{refused-by, sends-none, stepped-by, still-unchanging}
+use Rattle.rb_node.specs.Asked.{SeenAsked, asked_state}
+use Rattle.rb_node.specs.Steps.{RecordsIf, StepsKept}
+use Rattle.rb_node.proofs.Recorded.{not-full, refused-by, sends-none, stepped-by, still-unchanging}
 use Rattle.rb_node.proofs.node.Node.step.Goals as goal
 
 pub returns-then-refuses : goal.returns-then-refuses
@@ -23,39 +22,27 @@ returns-then-refuses c =
     }
 
 pub note-requires : goal.note-requires
-note-requires c =
-    let old = c.args.self.now.site in
-    let e = c.args.event in
-    let seen : c.self.inside.site ≡ old = ap (λ (v : SeenNode). v.site) c.self.view_is in
-    let ok = c.in_ok-recorded.ensures.ok in
-    still-unchanging c.args.all c.in_ok-recorded.recorded old c.answer_if_changes.new.self c.args.id.now e
-    c.answer_if_changes.new.reply ok.0
-    (c.in_ok-recorded.ensures.recorded
-    ∙ ap (λ (y : SeenAsked). changes_site y.settings (asked_state y) e && not (is_full y.settings (asked_state y))) seen)
-    (c.if-refuses.ensures ∙ ap (λ (y : SeenAsked). c.args.all && is_full y.settings (asked_state y)) seen)
-    (ok.1 ∙ ap (λ (y : SeenAsked). with_more y (map (with_id c.args.id.now) ok.0)) seen)
-    (ok.2 ∙ ap (λ (y : SeenAsked). next_if_changes (without_ids y) e) seen)
-    (ok.3 ∙ ap (λ (y : SeenAsked). reply_if_changes y.settings (asked_state y) e) seen)
+note-requires c out all =
+    let mid = c.answer_if_changes.new in
+    still-unchanging c.in_ok-recorded.recorded c.self.inside.site mid.self c.args.id.now c.args.event mid.reply
+    c.in_ok-recorded.ensures.recorded (not-full c.args.all _ c.if-refuses.ensures all) out
 
 pub returns : goal.returns
 returns c =
     let old = c.args.self.now.site in
+    let mid = c.answer_if_changes.new in
+    let id = c.args.id.now in
     let e = c.args.event in
     let seen : c.self.inside.site ≡ old = ap (λ (v : SeenNode). v.site) c.self.view_is in
-    let ok = c.in_ok-recorded.ensures.ok in
+    let ok = c.in_ok-recorded.ensures in
     let noted = c.in_ok-note.ensures in
     record {
       stepped = (
-        stepped-by c.args.all c.in_ok-recorded.recorded old c.answer_if_changes.new.self c.note.new.self.site c.args.id.now e
-            c.answer_if_changes.new.reply ok.0 c.args.entries.now.items c.note.new.entries.items
-            (c.in_ok-recorded.ensures.recorded
-            ∙ ap (λ (y : SeenAsked). changes_site y.settings (asked_state y) e && not (is_full y.settings (asked_state y))) seen)
+        stepped-by c.args.all c.in_ok-recorded.recorded old mid.self c.note.new.self.site id e mid.reply c.args.entries.now.items
+            c.note.new.entries.items (subst (λ y. RecordsIf y mid.self id e mid.reply c.in_ok-recorded.recorded) seen ok.recorded)
             (c.if-refuses.ensures ∙ ap (λ (y : SeenAsked). c.args.all && is_full y.settings (asked_state y)) seen)
-            (ok.1 ∙ ap (λ (y : SeenAsked). with_more y (map (with_id c.args.id.now) ok.0)) seen)
-            (ok.2 ∙ ap (λ (y : SeenAsked). next_if_changes (without_ids y) e) seen)
-            (ok.3 ∙ ap (λ (y : SeenAsked). reply_if_changes y.settings (asked_state y) e) seen)
             noted.0,
-        noted.1 ∙ ok.4 ∙ ap (λ l. l ++ sent_at c.self.inside.site.settings (asked_state c.self.inside.site) e) c.clear.ensures.items
+        noted.1 ∙ ok.sent ∙ ap (λ l. l ++ sent_at c.self.inside.site.settings (asked_state c.self.inside.site) e) c.clear.ensures.items
             ∙ ap (λ (y : SeenAsked). sent_at y.settings (asked_state y) e) seen,
       );
     }
