@@ -10,14 +10,14 @@ ghost use Rattle.rb_node.specs.LineAnswers.{question_on};
 ghost use Rattle.rb_capi.specs.Sites.{AnswersSiteLine, IsNoEntryLine, IsWrongEntry, ReplaysEntryLine, first_kept};
 
 use rb_history::{BankName, LineFault};
-use rb_node::{EntryFault, Node, OpenFault};
+use rb_node::{AllEvents, EntryFault, Node, OpenFault};
 use std::alloc::Global;
 use std::marker::Model;
 use std::mem::swap;
 
 /// A site with the text of its last answer and the lines for its journal.
 pub struct KeptSite {
-    node: Node,
+    node: Node<AllEvents>,
     pub(crate) answer: Vec<u8>,
     pub(crate) entries: Vec<u8>,
     /// The next answer while it is written, so that a bad line leaves the last one as it is. Empty between two calls.
@@ -88,7 +88,7 @@ impl KeptSite {
             × (question_on self.old.site.bank line.now ≡ None) × (self.new ≡ self.old) }
     {
         self.node
-            .answer(line, true, &mut self.next_answer, &mut self.next_entries)?;
+            .answer(line, &mut self.next_answer, &mut self.next_entries)?;
         swap(&mut self.answer, &mut self.next_answer);
         swap(&mut self.entries, &mut self.next_entries);
         self.next_answer.clear();

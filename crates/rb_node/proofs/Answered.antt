@@ -2,7 +2,7 @@
 use Rattle.std.proofs.Common.{◌≡◌, ℕ, Bool, true, false, List, [], ◌++◌, length, take, drop, inl, inr, refl, sym, ap}
 use Rattle.std.proofs.Common.{subst, ◌∙◌, append-nil}
 use Rattle.std.proofs.Common.{take-append-drop}
-use Rattle.std.specs.Prelude.{bytes_eq, Some, None, Result, Ok, Err, IfErr, MatchResult, OnErr, OnOk}
+use Rattle.std.specs.Prelude.{bytes_eq, Some, None, Result, Ok, Err, MatchResult, OnErr, OnOk}
 use Rattle.std.proofs.lemmas.List.{drop_at}
 use Rattle.std.proofs.lemmas.Slice.Eq.{bytes_eq-Decides}
 use Rattle.rb_site.specs.declared.event.Event.{Event}

@@ -379,17 +379,23 @@ recorded-now true old mid id e reply h is = (h.site, (changed old mid id e reply
 recorded-now false old mid id e reply h is = absurd (cc)
 
 -- and one that wasn't, and is recorded then without an id
-pub recorded-then : (recorded : Bool) (old mid new : SeenAsked) (id : List ℕ) (e : Event) (reply : Reply)
-    → RecordsIf old mid id e reply recorded → is_full old.settings (asked_state old) ≡ false → false ≡ recorded
-    → new ≡ with_more mid (without_id (entry e reply) ∷ []) → (new ≡ with_more old (with_id id (entry e reply) ∷ []))
-    × (reply ≡ reply_to old.settings (asked_state old) e)
-recorded-then true old mid new id e reply h free out now = absurd (cc)
-recorded-then false old mid new id e reply h free out now =
+pub recorded-then : {A E P : Type 0} (r : Result A E) (recorded : Bool) (old mid new : SeenAsked) (id : List ℕ) (e : Event) (reply : Reply)
+    → RecordsIf old mid id e reply recorded → is_full old.settings (asked_state old) ≡ false → false ≡ recorded → P
+    → OnOk r (new ≡ with_more mid (without_id (entry e reply) ∷ [])) → OnErr r (new ≡ mid)
+    → OnOk r ((new ≡ with_more old (with_id id (entry e reply) ∷ [])) × (reply ≡ reply_to old.settings (asked_state old) e) × P)
+    × OnErr r (new ≡ old)
+recorded-then r true old mid new id e reply h free out p ok err = absurd (cc)
+recorded-then (Ok x) false old mid new id e reply h free out p ok err =
     let here = unchanged old mid id e reply h free in (
-      now ∙ ap (λ y. with_more y (without_id (entry e reply) ∷ [])) here.same
-          ∙ ap (λ y. with_more old (y ∷ [])) (sym (no-id old id (entry e reply) here.unchanging)),
-      here.unchanging.reply,
+      (
+        ok ∙ ap (λ y. with_more y (without_id (entry e reply) ∷ [])) here.same
+            ∙ ap (λ y. with_more old (y ∷ [])) (sym (no-id old id (entry e reply) here.unchanging)),
+        here.unchanging.reply,
+        p,
+      ),
+      tt,
     )
+recorded-then (Err x) false old mid new id e reply h free out p ok err = (tt, err ∙ (unchanged old mid id e reply h free).same)
 
 -- a step, from what follows its event
 pub stepped-by : (all recorded : Bool) (old mid new : SeenAsked) (id : List ℕ) (e : Event) (reply : Reply) (entries after : List ℕ)

@@ -11,7 +11,7 @@ use Rattle.rb_site.specs.declared.event.Event.{Event}
 use Rattle.rb_site.specs.declared.event.Event.TheVariants.{Apply}
 use Rattle.rb_site.specs.Events.{ModelSite, after_event, after_events, first_site, is_full, reply_to, sent_at}
 use Rattle.rb_site.specs.Histories.{events_of, with_replies}
-use Rattle.rb_site.specs.Seen.{SeenSite, entry, next_site, next_sites, state_of, stepped}
+use Rattle.rb_site.specs.Seen.{SeenSite, entry, next_site, next_sites, state_of}
 use Rattle.rb_site.proofs.Public.Runs.{after_events-append}
 use Rattle.rb_site.proofs.Public.Seen.{settings-next, state-next, state-stepped}
 use Rattle.rb_history.specs.Entries.{asked_entry_json, asked_entry_of_line, asked_entry_on}

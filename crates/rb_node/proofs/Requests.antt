@@ -39,7 +39,7 @@ use Rattle.rb_node.specs.Kept.{IsKeeping, IsKeptAs, Requests, by_bytes, entry_er
 use Rattle.rb_node.specs.Kept.{reply_made, request, request_noted, known_again}
 use Rattle.rb_node.specs.declared.erased_asked.ErasedAsked.{ErasedAsked}
 use Rattle.rb_node.specs.declared.known_request.KnownRequest.{KnownRequest}
-use Rattle.rb_node.specs.declared.sent_entry.Sent.TheVariants.{Operations}
+use Rattle.rb_node.specs.declared.sent_entry.Sending.TheVariants.{Operations}
 use Rattle.rb_node.proofs.NextSite.{me-next, next-free}
 use Rattle.rb_node.proofs.SentAgain.{Begins, between, later_ops}
 

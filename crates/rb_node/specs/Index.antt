@@ -10,12 +10,12 @@ use Rattle.rb_site.specs.Events.{ModelSite, after_event, first_site, sent_at}
 use Rattle.rb_site.specs.Histories.{events_of}
 use Rattle.rb_site.specs.Seen.{SeenSite}
 use Rattle.rb_node.specs.Answers.{sent_line}
-use Rattle.rb_node.specs.declared.sent_entry.Sent.{Sent}
-use Rattle.rb_node.specs.declared.sent_entry.Sent.TheVariants.{Operations, Token}
+use Rattle.rb_node.specs.declared.sent_entry.Sending.{Sending}
+use Rattle.rb_node.specs.declared.sent_entry.Sending.TheVariants.{Operations, Token}
 use Rattle.rb_node.specs.declared.sent_entry.SentEntry.{SentEntry}
 
 -- the messages of an entry: the operations from one number of them to another, or the token
-abbrev pub messages_of : List Shadow → Sent → List Message
+abbrev pub messages_of : List Shadow → Sending → List Message
 messages_of us (Operations first end) = map ShadowMessage (take (end - first) (drop first us))
 messages_of us (Token m) = TokenOnItsWay m ∷ []
 

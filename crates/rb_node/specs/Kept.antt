@@ -20,7 +20,7 @@ use Rattle.rb_node.specs.Asked.{Known, SeenAsked, asked_state, entries_alone, kn
 use Rattle.rb_node.specs.Index.{messages_of}
 use Rattle.rb_node.specs.declared.erased_asked.ErasedAsked.{ErasedAsked}
 use Rattle.rb_node.specs.declared.known_request.KnownRequest.{KnownRequest}
-use Rattle.rb_node.specs.declared.sent_entry.Sent.TheVariants.{Operations}
+use Rattle.rb_node.specs.declared.sent_entry.Sending.TheVariants.{Operations}
 
 -- an entry of which nothing is kept
 abbrev pub entry_erased : ErasedAsked → AskedEntry

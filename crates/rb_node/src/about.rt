@@ -9,12 +9,12 @@ ghost use Rattle.rb_history.specs.Entries.{deps_json};
 ghost use Rattle.rb_history.specs.declared.question.Question.TheVariants.{About};
 ghost use Rattle.rb_node.specs.LineAnswers.{question_text};
 
-use crate::Node;
+use crate::{Node, Records};
 use rb_history::write::append::{append, append_number};
 use rb_history::{append_deps, spell};
 use std::alloc::AllocError;
 
-impl Node {
+impl<M: Records> Node<M> {
     /// How much the site applied, how many entries its history has, and the greatest epoch that it has seen.
     fn append_applied(&self, out: &mut Vec<u8>) -> Result<(), AllocError>
         ensures { Adds result out.old.items out.new.items (codes "{\"reply\":{\"about\":{\"applied\":"

@@ -9,12 +9,12 @@ ghost use Rattle.rb_node.specs.Asked.{asked_state};
 ghost use Rattle.rb_node.specs.Index.{messages_of};
 ghost use Rattle.rb_node.specs.Kept.{IsKeptAs, names_sent, reply_made, known_again};
 ghost use Rattle.rb_node.specs.Steps.{KnownAdded, KnownAdds};
-ghost use Rattle.rb_node.specs.declared.sent_entry.Sent.TheVariants.{Operations as TheOperations};
+ghost use Rattle.rb_node.specs.declared.sent_entry.Sending.TheVariants.{Operations as TheOperations};
 
-use crate::Node;
 use crate::event_line::append_rest;
 use crate::known_request::KnownRequest;
 use crate::resend::push_operations;
+use crate::{Node, Records};
 use rb_history::write::append::{append, append_number};
 use rb_history::{RequestId, spell};
 use rb_kit::List;
@@ -113,7 +113,7 @@ fn append_other(out: &mut Vec<u8>, id: &RequestId) -> Result<(), AllocError>
     )
 }
 
-impl Node {
+impl<M: Records> Node<M> {
     /// The answer to a request that was made before by the id.
     fn append_made(
         &self,

@@ -1,11 +1,9 @@
-//! A site that keeps no history, but what is asked for again: the requests that were made by an id, and the messages of
-//! its entries.
+//! A site that keeps no history, but finds again the requests that were made by an id, and the messages of its entries.
 //!
 //! The entries with their ids are in a list of which nothing is kept in memory, so that contracts speak of entries
-//! alone. What runs is a map from ids to requests, and an index of messages: the operations that the site made are in
-//! its ledger, each behind those that were applied before it, so the index says which they are, and it keeps the token's
-//! messages. The invariant ties both to the list. Whatever may fail comes before the event, which is noted without
-//! memory.
+//! alone. What runs is a map from ids to requests, and an index of messages. The operations that the site made are in
+//! its ledger, each behind those that were applied before it: the index says which they are. The token's messages it
+//! keeps. The invariant ties both to the list. Whatever may fail comes before the event, which is noted without memory.
 ghost use Rattle.std.specs.Prelude.{◌≡◌, ◌<◌, ◌++◌, ◌∷◌, [], None, IfOk, OnErr, OnOk, MatchOption, false, length};
 ghost use Rattle.rb_site.specs.Events.{first_site, is_full, reply_to, sent_at};
 ghost use Rattle.rb_site.specs.Seen.{entry};
@@ -164,7 +162,7 @@ impl AskedSite {
     }
 
     /// One event, which is recorded with its id whatever it changes: the history has spare capacity, and the id isn't
-    /// known. After an `Err`, out of memory, nothing more may be asked of the site.
+    /// known. `Err` means out of memory.
     pub fn answer(
         &mut self,
         id: &RequestId,
@@ -174,9 +172,10 @@ impl AskedSite {
     ) -> Result<(), AllocError>
         requires free { is_full self.old.settings (asked_state self.old) ≡ false }
         requires unknown { known_of self.old id.now ≡ None }
-        ensures { OnOk result ((self.new ≡ with_more self.old (with_id id.now (entry event.now reply.new) ∷ []))
+        ensures ok { OnOk result ((self.new ≡ with_more self.old (with_id id.now (entry event.now reply.new) ∷ []))
             × (reply.new ≡ reply_to self.old.settings (asked_state self.old) event.now)
             × (sent.new.items ≡ sent.old.items ++ sent_at self.old.settings (asked_state self.old) event.now)) }
+        ensures err { OnErr result (self.new ≡ self.old) }
     {
         if self.answer_if_changes(id, event, sent, reply)? {
             return Ok(());

@@ -20,7 +20,7 @@ ghost use Rattle.rb_node.specs.LineAnswers.{IsLineAnswer, question_on};
 ghost use Rattle.rb_node.specs.Steps.{AnswersAsked, AnswersEvent, Applies, AppliesOne};
 
 use crate::other_bank::append_other_bank;
-use crate::Node;
+use crate::{Node, Records};
 use rb_history::write::append::append;
 use rb_history::{
     BankName, LineFault, RequestId, append_sent_message, append_value, read_event_to, spell,
@@ -104,7 +104,7 @@ pub(crate) fn append_rest(
     append(out, spell!("," then ":["))
 }
 
-impl Node {
+impl<M: Records> Node<M> {
     /// The event on a line, and its id in its place. `None` if the line is of another bank.
     #[tactic(auto, unfolding(crate::specs::Answers::asked_event_on, crate::specs::Answers::other_bank_on))]
     fn event_of(&self, line: &[u8], id: &mut RequestId) -> Result<Option<Event>, LineFault>
@@ -173,7 +173,6 @@ impl Node {
     /// One event of an id that isn't known, answered.
     fn answer_event(
         &mut self,
-        all: bool,
         id: &RequestId,
         event: Event,
         text: &mut Vec<u8>,
@@ -181,12 +180,12 @@ impl Node {
     ) -> Result<(), AllocError>
         requires { known_of self.old.site id.now ≡ None }
         ensures { MatchResult result
-            (λ _. AnswersEvent all self.old.site self.new.site id.now event text.old.items text.new.items
+            (λ _. AnswersEvent M.ALL self.old.site self.new.site id.now event text.old.items text.new.items
             entries.old.items entries.new.items)
             (λ _. (take (length text.old.items) text.new.items ≡ text.old.items)
             × (take (length entries.old.items) entries.new.items ≡ entries.old.items)) }
     {
-        let reply = self.step(all, id, event, entries)?;
+        let reply = self.step(id, event, entries)?;
         append_answer_head(text, id)?;
         append_rest(
             text,
@@ -202,14 +201,13 @@ impl Node {
     /// One event with its id, answered: by what is known of the id, or as a new one.
     fn answer_asked(
         &mut self,
-        all: bool,
         id: &RequestId,
         event: Event,
         text: &mut Vec<u8>,
         entries: &mut Vec<u8>,
     ) -> Result<(), AllocError>
         ensures { MatchResult result
-            (λ _. AnswersAsked all self.old.site self.new.site (record { id = id.now; event = event }) text.old.items
+            (λ _. AnswersAsked M.ALL self.old.site self.new.site (record { id = id.now; event = event }) text.old.items
             text.new.items entries.old.items entries.new.items)
             (λ _. (take (length text.old.items) text.new.items ≡ text.old.items)
             × (take (length entries.old.items) entries.new.items ≡ entries.old.items)) }
@@ -217,26 +215,25 @@ impl Node {
         if self.append_known(text, id, &event)? {
             return Ok(());
         }
-        self.answer_event(all, id, event, text, entries)
+        self.answer_event(id, event, text, entries)
     }
 
     /// One event with its id, answered. `OutOfMemory` leaves answers and entries as they were.
     fn answer_whole(
         &mut self,
-        all: bool,
         id: &RequestId,
         event: Event,
         answers: &mut Vec<u8>,
         entries: &mut Vec<u8>,
     ) -> Result<(), LineFault>
-        ensures answered { OnOk result (AnswersAsked all self.old.site self.new.site
+        ensures answered { OnOk result (AnswersAsked M.ALL self.old.site self.new.site
             (record { id = id.now; event = event }) answers.old.items answers.new.items entries.old.items
             entries.new.items) }
         ensures err { OnErr result ((answers.new.items ≡ answers.old.items) × (entries.new.items ≡ entries.old.items)) }
         ensures memory { IfErr result (λ why. why ≡ LineFault.OutOfMemory) }
     {
         let (answered, recorded) = (answers.len(), entries.len());
-        let done = self.answer_asked(all, id, event, answers, entries);
+        let done = self.answer_asked(id, event, answers, entries);
         let done = whole_or_none(done, answers, answered);
         Ok(whole_or_none(done, entries, recorded)?)
     }
@@ -249,9 +246,9 @@ impl Node {
     /// whatever is held and ready is applied, by home, of one home the blue ones before the red ones, and of one colour
     /// by number, until nothing is ready or the history is full.
     ///
-    /// With `all` each event is recorded, but for one that changes nothing and whose entry's line would be longer than
-    /// a line may be. Without it an event is recorded only if it changes the site, and any other is answered though the
-    /// history is full.
+    /// By `AllEvents` each event is recorded, but for one that changes nothing and whose entry's line would be longer
+    /// than a line may be. By `Changes` an event is recorded only if it changes the site, and any other is answered
+    /// though the history is full.
     ///
     /// A request or a batch may have an id: 1 to 64 bytes of `A-Z a-z 0-9 . _ : -`, as the member `"id"`. Answer and
     /// entry have it too. It is known once the request is made; then the same request is answered by its reply and its
@@ -271,12 +268,11 @@ impl Node {
     pub fn answer(
         &mut self,
         line: &[u8],
-        all: bool,
         answers: &mut Vec<u8>,
         entries: &mut Vec<u8>,
     ) -> Result<(), LineFault>
         ensures answered { OnOk result ((text : List ℕ) × (lines : List ℕ)
-            × IsLineAnswer all self.old.site self.new.site line.now text lines
+            × IsLineAnswer M.ALL self.old.site self.new.site line.now text lines
             × (answers.new.items ≡ answers.old.items ++ text) × (entries.new.items ≡ entries.old.items ++ lines)) }
         ensures bad { result ≡ Err LineFault.Bad
             → (asked_event_on self.old.site.settings self.old.site.bank line.now ≡ None)
@@ -287,10 +283,10 @@ impl Node {
     {
         let mut id = RequestId::none(self.alloc);
         match self.event_of(line, &mut id) {
-            Ok(Some(event)) => self.answer_whole(all, &id, event, answers, entries),
+            Ok(Some(event)) => self.answer_whole(&id, event, answers, entries),
             Ok(None) => append_other_bank(answers),
             Err(LineFault::Bad) => self.answer_question(line, answers),
-            Err(fault) => Err(fault),
+            Err(LineFault::OutOfMemory) => Err(LineFault::OutOfMemory),
         }
     }
 }

@@ -13,6 +13,7 @@ mod known_request;
 mod node;
 mod other_bank;
 mod question;
+mod records;
 mod replay;
 mod resend;
 mod sent_entry;
@@ -23,6 +24,7 @@ ghost use Rattle.rb_node.specs.Laws.{EntriesAreJournalLines, IdsStayOnce, OtherB
 
 pub use fault::{EntryFault, OpenFault};
 pub use node::Node;
+pub use records::{AllEvents, Changes, Records};
 
 /// The line of a configuration and that of each entry are lines of a journal: each begins with `{` and has no line feed
 /// in it.

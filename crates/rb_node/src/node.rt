@@ -8,15 +8,16 @@ ghost use Rattle.rb_node.specs.Asked.{first_asked};
 
 use crate::asked_site::AskedSite;
 use crate::fault::OpenFault;
+use crate::records::Records;
 use rb_history::{BankName, LineFault, open_config, write_config};
 use rb_money::Config;
 use rb_site::Message;
 use std::alloc::{AllocError, Global};
-use std::marker::Model;
+use std::marker::{Model, PhantomData};
 
-/// One site of a bank, which is asked and answers by lines. It keeps no history: that is the caller's, as the lines of
-/// entries. It can't be dropped: it is closed.
-pub struct Node {
+/// One site of a bank, which is asked and answers by lines. `M` says which events it records. It keeps no history: that
+/// is the caller's, as the lines of entries. It can't be dropped: it is closed.
+pub struct Node<M: Records> {
     pub(crate) alloc: Global,
     pub(crate) config: Config,
     pub(crate) site: AskedSite,
@@ -25,9 +26,10 @@ pub struct Node {
     /// The last entry, written to compare it with its line, or two replies that differ; it keeps its memory from one
     /// entry to the next.
     pub(crate) written: Vec<u8>,
+    records: PhantomData<M>,
 }
 
-impl Model for Node {
+impl<M: Records> Model for Node<M> {
     ghost use Rattle.std.specs.Prelude.{◌≡◌};
     ghost use Rattle.rb_node.specs.Answers.{SeenNode};
 
@@ -38,12 +40,12 @@ impl Model for Node {
     ghost invariant = { λ n. n.site.settings ≡ n.config };
 }
 
-impl Node {
+impl<M: Records> Node<M> {
     /// The site `me` (0 to 15) of the configuration on a line, before any event. If the bank has a name, each message
     /// has it: those that are sent, and those that come.
     ///
     /// Errors: `BadConfig` if the line is none; `NoSite` if it has no such site; `OutOfMemory`.
-    pub fn open(alloc: Global, line: &[u8], me: u8, bank: BankName) -> Result<Node, OpenFault>
+    pub fn open(alloc: Global, line: &[u8], me: u8, bank: BankName) -> Result<Node<M>, OpenFault>
         ensures opened { IfOk result (λ node. (s : Settings) × (config_on line.now ≡ Some s) × (me < s.sites)
             × (node.site ≡ first_asked s me bank)) }
         ensures bad { result ≡ Err OpenFault.BadConfig → config_on line.now ≡ None }
@@ -65,6 +67,7 @@ impl Node {
             site,
             sent: Vec::new(alloc),
             written: Vec::new(alloc),
+            records: PhantomData,
         })
     }
 
@@ -106,6 +109,7 @@ impl Node {
             site,
             sent: _,
             written: _,
+            records: _,
         } = self;
         site.close();
     }

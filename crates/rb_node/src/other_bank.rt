@@ -2,8 +2,8 @@
 ghost use Rattle.std.specs.Prelude.{◌≡◌, ◌++◌, IfErr, OnErr, OnOk};
 ghost use Rattle.rb_node.specs.Answers.{line_of, other_bank_json};
 
-use rb_history::{LineFault, spell};
 use rb_history::write::append::append_number;
+use rb_history::{LineFault, spell};
 use rb_lines::whole_or_none;
 
 /// The refusal of a line of another bank. No refusal of a site has this number.

@@ -6,12 +6,12 @@ ghost use Rattle.rb_history.specs.declared.question.Question.{Question as TheQue
 ghost use Rattle.rb_node.specs.Asked.{without_ids};
 ghost use Rattle.rb_node.specs.LineAnswers.{question_on, question_text};
 
-use crate::Node;
+use crate::{Node, Records};
 use rb_history::{LineFault, Question, read_question_to};
 use rb_lines::{text_on, whole_or_none};
 use std::alloc::AllocError;
 
-impl Node {
+impl<M: Records> Node<M> {
     /// The question on a line.
     #[tactic(auto, unfolding(crate::specs::LineAnswers::question_on))]
     fn question_of(&self, line: &[u8]) -> Result<Question, LineFault>

@@ -11,7 +11,7 @@ ghost use Rattle.rb_node.specs.Asked.{known_of};
 ghost use Rattle.rb_node.specs.Replays.{IsNotNext, IsReadBack, IsReplayedAs};
 
 use crate::event_line::append_messages;
-use crate::{EntryFault, Node};
+use crate::{EntryFault, Node, Records};
 use rb_history::write::append::append;
 use rb_history::{
     BankName, LineFault, RequestId, append_asked_line, append_reply, read_asked_entry, spell,
@@ -38,7 +38,7 @@ pub(crate) fn append_sends(
     append(out, "}\n")
 }
 
-impl Node {
+impl<M: Records> Node<M> {
     /// The entry of this site on a line, and its id in its place.
     #[tactic(auto, unfolding(rb_history::specs::Entries::asked_entry_on))]
     fn entry_of(&self, line: &[u8], id: &mut RequestId) -> Result<Entry, EntryFault>

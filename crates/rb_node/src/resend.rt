@@ -7,11 +7,11 @@ ghost use Rattle.rb_node.specs.Asked.{asked_state, without_ids};
 ghost use Rattle.rb_node.specs.Answers.{sent_line};
 ghost use Rattle.rb_node.specs.Index.{lines_again, messages_of};
 ghost use Rattle.rb_node.specs.LineAnswers.{question_text};
-ghost use Rattle.rb_node.specs.declared.sent_entry.Sent.TheVariants.{Operations as TheOperations};
+ghost use Rattle.rb_node.specs.declared.sent_entry.Sending.TheVariants.{Operations as TheOperations};
 
-use crate::Node;
 use crate::replay::append_sends;
-use crate::sent_entry::{Sent, SentEntry};
+use crate::sent_entry::{Sending, SentEntry};
+use crate::{Node, Records};
 use rb_history::spell;
 use rb_history::write::append::append_number;
 use rb_ledger::OperationList;
@@ -41,24 +41,24 @@ pub(crate) fn push_operations(
 fn push_sent(
     messages: &mut Vec<Message>,
     operations: &OperationList,
-    sent: Sent,
+    sent: Sending,
 ) -> Result<(), AllocError>
     ensures { OnOk result (messages.new.items ≡ messages.old.items ++ messages_of operations.now.items sent) }
 {
     match sent {
-        Sent::Operations { first, end } => push_operations(messages, operations, first, end)?,
-        Sent::Token(message) => messages.push(Message::Token(message))?,
+        Sending::Operations { first, end } => push_operations(messages, operations, first, end)?,
+        Sending::Token(message) => messages.push(Message::Token(message))?,
     }
     Ok(())
 }
 
-impl Node {
+impl<M: Records> Node<M> {
     /// The line of an entry's messages. They take the place of those in `messages`.
     fn append_again(
         &self,
         out: &mut Vec<u8>,
         messages: &mut Vec<Message>,
-        sent: Sent,
+        sent: Sending,
     ) -> Result<(), AllocError>
         ensures { Adds result out.old.items out.new.items
             (sent_line self.now.site.settings self.now.site.bank (messages_of (asked_state self.now.site).ops sent)) }

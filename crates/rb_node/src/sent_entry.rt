@@ -7,7 +7,7 @@ use rb_token::TokenMessage;
 
 /// The messages of an entry.
 #[derive(Clone, Copy, Debug)]
-pub enum Sent {
+pub enum Sending {
     /// Operations that the site made: as many as `first` were applied before the entry, and as many as `end` with it.
     Operations { first: u32, end: u32 },
     /// The token.
@@ -19,7 +19,7 @@ pub enum Sent {
 pub struct SentEntry {
     /// How many entries are before it.
     pub before: u32,
-    pub sent: Sent,
+    pub sent: Sending,
 }
 
 /// Notes an entry, if it sent any message, in the capacity that is there for one.
@@ -35,8 +35,8 @@ pub(crate) fn note_sent(
     ensures { index.new.items ≡ index.old.items ++ noted_of before first end messages.now }
 {
     let sent = match messages.first() {
-        Some(Message::Shadow(_)) => Sent::Operations { first, end },
-        Some(Message::Token(message)) => Sent::Token(*message),
+        Some(Message::Shadow(_)) => Sending::Operations { first, end },
+        Some(Message::Token(message)) => Sending::Token(*message),
         None => return,
     };
     index.push_reserved(SentEntry { before, sent });

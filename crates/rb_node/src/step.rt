@@ -8,7 +8,7 @@ ghost use Rattle.rb_node.specs.Answers.{line_of};
 ghost use Rattle.rb_node.specs.Asked.{asked_state, known_of, with_id};
 ghost use Rattle.rb_node.specs.Steps.{IsUnchanging, Notes, RecordsShort, Steps, StepsKept};
 
-use crate::Node;
+use crate::{Node, Records};
 use rb_history::write::append::append;
 use rb_history::{RequestId, append_asked_line, append_line, may_be_asked};
 use rb_lines::LINE_LIMIT;
@@ -46,7 +46,7 @@ fn append_with_feed(
     append(out, "\n")
 }
 
-impl Node {
+impl<M: Records> Node<M> {
     /// One event of no id for which the history has spare capacity, and its reply. Its messages are added to those
     /// sent, and the line of its entry to the entries. After an `Err`, out of memory, nothing more may be asked of the
     /// site.
@@ -93,15 +93,14 @@ impl Node {
     /// nothing, and all are, it is recorded now, unless its line is too long.
     fn note(
         &mut self,
-        all: bool,
         recorded: bool,
         id: &RequestId,
         entry: &Entry,
         entries: &mut Vec<u8>,
     ) -> Result<(), AllocError>
-        requires { recorded ≡ false → all ≡ true → IsUnchanging self.old.site entry.now }
+        requires { recorded ≡ false → M.ALL ≡ true → IsUnchanging self.old.site entry.now }
         ensures { MatchResult result
-            (λ _. Notes recorded all self.old.site self.new.site id.now entry.now entries.old.items entries.new.items
+            (λ _. Notes recorded M.ALL self.old.site self.new.site id.now entry.now entries.old.items entries.new.items
             × (self.new.sent ≡ self.old.sent))
             (λ _. take (length entries.old.items) entries.new.items ≡ entries.old.items) }
     {
@@ -109,45 +108,44 @@ impl Node {
             append_recorded(entries, &self.config, self.me(), id, entry)?;
             return append(entries, "\n");
         }
-        if all {
+        if M::ALL {
             return self.record_if_short(entry, entries);
         }
         Ok(())
     }
 
     /// Whether the history is full and all events are recorded, so that each is refused.
-    fn refuses(&self, all: bool) -> bool
-        ensures { result ≡ (all && is_full self.now.site.settings (asked_state self.now.site)) }
+    fn refuses(&self) -> bool
+        ensures { result ≡ (M.ALL && is_full self.now.site.settings (asked_state self.now.site)) }
     {
-        all && self.site.site().is_full()
+        M::ALL && self.site.site().is_full()
     }
 
     /// One event with the id, which isn't known, and its reply: it is recorded if it changes the site, or if all events
     /// are recorded and its line isn't too long. It is refused (23) if it would be recorded and the history is full.
     pub(crate) fn step(
         &mut self,
-        all: bool,
         id: &RequestId,
         event: Event,
         entries: &mut Vec<u8>,
     ) -> Result<Reply, AllocError>
         requires { known_of self.old.site id.now ≡ None }
         ensures stepped { MatchResult result
-            (λ reply. StepsKept all self.old.site self.new.site id.now event reply entries.old.items
+            (λ reply. StepsKept M.ALL self.old.site self.new.site id.now event reply entries.old.items
             entries.new.items
             × (self.new.sent ≡ sent_at self.old.site.settings (asked_state self.old.site) event))
             (λ _. take (length entries.old.items) entries.new.items ≡ entries.old.items) }
     {
         self.sent.clear();
         let mut reply = Reply::Refused(Refusal::HistoryFull);
-        if self.refuses(all) {
+        if self.refuses() {
             return Ok(reply);
         }
         let recorded = self
             .site
             .answer_if_changes(id, &event, &mut self.sent, &mut reply)?;
         let entry = Entry { event, reply };
-        self.note(all, recorded, id, &entry, entries)?;
+        self.note(recorded, id, &entry, entries)?;
         let Entry { event: _, reply } = entry;
         Ok(reply)
     }

@@ -10,9 +10,9 @@ ghost use Rattle.rb_run_site.specs.Starts.{IsJournalOf};
 
 use crate::fault::SiteFault;
 use crate::opening::{Opened, open_over};
-use crate::records::Records;
 use rb_history::{BankName, lines_are_single};
 use rb_journal::{Host, HostError, Journal, is_sealed};
+use rb_node::Records;
 use std::alloc::Global;
 
 /// Opens site `me` (0 to 15) of the configuration on a line, of the bank of the name, with the history in the file of

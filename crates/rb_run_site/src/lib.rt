@@ -9,7 +9,6 @@ mod entries;
 mod fault;
 mod first_line;
 mod opening;
-mod records;
 mod replay;
 mod responder;
 mod run;
@@ -23,7 +22,7 @@ ghost use Rattle.rb_run_site.specs.Restarts.{NewJournalsAreTaken, RestartedRunsA
 pub use begin::open_on_line;
 pub use fault::{SiteFault, site_message, site_status};
 pub use opening::Opened;
-pub use records::{AllEvents, Changes, Records};
+pub use rb_node::{AllEvents, Changes, Records};
 pub use responder::SiteResponder;
 pub use run::{Ran, run_site};
 pub use seal::seal_site;

@@ -19,14 +19,13 @@ ghost use Rattle.rb_run_site.specs.declared.fault.SiteFault.TheVariants.{Read as
 use crate::entries::entries_in;
 use crate::fault::SiteFault;
 use crate::first_line::first_line;
-use crate::records::Records;
 use crate::replay::{count_lines, replay_all};
 use crate::responder::SiteResponder;
 use crate::why::{reason_of_config, reason_of_journal};
 use rb_history::{BankName, lines_are_single};
 use rb_journal::damaged_line;
 use rb_lines::{Buffers, Source, ToBytes};
-use rb_node::{Node, OpenFault};
+use rb_node::{Node, OpenFault, Records};
 use std::alloc::Global;
 
 /// A site before its first event line.
@@ -51,13 +50,13 @@ impl<M: Records> Opened<M> {
 }
 
 /// The site of the configuration on a line, before any event.
-pub fn open_node(
+pub fn open_node<M: Records>(
     alloc: Global,
     line: &[u8],
     number: u64,
     me: u8,
     bank: BankName,
-) -> Result<Node, SiteFault>
+) -> Result<Node<M>, SiteFault>
     ensures { MatchResult result
         (λ node. IsOf line.now me bank node.site × (node.site ≡ first_asked node.site.settings me bank))
         (EndsNode line.now number me) }
@@ -71,9 +70,9 @@ pub fn open_node(
 }
 
 /// Replays the file's entries at a site before any event.
-pub fn replay_file(
+pub fn replay_file<M: Records>(
     alloc: Global,
-    node: &mut Node,
+    node: &mut Node<M>,
     bytes: &[u8],
     resend: usize,
     sends: &mut Vec<u8>,

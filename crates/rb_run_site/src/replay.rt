@@ -6,7 +6,7 @@ ghost use Rattle.rb_run_site.specs.Replays.{EndsReplay, IsSplit, ReplaysLine, Re
 
 use crate::fault::SiteFault;
 use rb_lines::first_feed;
-use rb_node::{EntryFault, Node};
+use rb_node::{EntryFault, Node, Records};
 
 /// The first line, without its line feed, and the lines behind it; `None` if there is none.
 fn split_line(lines: &[u8]) -> Option<(&[u8], &[u8])>
@@ -35,8 +35,8 @@ pub fn count_lines(lines: &[u8]) -> usize
 
 /// Replays one line of a journal, without its line feed. The messages of its entry are added to `sends` if that is
 /// asked for.
-fn replay_one(
-    node: &mut Node,
+fn replay_one<M: Records>(
+    node: &mut Node<M>,
     line: &[u8],
     number: u64,
     again: bool,
@@ -62,8 +62,8 @@ fn replay_one(
 /// messages of all but the first `skipped` are added to `sends`, a line for each entry that sent any.
 ///
 /// Errors: `BadEntry` and `WrongReply`, by the line's number; `OutOfMemory`.
-pub fn replay_all(
-    node: &mut Node,
+pub fn replay_all<M: Records>(
+    node: &mut Node<M>,
     lines: &[u8],
     skipped: usize,
     sends: &mut Vec<u8>,

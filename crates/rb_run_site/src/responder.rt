@@ -5,32 +5,28 @@
 ghost use Rattle.std.specs.Prelude.{◌≡◌};
 
 use crate::bad_line::{append_bad_line, append_long_line};
-use crate::records::Records;
 use rb_history::{LineFault, lines_are_single, read_events_fit};
 use rb_journal::{JournaledResponder, LineBatch};
-use rb_node::Node;
+use rb_node::{Node, Records};
 use rb_reasons::reason_at_site;
 use std::alloc::{AllocError, Global};
-use std::marker::PhantomData;
 
-/// A site whose history is in a journal, with the choice of the events that it records.
+/// A site whose history is in a journal.
 pub struct SiteResponder<M: Records> {
     alloc: Global,
-    pub node: Node,
+    pub node: Node<M>,
     entries: Vec<u8>,
-    records: PhantomData<M>,
 }
 
 impl<M: Records> SiteResponder<M> {
     /// The site, as the responder of its journal. This takes no memory.
-    pub fn new(alloc: Global, node: Node) -> SiteResponder<M>
+    pub fn new(alloc: Global, node: Node<M>) -> SiteResponder<M>
         ensures { result.node ≡ node }
     {
         SiteResponder {
             alloc,
             node,
             entries: Vec::new(alloc),
-            records: PhantomData,
         }
     }
 
@@ -40,7 +36,6 @@ impl<M: Records> SiteResponder<M> {
             alloc: _,
             node,
             entries: _,
-            records: _,
         } = self;
         node.close();
     }
@@ -72,7 +67,7 @@ impl<M: Records> JournaledResponder for SiteResponder<M> {
         let _sites = self.node.config().sites();
         let before = text.len();
         self.entries.clear();
-        match self.node.answer(line, M::ALL, text, &mut self.entries) {
+        match self.node.answer(line, text, &mut self.entries) {
             Ok(()) => {}
             Err(LineFault::Bad) => {
                 let why = reason_at_site(self.alloc, self.node.config(), self.node.bank(), line);

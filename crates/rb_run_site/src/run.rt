@@ -22,10 +22,10 @@ ghost use Rattle.rb_run_site.specs.declared.fault.SiteFault.TheVariants.{Sealed,
 
 use crate::fault::SiteFault;
 use crate::opening::{Opened, open_site};
-use crate::records::Records;
 use rb_history::{BankName, lines_are_single};
 use rb_journal::{Host, Journal, ServeFault, is_sealed, serve};
 use rb_lines::{Buffers, Source};
+use rb_node::Records;
 use std::alloc::Global;
 
 /// The outcome of a run: the host that it ran over, and how many lines were answered, or why it stopped.

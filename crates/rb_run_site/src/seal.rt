@@ -8,11 +8,11 @@ ghost use Rattle.rb_run_site.specs.declared.fault.SiteFault.TheVariants.{Journal
 
 use crate::fault::SiteFault;
 use crate::opening::open_site;
-use crate::records::AllEvents;
 use crate::run::Ran;
 use rb_history::BankName;
 use rb_journal::{Host, HostError, Journal, ServeFault, end_of_lines, is_sealed};
 use rb_lines::{Buffers, FromBytes};
+use rb_node::AllEvents;
 use std::alloc::Global;
 
 /// Starts site `me` of the configuration that a journal's first line has, with the journal's entries, and closes it.

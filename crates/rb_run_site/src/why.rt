@@ -4,7 +4,8 @@
 use crate::fault::SiteFault;
 use rb_history::{RequestId, read_asked_entry};
 use rb_lines::text_on;
-use rb_node::Node;
+use rb_money::Config;
+use rb_node::{Node, Records};
 use rb_reasons::{Expected, difference_of, line_of, reason_of};
 use rb_site::{Entry, Event, Reply};
 use std::alloc::Global;
@@ -21,9 +22,9 @@ pub fn reason_of_config(alloc: Global, line: &[u8], fault: SiteFault) -> Option<
 }
 
 /// Why a site can't go on by the journal in the file of these bytes, if that is the fault.
-pub fn reason_of_journal(
+pub fn reason_of_journal<M: Records>(
     alloc: Global,
-    node: &Node,
+    node: &Node<M>,
     bytes: &[u8],
     fault: SiteFault,
 ) -> Option<String> {
@@ -37,8 +38,8 @@ pub fn reason_of_journal(
 
 /// Why a line isn't the site's next entry: it is no entry, or one of another site; or its id is one of an entry before
 /// it; or the site writes that entry otherwise.
-fn reason_of_entry(alloc: Global, node: &Node, line: &[u8]) -> Option<String> {
-    match site_of(alloc, node, line) {
+fn reason_of_entry<M: Records>(alloc: Global, node: &Node<M>, line: &[u8]) -> Option<String> {
+    match site_of(alloc, node.config(), line) {
         None => reason_of(alloc, Expected::Entry, Some(node.config()), line),
         Some(site) if site != node.me() => {
             let me = node.me();
@@ -52,13 +53,13 @@ fn reason_of_entry(alloc: Global, node: &Node, line: &[u8]) -> Option<String> {
 }
 
 /// The site whose entry is on a line, if it is an entry and memory suffices to read it.
-fn site_of(alloc: Global, node: &Node, line: &[u8]) -> Option<u8> {
+fn site_of(alloc: Global, config: &Config, line: &[u8]) -> Option<u8> {
     let mut id = RequestId::none(alloc);
     let mut entry = Entry {
         event: Event::Pass(0),
         reply: Reply::Taken(0),
     };
-    read_asked_entry(alloc, node.config(), text_on(line)?, &mut entry, &mut id).ok()
+    read_asked_entry(alloc, config, text_on(line)?, &mut entry, &mut id).ok()
 }
 
 /// The reply of an entry and the site's own, each a line of these two.

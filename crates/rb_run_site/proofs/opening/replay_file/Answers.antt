@@ -12,13 +12,13 @@ use Rattle.rb_run_site.proofs.OpenedFiles.{replayed_file}
 use Rattle.rb_run_site.proofs.opening.replay_file.Goals as goal
 
 pub entries_in-requires : goal.entries_in-requires
-entries_in-requires c =
+entries_in-requires g c =
     let s = c.args.node.now.site.settings in
     let ok = subst IsConfigured c.config.ensures c.sites-sites.ensures.configured in
     (compact_text (config_json s), config_is_line c.lines_are_single.ensures.configs s ok, c.deref.ensures.value ∙ c.in_ok-first.ensures)
 
 pub returns-in-Some : goal.returns-in-Some
-returns-in-Some c =
+returns-in-Some g c =
     let old = c.args.node.now.site in
     let new = c.replay_all.new.node.site in
     let file = c.args.bytes.now in

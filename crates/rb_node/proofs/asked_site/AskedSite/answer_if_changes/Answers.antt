@@ -5,7 +5,6 @@ use Rattle.rb_site.specs.Events.{is_full, sent_at}
 use Rattle.rb_site.specs.Seen.{SeenSite, state_of}
 use Rattle.rb_site.specs.Unchanging.{changes_site, reply_if_changes}
 use Rattle.rb_node.specs.Asked.{SeenAsked, without_ids, with_id}
-use Rattle.rb_node.specs.Index.{index_of}
 use Rattle.rb_node.specs.Kept.{entry_erased, by_bytes, find_request, request_noted}
 use Rattle.rb_node.specs.declared.erased_asked.ErasedAsked.{ErasedAsked}
 use Rattle.rb_node.proofs.Index.{index_noted, put_behind}
@@ -63,6 +62,7 @@ note_request-requires c =
 
 -- the site keeps what it has to, and the index has the event's note
 pub invariant_of-self-2 : goal.invariant_of-self-2
+unfolding the_noted
 invariant_of-self-2 c =
     let x = c.self.inside.site in
     let e = c.args.event.now in

@@ -7,11 +7,11 @@ use Rattle.rb_node.proofs.Failed.{kept, stayed}
 use Rattle.rb_node.proofs.node.Node.answer_event.Goals as goal
 
 pub returns-in_err-reply : goal.returns-in_err-reply
-returns-in_err-reply c = kept c.from_residual.result _ c.from_residual.ensures.0
+returns-in_err-reply g c = kept c.from_residual.result _ c.from_residual.ensures.0
     (stayed c.args.text.now.items, c.in_err-reply.ensures.stepped)
 
 pub returns-in_err-append_answer_head : goal.returns-in_err-append_answer_head
-returns-in_err-append_answer_head c =
+returns-in_err-append_answer_head g c =
     let step = c.in_ok-reply.ensures.stepped.0 in
     kept c.from_residual-in_err-append_answer_head.result _ c.from_residual-in_err-append_answer_head.ensures.0 (
       c.in_err-append_answer_head.ensures.added,
@@ -19,7 +19,7 @@ returns-in_err-append_answer_head c =
     )
 
 pub returns-in_err-append_rest : goal.returns-in_err-append_rest
-returns-in_err-append_rest c =
+returns-in_err-append_rest g c =
     let step = c.in_ok-reply.ensures.stepped.0 in
     let text = c.args.text.now.items in
     kept c.from_residual-in_err-append_rest.result _ c.from_residual-in_err-append_rest.ensures.0 (
@@ -29,7 +29,7 @@ returns-in_err-append_rest c =
     )
 
 pub returns-in_err-apply_ready : goal.returns-in_err-apply_ready
-returns-in_err-apply_ready c =
+returns-in_err-apply_ready g c =
     let text = c.args.text.now.items in
     let entries = c.args.entries.now.items in
     let step = c.in_ok-reply.ensures.stepped.0 in
@@ -43,7 +43,7 @@ returns-in_err-apply_ready c =
     )
 
 pub returns : goal.returns
-returns c =
+returns g c =
     let old = c.args.self.now.site in
     let mid = c.step.new.self in
     let step = c.in_ok-reply.ensures.stepped in
@@ -52,7 +52,7 @@ returns c =
     let begun = both text c.append_answer_head.new.out.items c.append_rest.new.out.items (head_text c.args.id.now)
     (rest_of_front s c.bank.result.now c.in_ok-reply.reply c.as_slice.result.now)
     c.in_ok-append_answer_head.ensures.added c.in_ok-append_rest.ensures in
-    answered c.append.result c.args.all s c.bank.result.now old mid.site c.apply_ready.new.self.site c.args.id.now
+    answered c.append.result g.M.Records.ALL s c.bank.result.now old mid.site c.apply_ready.new.self.site c.args.id.now
     c.args.event c.in_ok-reply.reply
     c.as_slice.result.now text c.append_rest.new.out.items c.apply_ready.new.text.items c.append.new.out.items
     c.args.entries.now.items c.step.new.entries.items c.apply_ready.new.entries.items

@@ -11,11 +11,11 @@ use Rattle.rb_node.proofs.QuestionTexts.{about_line, applied_text, held_text}
 use Rattle.rb_node.proofs.node.Node.append_about.Goals as goal
 
 pub returns-in_err-append_held : goal.returns-in_err-append_held
-returns-in_err-append_held c = failed c.from_residual-in_err-append_held.result c.args.out.now.items c.append_applied.new.out.items
+returns-in_err-append_held g c = failed c.from_residual-in_err-append_held.result c.args.out.now.items c.append_applied.new.out.items
     c.append_held.new.out.items _ _ c.from_residual-in_err-append_held.ensures.0 c.in_ok-append_applied.ensures c.in_err-append_held.ensures
 
 pub returns : goal.returns
-returns c =
+returns g c =
     let old = c.args.out.now.items in
     let x = c.args.self.now.site in
     let first_of : ℕ → List ℕ = λ n. applied_text (compact_text (deps_json x.settings.version (clock_of (asked_state x).ops))) (decimal n)

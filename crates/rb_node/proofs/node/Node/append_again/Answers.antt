@@ -9,10 +9,10 @@ use Rattle.rb_node.proofs.Failed.{kept, stayed}
 use Rattle.rb_node.proofs.node.Node.append_again.Goals as goal
 
 pub returns-in_err-push_sent : goal.returns-in_err-push_sent
-returns-in_err-push_sent c = kept c.from_residual.result _ c.from_residual.ensures.0 (stayed c.args.out.now.items)
+returns-in_err-push_sent g c = kept c.from_residual.result _ c.from_residual.ensures.0 (stayed c.args.out.now.items)
 
 pub returns : goal.returns
-returns c =
+returns g c =
     let site = c.args.self.now.site in
     let sent = c.args.sent in
     let seen : c.self.inside.site ≡ site = ap (λ (v : SeenNode). v.site) c.self.view_is in

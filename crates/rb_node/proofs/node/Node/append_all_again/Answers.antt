@@ -1,7 +1,7 @@
 use Rattle.std.proofs.Common.{◌++◌, add-one, drop-cons, get_or, arith, refl}
 use Rattle.rb_node.specs.Asked.{asked_state}
 use Rattle.rb_node.specs.Index.{lines_again}
-use Rattle.rb_node.specs.declared.sent_entry.Sent.TheVariants.{Operations}
+use Rattle.rb_node.specs.declared.sent_entry.Sending.TheVariants.{Operations}
 use Rattle.rb_node.specs.declared.sent_entry.SentEntry.{SentEntry}
 use Rattle.rb_history.proofs.Public.Appended.{front_of_front, front_of_sum}
 use Rattle.rb_node.proofs.Failed.{kept, stayed}
@@ -9,10 +9,10 @@ use Rattle.rb_node.proofs.QuestionTexts.{line_written, lines_written}
 use Rattle.rb_node.proofs.node.Node.append_all_again.Goals as goal
 
 pub loop-entry-init : goal.loop-entry-init
-loop-entry-init c = record { front = stayed c.args.out.now.items; written = refl }
+loop-entry-init g c = record { front = stayed c.args.out.now.items; written = refl }
 
 pub loop-entry-preserved : goal.loop-entry-preserved
-loop-entry-preserved c =
+loop-entry-preserved g c =
     let site = c.args.self.now.site in
     let out = c.loop-entry.out.items in
     let new = c.append_again.new.out.items in
@@ -27,7 +27,7 @@ loop-entry-preserved c =
     }
 
 pub returns : goal.returns
-returns c =
+returns g c =
     let site = c.args.self.now.site in
     let entries = c.args.entries.now in
     lines_written site.settings site.bank (asked_state site).ops c.loop-entry.out.items
@@ -36,6 +36,6 @@ returns c =
     c.loop-entry.invariant.written
 
 pub returns-in_err-append_again : goal.returns-in_err-append_again
-returns-in_err-append_again c = kept c.from_residual.result _ c.from_residual.ensures.0
+returns-in_err-append_again g c = kept c.from_residual.result _ c.from_residual.ensures.0
     (front_of_front c.args.out.now.items c.loop-entry.out.items c.append_again.new.out.items c.loop-entry.invariant.front
     c.in_err-append_again.ensures)

@@ -13,11 +13,11 @@ use Rattle.rb_node.proofs.QuestionTexts.{applied_parts, applied_text}
 use Rattle.rb_node.proofs.node.Node.append_applied.Goals as goal
 
 pub returns-in_err-append_deps : goal.returns-in_err-append_deps
-returns-in_err-append_deps c = failed c.from_residual-in_err-append_deps.result c.args.out.now.items c.append.new.out.items
+returns-in_err-append_deps g c = failed c.from_residual-in_err-append_deps.result c.args.out.now.items c.append.new.out.items
     c.append_deps.new.out.items _ _ c.from_residual-in_err-append_deps.ensures.0 c.in_ok-append.ensures c.in_err-append_deps.ensures
 
 pub returns-in_err-append_number : goal.returns-in_err-append_number
-returns-in_err-append_number c =
+returns-in_err-append_number g c =
     let old = c.args.out.now.items in
     let two = both old c.append.new.out.items c.append_deps.new.out.items (codes "{\"reply\":{\"about\":{\"applied\":") _
     c.in_ok-append.ensures c.in_ok-append_deps.ensures in
@@ -25,7 +25,7 @@ returns-in_err-append_number c =
     c.from_residual-in_err-append_number.ensures.0 two c.in_err-append_number.ensures
 
 pub returns : goal.returns
-returns c =
+returns g c =
     let old = c.args.out.now.items in
     let x = c.args.self.now.site in
     let seen : c.self.inside.site ≡ x = ap (λ (v : SeenNode). v.site) c.self.view_is in

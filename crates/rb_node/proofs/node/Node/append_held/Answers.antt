@@ -10,12 +10,12 @@ use Rattle.rb_node.proofs.node.Node.append_held.Goals as goal
 use Rattle.rb_node.proofs.node.Node.append_held.Goals.{then-has_token, else-has_token}
 
 pub returns-in_err-append_number-2 : goal.returns-in_err-append_number-2
-returns-in_err-append_number-2 c = failed c.from_residual-in_err-append_number-2.result c.args.out.now.items
+returns-in_err-append_number-2 g c = failed c.from_residual-in_err-append_number-2.result c.args.out.now.items
     c.append_number.new.out.items c.append_number-2.new.out.items _ _ c.from_residual-in_err-append_number-2.ensures.0
     c.in_ok-append_number.ensures c.in_err-append_number-2.ensures
 
 pub returns : goal.returns
-returns c =
+returns g c =
     let old = c.args.out.now.items in
     let x = c.args.self.now.site in
     let seen : c.self.inside.site ≡ x = ap (λ (v : SeenNode). v.site) c.self.view_is in

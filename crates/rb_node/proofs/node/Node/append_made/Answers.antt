@@ -8,30 +8,30 @@ use Rattle.rb_node.specs.Answers.{SeenNode}
 use Rattle.rb_node.specs.Asked.{SeenAsked, asked_state, without_ids}
 use Rattle.rb_node.specs.Index.{messages_of}
 use Rattle.rb_node.specs.Kept.{reply_made, known_again}
-use Rattle.rb_node.specs.declared.sent_entry.Sent.TheVariants.{Operations}
+use Rattle.rb_node.specs.declared.sent_entry.Sending.TheVariants.{Operations}
 use Rattle.rb_node.proofs.AgainTexts.{again_head, again_line, an_id, rest_text}
 use Rattle.rb_node.proofs.Failed.{stayed}
 use Rattle.rb_node.proofs.node.Node.append_made.Goals as goal
 
 pub returns-in_err-messages : goal.returns-in_err-messages
-returns-in_err-messages c = failed_first c.from_residual.result c.args.out.now.items c.args.out.now.items _ c.from_residual.ensures.0
+returns-in_err-messages g c = failed_first c.from_residual.result c.args.out.now.items c.args.out.now.items _ c.from_residual.ensures.0
     (stayed c.args.out.now.items)
 
 pub returns-in_err-reply : goal.returns-in_err-reply
-returns-in_err-reply c = failed_first c.from_residual-in_err-reply.result c.args.out.now.items c.args.out.now.items _
+returns-in_err-reply g c = failed_first c.from_residual-in_err-reply.result c.args.out.now.items c.args.out.now.items _
     c.from_residual-in_err-reply.ensures.0 (stayed c.args.out.now.items)
 
 pub returns-in_err-append_with_id : goal.returns-in_err-append_with_id
-returns-in_err-append_with_id c = failed_first c.from_residual-in_err-append_with_id.result c.args.out.now.items
+returns-in_err-append_with_id g c = failed_first c.from_residual-in_err-append_with_id.result c.args.out.now.items
     c.append_with_id.new.out.items _ c.from_residual-in_err-append_with_id.ensures.0 c.in_err-append_with_id.ensures.added
 
 pub returns-in_err-append_rest : goal.returns-in_err-append_rest
-returns-in_err-append_rest c = failed c.from_residual-in_err-append_rest.result c.args.out.now.items c.append_with_id.new.out.items
+returns-in_err-append_rest g c = failed c.from_residual-in_err-append_rest.result c.args.out.now.items c.append_with_id.new.out.items
     c.append_rest.new.out.items _ _ c.from_residual-in_err-append_rest.ensures.0 c.in_ok-append_with_id.ensures.added
     c.in_err-append_rest.ensures
 
 pub returns : goal.returns
-returns c =
+returns g c =
     let old = c.args.out.now.items in
     let x = c.args.self.now.site in
     let known = c.args.known.now in

@@ -13,10 +13,10 @@ use Rattle.rb_node.proofs.QuestionTexts.{resent_line}
 use Rattle.rb_node.proofs.node.Node.append_resent.Goals as goal
 
 pub returns-in_err-append_all_again : goal.returns-in_err-append_all_again
-returns-in_err-append_all_again c = kept c.from_residual.result _ c.from_residual.ensures.0 c.in_err-append_all_again.ensures
+returns-in_err-append_all_again g c = kept c.from_residual.result _ c.from_residual.ensures.0 c.in_err-append_all_again.ensures
 
 pub returns : goal.returns
-returns c =
+returns g c =
     let old = c.args.out.now.items in
     let site = without_ids c.args.self.now.site in
     let bank = c.args.self.now.site.bank in

@@ -5,7 +5,7 @@ use Rattle.rb_node.proofs.Failed.{kept, stayed}
 use Rattle.rb_node.proofs.node.Node.apply_ready.Goals as goal
 
 pub loop-name-init : goal.loop-name-init
-loop-name-init c = record {
+loop-name-init g c = record {
   utf8 = search rules;
   text_front = stayed c.args.text.now.items;
   entries_front = stayed c.args.entries.now.items;
@@ -13,7 +13,7 @@ loop-name-init c = record {
 }
 
 pub loop-name-preserved : goal.loop-name-preserved
-loop-name-preserved c =
+loop-name-preserved g c =
     let l = c.loop-name in
     let one = c.in_ok-apply_one.ensures in
     record {
@@ -28,11 +28,11 @@ loop-name-preserved c =
     }
 
 pub loop-name-smaller : goal.loop-name-smaller
-loop-name-smaller c = spare_falls c.loop-name.self.site c.apply_one.new.self.site _ _ c.loop-name.entries.items
+loop-name-smaller g c = spare_falls c.loop-name.self.site c.apply_one.new.self.site _ _ c.loop-name.entries.items
     c.apply_one.new.entries.items c.in-Some.ensures.free c.in_ok-apply_one.ensures.step
 
 pub returns-in_err-apply_one : goal.returns-in_err-apply_one
-returns-in_err-apply_one c =
+returns-in_err-apply_one g c =
     let l = c.loop-name in
     let new = c.apply_one.new in
     let failed = c.in_err-apply_one.ensures in
@@ -42,7 +42,7 @@ returns-in_err-apply_one c =
     )
 
 pub returns : goal.returns
-returns c =
+returns g c =
     let l = c.loop-name in
     closed c.append.result c.args.self.now.site l.self.site c.args.text.now.items l.text.items c.append.new.out.items
     c.args.entries.now.items l.entries.items

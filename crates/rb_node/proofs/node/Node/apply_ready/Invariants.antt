@@ -6,7 +6,7 @@ use Rattle.rb_node.proofs.Applied.{AppliesOn}
 use Rattle.rb_node.proofs.node.Node.apply_ready.Given as goal
 
 abbrev pub invariant-loop-name : goal.invariant-loop-name
-invariant-loop-name l = record {
+invariant-loop-name g l = record {
   utf8 : shadow (Utf8 l.comma);
   text_front : take (length l.fn.text.items) l.text.items ≡ l.fn.text.items;
   entries_front : take (length l.fn.entries.items) l.entries.items ≡ l.fn.entries.items;
@@ -17,4 +17,4 @@ invariant-loop-name l = record {
 
 -- the spare capacity of the history
 abbrev pub decreases-loop-name : goal.decreases-loop-name
-decreases-loop-name l = l.self.site.settings.limits.history - length (asked_state l.self.site).history
+decreases-loop-name g l = l.self.site.settings.limits.history - length (asked_state l.self.site).history

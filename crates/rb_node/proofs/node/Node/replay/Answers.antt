@@ -3,7 +3,7 @@ use Rattle.rb_node.proofs.Spelled.{each_known, read_on}
 use Rattle.rb_node.proofs.node.Node.replay.Goals as goal
 
 pub returns : goal.returns
-returns c =
+returns g c =
     let old = c.args.self.now.site in
     let x : AskedEntry = record { id = c.entry_of.new.id; entry = c.in_ok-entry.entry } in
     let line = c.args.line.now in

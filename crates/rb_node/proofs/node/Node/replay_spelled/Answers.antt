@@ -9,7 +9,7 @@ use Rattle.rb_node.proofs.Spelled.{beside, other_bytes, same_bytes, written_for}
 use Rattle.rb_node.proofs.node.Node.replay_spelled.Goals as goal
 
 pub returns-then-ne-clause-bad : goal.returns-then-ne-clause-bad
-returns-then-ne-clause-bad c e =
+returns-then-ne-clause-bad g c e =
     let old = c.args.self.now.site in
     let seen : c.self.inside.site ≡ old = ap (λ (v : SeenNode). v.site) c.self.view_is in
     let x : AskedEntry = record { id = c.args.id.now; entry = c.args.entry.now } in
@@ -22,7 +22,7 @@ returns-then-ne-clause-bad c e =
     )
 
 pub returns : goal.returns
-returns c =
+returns g c =
     let old = c.args.self.now.site in
     let x : AskedEntry = record { id = c.args.id.now; entry = c.args.entry.now } in
     let seen : c.self.inside.site ≡ old = ap (λ (v : SeenNode). v.site) c.self.view_is in

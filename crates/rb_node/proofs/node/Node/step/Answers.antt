@@ -8,27 +8,27 @@ use Rattle.rb_node.proofs.Recorded.{not-full, refused-by, sends-none, stepped-by
 use Rattle.rb_node.proofs.node.Node.step.Goals as goal
 
 pub returns-then-refuses : goal.returns-then-refuses
-returns-then-refuses c =
+returns-then-refuses g c =
     let old = c.args.self.now.site in
     let e = c.args.event in
     let seen : c.self.inside.site ≡ old = ap (λ (v : SeenNode). v.site) c.self.view_is in
-    let full = c.if-refuses.ensures ∙ ap (λ (y : SeenAsked). c.args.all && is_full y.settings (asked_state y)) seen in
+    let full = c.if-refuses.ensures ∙ ap (λ (y : SeenAsked). g.M.Records.ALL && is_full y.settings (asked_state y)) seen in
     record {
       stepped = (
-        subst (λ y. StepsKept c.args.all old y c.args.id.now e _ c.args.entries.now.items c.args.entries.now.items) (sym seen)
-            (refused-by c.args.all old c.args.id.now e c.args.entries.now.items full),
-        c.clear.ensures.items ∙ sym (sends-none c.args.all old.settings (asked_state old) e full),
+        subst (λ y. StepsKept g.M.Records.ALL old y c.args.id.now e _ c.args.entries.now.items c.args.entries.now.items) (sym seen)
+            (refused-by g.M.Records.ALL old c.args.id.now e c.args.entries.now.items full),
+        c.clear.ensures.items ∙ sym (sends-none g.M.Records.ALL old.settings (asked_state old) e full),
       );
     }
 
 pub note-requires : goal.note-requires
-note-requires c out all =
+note-requires g c out all =
     let mid = c.answer_if_changes.new in
     still-unchanging c.in_ok-recorded.recorded c.self.inside.site mid.self c.args.id.now c.args.event mid.reply
-    c.in_ok-recorded.ensures.recorded (not-full c.args.all _ c.if-refuses.ensures all) out
+    c.in_ok-recorded.ensures.recorded (not-full g.M.Records.ALL _ c.if-refuses.ensures all) out
 
 pub returns : goal.returns
-returns c =
+returns g c =
     let old = c.args.self.now.site in
     let mid = c.answer_if_changes.new in
     let id = c.args.id.now in
@@ -38,9 +38,9 @@ returns c =
     let noted = c.in_ok-note.ensures in
     record {
       stepped = (
-        stepped-by c.args.all c.in_ok-recorded.recorded old mid.self c.note.new.self.site id e mid.reply c.args.entries.now.items
+        stepped-by g.M.Records.ALL c.in_ok-recorded.recorded old mid.self c.note.new.self.site id e mid.reply c.args.entries.now.items
             c.note.new.entries.items (subst (λ y. RecordsIf y mid.self id e mid.reply c.in_ok-recorded.recorded) seen ok.recorded)
-            (c.if-refuses.ensures ∙ ap (λ (y : SeenAsked). c.args.all && is_full y.settings (asked_state y)) seen)
+            (c.if-refuses.ensures ∙ ap (λ (y : SeenAsked). g.M.Records.ALL && is_full y.settings (asked_state y)) seen)
             noted.0,
         noted.1 ∙ ok.sent ∙ ap (λ l. l ++ sent_at c.self.inside.site.settings (asked_state c.self.inside.site) e) c.clear.ensures.items
             ∙ ap (λ (y : SeenAsked). sent_at y.settings (asked_state y) e) seen,

@@ -8,18 +8,18 @@ use Rattle.rb_node.proofs.Recorded.{recorded}
 use Rattle.rb_node.proofs.node.Node.step_within_limit.Goals as goal
 
 pub returns-in_err-append_with_feed : goal.returns-in_err-append_with_feed
-returns-in_err-append_with_feed c = record {
+returns-in_err-append_with_feed g c = record {
   recorded = kept c.from_residual-in_err-append_with_feed.result _ c.from_residual-in_err-append_with_feed.ensures.0
       c.in_err-append_with_feed.ensures;
 }
 
 pub returns : goal.returns
-returns c =
+returns g c =
     let old = c.args.self.now.site in
     let event = c.args.event in
     let reply = c.answer.new.reply in
     let seen : c.self.inside.site ≡ old = ap (λ (v : SeenNode). v.site) c.self.view_is in
-    let ok = c.in_ok-answer.ensures in
+    let ok = c.in_ok-answer.ensures.ok in
     let is : c.answer.new.self ≡ with_more old (with_id [] (entry event reply) ∷ []) =
     ok.0 ∙ ap (λ i. with_more c.self.inside.site (with_id i (entry event reply) ∷ [])) c.none-none.ensures
     ∙ ap (λ (y : SeenAsked). with_more y (with_id [] (entry event reply) ∷ [])) seen in

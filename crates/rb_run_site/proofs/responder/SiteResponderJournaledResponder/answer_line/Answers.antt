@@ -3,16 +3,13 @@ use Rattle.std.proofs.lemmas.Result.{on_ok_weaker}
 use Rattle.rb_money.specs.Settings.{IsConfigured}
 use Rattle.rb_journal.specs.Lines.{IsBatch, recovered}
 use Rattle.rb_node.specs.Answers.{SeenNode, line_of}
-use Rattle.rb_node.specs.LineAnswers.{IsLineAnswer}
 use Rattle.rb_run_site.specs.Journals.{bad_json}
 use Rattle.rb_run_site.proofs.Turned.{bad_line, batched, may_have, short_line, turned}
 use Rattle.rb_run_site.proofs.responder.SiteResponderJournaledResponder.answer_line.Goals as goal
 
 pub extend-requires : goal.extend-requires
 extend-requires g c =
-    let (text, entries, by, said, lines) = c.in-Ok.ensures.answered in
-    let a = subst (λ all. IsLineAnswer all c.args.self.now.node.site c.answer.new.self.site
-    c.args.line.now text entries) c.ALL.ensures by in
+    let (text, entries, a, said, lines) = c.in-Ok.ensures.answered in
     let ok = subst IsConfigured c.config.ensures c.sites-sites.ensures.configured in
     subst IsBatch (sym (c.deref.ensures.value ∙ lines ∙ ap (λ l. l ++ entries) c.clear.ensures.items))
     (batched c.lines_are_single.ensures.entries c.read_events_fit.ensures g.M.Records.ALL
@@ -20,9 +17,7 @@ extend-requires g c =
 
 pub returns-in-Ok-extend-clause-answered : goal.returns-in-Ok-extend-clause-answered
 returns-in-Ok-extend-clause-answered g c =
-    let (text, entries, by, said, lines) = c.in-Ok.ensures.answered in
-    let a = subst (λ all. IsLineAnswer all c.args.self.now.node.site c.answer.new.self.site
-    c.args.line.now text entries) c.ALL.ensures by in
+    let (text, entries, a, said, lines) = c.in-Ok.ensures.answered in
     let ok = subst IsConfigured c.config.ensures c.sites-sites.ensures.configured in
     turned g.M.Records.ALL c.args.self.now.node.site c.answer.new.self.site c.args.number c.args.line.now text entries
     c.args.text.now.items c.answer.new.answers.items (recovered c.args.batch.now.bytes.items) (recovered c.extend.new.self.bytes.items)

@@ -1,7 +1,7 @@
 //! Which events a site records.
 //!
-//! The choice is a type, not a value, so that the contract of `run_site` pins it. With `Changes` a line that adds no
-//! entry costs no write of the file.
+//! The choice is a type, not a value, so that the contracts of a site and of its run pin it. With `Changes` a line that
+//! adds no entry costs no write of a journal.
 ghost use Rattle.std.specs.Prelude.{Bool, true, false};
 
 /// A choice of the events that a site records.
