@@ -107,8 +107,8 @@ def example():
         left = stored(journal)
     site = stored(os.path.join(EXAMPLES, "sites", "site_deposit.site.expected")).splitlines(keepends=True)[0]
     entry = stored(os.path.join(EXAMPLES, "sites", "site_deposit.site.journal")).splitlines(keepends=True)[1]
-    replies = (b'{"kind":"deposit","name":"B0.1"}\n{"held":"B0.1"}\ncolumn 30: not JSON\n{"applied":"B0.1"}\n'
-               b'{"balance":500}\n')
+    replies = (b'{"kind":"deposit","name":"B0.1"}\n{"held":"B0.1"}\ncolumn 29: a comma or ] is missing here\n'
+               b'{"applied":"B0.1"}\n{"balance":500}\n')
     first = found == (replies + site, b"", 0) and kept.splitlines(keepends=True)[1:] == [entry]
     return first and again == (replies, b"example: status -1\n", 1) and left == kept
 
@@ -130,7 +130,7 @@ def restart():
         with open(journal, "ab") as file:
             file.write(b"\t")
         sealed = run([program, "0", journal])
-    answer = b'{"reply":{"balance":500},"sends":[],"then":[]}\ncolumn 10: JSON that isn\'t whole\n'
+    answer = b'{"reply":{"balance":500},"sends":[],"then":[]}\ncolumn 11: a colon is missing behind the key balance\n'
     entry = b'{"event":{"balance":"ann"},"reply":{"balance":500},"site":0}\n'
     return ((found, again, status) == (answer, sent, 0) and kept == before + entry
             and re.fullmatch(rb'to all: \{"shadow":.*\}\nto 1: \{"token":\[1,1,0\]\}\n', sent) is not None

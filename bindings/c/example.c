@@ -14,11 +14,11 @@
 
 static const char CONFIG[] = "{\"accounts\":[[\"ann\",0],[\"bob\",1000]],\"sites\":2,\"version\":1}";
 
-/* Says why a line isn't taken. */
+/* Says why a command isn't taken. */
 static void print_fault(const char *line) {
-    char why[64];
-    size_t column, length = rbbank_error(TEXT(line), why, sizeof why, &column);
-    printf("column %zu: %.*s\n", column, (int)length, why);
+    char why[400];
+    size_t length = rbbank_error(RBBANK_COMMAND, TEXT(CONFIG), TEXT(line), why, sizeof why);
+    printf("%.*s\n", (int)length, why);
 }
 
 static int a_bank(void) {

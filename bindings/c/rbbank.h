@@ -33,11 +33,22 @@ extern "C" {
 /* Copies the library's version, such as "2.0.0". */
 size_t rbbank_version(char *out, size_t capacity);
 
-/* Copies why a line isn't taken, as far as its text says: "not UTF-8", "not JSON", "JSON that isn't whole" or "JSON,
- * but no line that is taken here"; 0 if memory ran out. It is asked after RBBANK_BAD_LINE, with the same line. For the
- * second and the third `*column` is which byte of the line, from 1, the reader of JSON came to; else, and at no byte,
- * 0. */
-size_t rbbank_error(const char *line, size_t length, char *out, size_t capacity, size_t *column);
+/* What a line should have been. */
+enum {
+    RBBANK_CONFIG = 0,  /* a configuration: rbbank_open, rbbank_site_open, rbbank_journal_open */
+    RBBANK_COMMAND = 1, /* a command: rbbank_answer, rbbank_script */
+    RBBANK_EVENT = 2,   /* an event, or a question: rbbank_site_answer */
+    RBBANK_ENTRY = 3    /* an entry: rbbank_site_replay, rbbank_audit, rbbank_migrate, and a line of a journal */
+};
+
+/* Copies why a line isn't taken, as `rbbank` says it, on one line: "column 47: 25 is out of range: ..". The column
+ * counts characters, from 1; the words may change. It is asked after RBBANK_BAD_LINE, with the same line and what it
+ * should have been. `config` is the bank's configuration; for RBBANK_CONFIG it isn't read.
+ *
+ * 0 if memory ran out, or if nothing is wrong with the line itself: an entry is another site's, or has the id of an
+ * entry before. "no such kind of line" or "no configuration" if `kind` or `config` is none. */
+size_t rbbank_error(uint8_t kind, const char *config, size_t config_length, const char *line, size_t length, char *out,
+                    size_t capacity);
 
 /* What calls on a handle return. */
 enum {

@@ -88,8 +88,9 @@ static int a_send(struct rbbank_site *site) {
 /* Whether a line's fault is said, or memory ran out. */
 static int an_error(void) {
     char out[100];
-    size_t column, length = rbbank_error(TEXT("{\"deposit\":[\"ann\",}"), out, sizeof out, &column);
-    return length > 0 ? column > 0 : refused;
+    static const char line[] = "{\"deposit\":[\"ann\",}";
+    size_t length = rbbank_error(RBBANK_EVENT, TEXT(CONFIG), TEXT(line), out, sizeof out);
+    return length > 0 ? memcmp(out, "column 19: ", 11) == 0 : refused;
 }
 
 static int a_site(void) {

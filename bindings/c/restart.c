@@ -122,9 +122,9 @@ static FILE *opened(struct rbbank_site *site, const char *path) {
 static void answer(struct rbbank_site *site, FILE *journal, const char *line, size_t length) {
     int32_t status = rbbank_site_answer(site, line, length);
     if (status == RBBANK_BAD_LINE) {
-        char why[64];
-        size_t column, all = rbbank_error(line, length, why, sizeof why, &column);
-        printf("column %zu: %.*s\n", column, (int)all, why);
+        char why[400];
+        size_t all = rbbank_error(RBBANK_EVENT, CONFIG, strlen(CONFIG), line, length, why, sizeof why);
+        printf("%.*s\n", (int)all, why);
         return;
     }
     if (status != RBBANK_OK)

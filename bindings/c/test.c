@@ -320,14 +320,14 @@ static void messages(void) {
     rbbank_site_close(&other);
 }
 
-/* Whether the fault of a line is this. */
-static int is_fault(const char *line, size_t length, const char *text, size_t wanted) {
-    size_t column = SIZE_MAX, all = strlen(text);
+/* Whether this is said of a line that should have been of this kind. */
+static int is_fault(uint8_t kind, const char *config, const char *line, size_t length, const char *text) {
+    size_t all = strlen(text);
     for (size_t size = 0; size <= all + 1; size++) {
         char *out = malloc(size + 1);
         out[size] = 'z';
-        size_t n = rbbank_error(line, length, out, size, &column);
-        int same = n == all && column == wanted && out[size] == 'z' && memcmp(out, text, all < size ? all : size) == 0;
+        size_t n = rbbank_error(kind, TEXT(config), line, length, out, size);
+        int same = n == all && out[size] == 'z' && memcmp(out, text, all < size ? all : size) == 0;
         free(out);
         if (!same)
             return 0;
@@ -336,13 +336,19 @@ static int is_fault(const char *line, size_t length, const char *text, size_t wa
 }
 
 static void errors(void) {
-    WANTED(is_fault(TEXT("{\"deposit\":[\"ann\",500]"), "JSON that isn't whole", 22));
-    WANTED(is_fault(TEXT(""), "JSON that isn't whole", 0));
-    WANTED(is_fault(TEXT("{\"deposit\":[\"ann\" 500]}"), "not JSON", 19));
-    WANTED(is_fault(TEXT("deposit 500"), "not JSON", 1));
-    WANTED(is_fault(TEXT("{\"deposits\":[\"ann\",500]}"), "JSON, but no line that is taken here", 0));
-    WANTED(is_fault(TEXT("{\"\xff\":1}"), "not UTF-8", 0));
-    WANTED(is_fault(NULL, 0, "JSON that isn't whole", 0));
+    static const char entry[] = "{\"event\":{\"balance\":\"ann\"},\"reply\":{\"refused\":25},\"site\":0}";
+    WANTED(is_fault(RBBANK_ENTRY, CONFIG, TEXT(entry), "column 47: 25 is out of range: a refusal is 1 to 24"));
+    WANTED(is_fault(RBBANK_CONFIG, "", TEXT("{\"accounts\":[[\"ann\",0]],\"sites\":17,\"version\":1}"),
+                    "column 33: 17 is out of range: the number of sites is 2 to 16"));
+    WANTED(is_fault(RBBANK_COMMAND, CONFIG, TEXT("{\"balance\":\"ann\"}"),
+                    "column 17: the key \"site\" of a command is missing"));
+    WANTED(is_fault(RBBANK_EVENT, CONFIG, TEXT("{\"deposit\":[\"ann\",1.0]}"),
+                    "column 19: 1.0 has a point, and an amount in cents is a whole number"));
+    WANTED(is_fault(RBBANK_COMMAND, CONFIG, TEXT("{\"balance\":\"\xff\"}"), "column 13: the byte 0xff isn't UTF-8"));
+    WANTED(is_fault(RBBANK_COMMAND, CONFIG, NULL, 0, "column 1: the line ends here, and a value is missing"));
+    WANTED(is_fault(RBBANK_COMMAND, CONFIG, TEXT(DEPOSIT), ""));
+    WANTED(is_fault(RBBANK_COMMAND, "{}", TEXT(DEPOSIT), "no configuration"));
+    WANTED(is_fault(RBBANK_ENTRY + 1, CONFIG, TEXT(DEPOSIT), "no such kind of line"));
 }
 
 /* What another thread does with the handles that it is given: nothing else has them meanwhile. */

@@ -100,15 +100,26 @@ class Banks(unittest.TestCase):
     def test_why_a_line_is_not_taken(self):
         with rbbank.Bank(CONFIG) as bank:
             for line, text, column in [
-                ('{"deposit":["ann",500]', "column 22: JSON that isn't whole", 22),
-                ("deposit 500", "column 1: not JSON", 1),
-                ("{}", "JSON, but no line that is taken here", None),
-                (b"\xff", "not UTF-8", None),
+                ('{"deposit":["ann",1.0],"site":0}',
+                 "column 19: 1.0 has a point, and an amount in cents is a whole number", 19),
+                ("deposit 500", 'column 1: deposit is no value: a text is between " and "', 1),
+                ('{"balance":"ann"}', 'column 17: the key "site" of a command is missing', 17),
+                (b'{"balance":"\xff","site":0}', "column 13: the byte 0xff isn't UTF-8", 13),
             ]:
                 with self.assertRaises(rbbank.BadLine) as bad:
                     bank.answer(line)
                 self.assertEqual((str(bad.exception), bad.exception.column), (text, column))
-        self.assertRaisesRegex(rbbank.BadLine, "column 2: not JSON", rbbank.Bank, "{]")
+        self.assertRaisesRegex(rbbank.BadLine, "column 33: 17 is out of range: the number of sites is 2 to 16",
+                               rbbank.Bank, CONFIG.replace('"sites":2', '"sites":17'))
+        with rbbank.Site(0, CONFIG) as site:
+            entry = '{"event":{"balance":"ann"},"reply":{"refused":25},"site":0}'
+            self.assertRaisesRegex(rbbank.BadLine, "^column 47: 25 is out of range: a refusal is 1 to 24$",
+                                   site.replay, entry)
+            self.assertRaisesRegex(rbbank.BadLine, "^column 1: a line is an object, and this is a list$",
+                                   site.answer, "[]")
+            # An entry of another site has nothing wrong with it.
+            entry = '{"event":{"balance":"ann"},"reply":{"balance":0},"site":1}'
+            self.assertRaisesRegex(rbbank.BadLine, "^$", site.replay, entry)
 
     def test_version(self):
         self.assertRegex(rbbank.version(), r"^\d+\.\d+\.\d+$")

@@ -31,6 +31,7 @@ from __future__ import annotations
 
 import ctypes
 import os
+import re
 import threading
 import typing
 import weakref
@@ -49,13 +50,15 @@ class Closed(RuntimeError):
 class BadLine(ValueError):
     """The line is no configuration, command, event or entry of this site. Nothing has changed.
 
-    Its text says why, as far as that of the line says it; `column` is which byte of the line, from 1, the reader of
-    JSON came to, where it isn't JSON, else None.
+    Its text says why, in words that may change, as "column 47: 25 is out of range: a refusal is 1 to 24"; `column` is
+    which character of the line that is, from 1. The text is empty and the column None if there was no memory, or if
+    nothing is wrong with the line itself: an entry is another site's, or has the id of an entry before.
     """
 
-    def __init__(self, why: str = "", column: int | None = None) -> None:
-        super().__init__(f"column {column}: {why}" if column else why)
-        self.column = column
+    def __init__(self, why: str = "") -> None:
+        super().__init__(why)
+        column = re.match(r"column (\d+): ", why)
+        self.column = int(column[1]) if column else None
 
 
 class NoSuchSite(ValueError):
@@ -144,7 +147,7 @@ _CLOSES = [ctypes.c_uint8, *_TEXT, *_TEXT, _SIZES, ctypes.c_size_t, *_TEXT, _SIZ
 # Each call of bindings/c/rbbank.h: what it returns, and what it takes.
 CALLS: dict[str, tuple[typing.Any, list[typing.Any]]] = {
     "rbbank_version": (ctypes.c_size_t, _TEXT),
-    "rbbank_error": (ctypes.c_size_t, [*_TEXT, *_TEXT, _SIZES]),
+    "rbbank_error": (ctypes.c_size_t, [ctypes.c_uint8, *_TEXT, *_TEXT, *_TEXT]),
     "rbbank_open": (ctypes.c_int32, _TAKES),
     "rbbank_answer": (ctypes.c_int32, _TAKES),
     "rbbank_reply": (ctypes.c_size_t, _TAKES),
@@ -171,6 +174,7 @@ CALLS: dict[str, tuple[typing.Any, list[typing.Any]]] = {
 _FILE = "librbbank.so"
 _PART = 4096  # bytes that are copied without a buffer of the text's own length
 _OK, _NONE, _BAD_LINE, _REFUSED, _NO_MEMORY = range(5)
+_CONFIG, _COMMAND, _EVENT, _ENTRY = range(4)  # what a line should have been
 _EACH_OTHER_SITE = 255
 _loaded: dict[str, typing.Any] = {}
 
@@ -226,20 +230,21 @@ def _copied(call: typing.Callable[[typing.Any, int], int]) -> bytes:
     return ctypes.string_at(out, length)
 
 
-def _bad_line(line: bytes) -> BadLine:
-    """Why this line isn't taken."""
-    column = ctypes.c_size_t()
+def _bad_line(kind: int, configuration: bytes, line: bytes) -> BadLine:
+    """Why this line isn't taken, which should have been of this kind."""
+    given = (kind, configuration, len(configuration), line, len(line))
     error = _call("rbbank_error")
-    why = _copied(lambda out, size: int(error(line, len(line), out, size, ctypes.byref(column))))
-    return BadLine(why.decode(), column.value or None)
+    return BadLine(_copied(lambda out, size: int(error(*given, out, size))).decode())
 
 
 class _Handle:
     """What C keeps of a bank or of a site, with the lock that lets one thread at a time use it."""
 
     _prefix: typing.ClassVar[str]
+    _kind: typing.ClassVar[int] = _EVENT
 
-    def __init__(self) -> None:
+    def __init__(self, configuration: Line) -> None:
+        self._configuration = _bytes(configuration)
         self._at = ctypes.c_void_p()
         self._ref = ctypes.byref(self._at)
         self._lock = threading.Lock()
@@ -248,12 +253,12 @@ class _Handle:
         self._finalizer = weakref.finalize(self, _call(self._prefix + "close"), self._ref)
         self._answer, self._reply = _call(self._prefix + "answer"), _call(self._prefix + "reply")
 
-    def _raise(self, status: int, line: bytes, refusal: type[ValueError] = BadLine) -> typing.NoReturn:
-        """Raises what a status means that isn't 0."""
+    def _raise(self, status: int, kind: int, line: bytes, refusal: type[ValueError] = BadLine) -> typing.NoReturn:
+        """Raises what a status means that isn't 0, after a line that should have been of this kind."""
         if status == _NONE:
             raise Closed("it is closed")
         if status == _BAD_LINE:
-            raise _bad_line(line)
+            raise _bad_line(kind, self._configuration, line)
         if status == _REFUSED:
             raise refusal()
         raise MemoryError("it is closed now")
@@ -274,7 +279,7 @@ class _Handle:
         with self._lock:
             status = self._answer(self._ref, data, len(data))
             if status != _OK:
-                self._raise(status, data)
+                self._raise(status, self._kind, data)
             return self._kept(self._reply)[:-1].decode()
 
     def reply(self) -> str:
@@ -298,14 +303,15 @@ class Bank(_Handle):
     """All sites of a configuration, with the messages between them, before any command."""
 
     _prefix = "rbbank_"
+    _kind = _COMMAND
 
     def __init__(self, configuration: Line) -> None:
         """Raises BadLine if the line is no configuration, and MemoryError."""
-        super().__init__()
-        data = _bytes(configuration)
+        super().__init__(configuration)
+        data = self._configuration
         status = _call("rbbank_open")(self._ref, data, len(data))
         if status != _OK:
-            self._raise(status, data)
+            self._raise(status, _CONFIG, data)
 
 
 class _Sending(_Handle):
@@ -359,11 +365,11 @@ class Site(_Sending):
         """Raises BadLine if the line is no configuration, NoSuchSite, and MemoryError."""
         if not 0 <= me <= 255:
             raise NoSuchSite
-        super().__init__()
-        data = _bytes(configuration)
+        super().__init__(configuration)
+        data = self._configuration
         status = _call("rbbank_site_open")(self._ref, me, data, len(data))
         if status != _OK:
-            self._raise(status, data, NoSuchSite)
+            self._raise(status, _CONFIG, data, NoSuchSite)
 
     def entries(self) -> bytes:
         """The lines for the journal, each with its line feed: of the configuration after the opening, and of the last
@@ -382,7 +388,7 @@ class Site(_Sending):
         with self._lock:
             status = _call("rbbank_site_replay")(self._ref, data, len(data))
             if status != _OK:
-                self._raise(status, data, WrongReply)
+                self._raise(status, _ENTRY, data, WrongReply)
             return self._kept(self._reply)[:-1].decode()
 
 
@@ -496,11 +502,11 @@ class Journal(_Sending):
         """
         if not 0 <= me <= 255:
             raise NoSuchSite
-        super().__init__()
+        super().__init__(configuration)
         self._number = 1
         self._file = _File(os.fspath(path), new)
         try:
-            self._open(me, _bytes(configuration), resend)
+            self._open(me, self._configuration, resend)
         except BaseException:
             self.close()
             raise
@@ -513,7 +519,7 @@ class Journal(_Sending):
         if status in self._faults:
             raise JournalFault(self._faults[status], line.value or None)
         if status != _OK:
-            self._raise(status, data, NoSuchSite)
+            self._raise(status, _CONFIG, data, NoSuchSite)
         self._make_calls()
 
     def _make_calls(self) -> None:
@@ -548,7 +554,7 @@ class Journal(_Sending):
             self._number += 1
             status = self._answer(self._ref, self._number, data, len(data))
             if status != _OK:
-                self._raise(_NONE if status == _NONE else _NO_MEMORY, data)
+                self._raise(_NONE if status == _NONE else _NO_MEMORY, self._kind, data)
             self._make_calls()
             return self._kept(self._reply)[:-1].decode()
 

@@ -112,7 +112,9 @@ fn replay(site: &mut Site, journal: &[u8], resend: Option<usize>) -> Result<Stri
     for (at, entry) in entries.iter().enumerate() {
         let sends = match site.replay(entry) {
             Ok(sends) => sends,
-            Err(ReplayError::BadLine) => return stop(format!("journal line {}: bad line", at + 2)),
+            Err(ReplayError::BadLine(_)) => {
+                return stop(format!("journal line {}: bad line", at + 2))
+            }
             Err(why) => return stop(format!("journal line {}: {why}", at + 2)),
         };
         if !sends.is_empty()
@@ -197,7 +199,7 @@ fn journal(asked: &Asked, input: &str) -> Result<(), Stop> {
     let resend = asked.resend.unwrap_or(usize::MAX);
     let mut site = match Journal::open(asked.path, asked.me, config, resend, asked.is_new) {
         Ok(site) => site,
-        Err(JournalError::BadConfiguration) => return stop(format!("line {number}")),
+        Err(JournalError::BadConfiguration(_)) => return stop(format!("line {number}")),
         Err(why) => return stop(why.to_string()),
     };
     let put = |reply: &str| {

@@ -26,11 +26,13 @@ impl Handle {
 extern "C" {
     pub fn rbbank_version(out: *mut u8, capacity: usize) -> usize;
     pub fn rbbank_error(
+        kind: u8,
+        config: *const u8,
+        config_length: usize,
         line: *const u8,
         length: usize,
         out: *mut u8,
         capacity: usize,
-        column: *mut usize,
     ) -> usize;
     pub fn rbbank_open(bank: *mut Handle, config: *const u8, length: usize) -> i32;
     pub fn rbbank_answer(bank: *mut Handle, line: *const u8, length: usize) -> i32;

@@ -1,14 +1,17 @@
 //! Why a call gave nothing.
+use crate::LineFault;
+#[cfg(unix)]
+use crate::{fault_of, LineKind::Configuration};
 use std::error::Error;
 use std::fmt;
 #[cfg(unix)]
 use std::io;
 
 /// Why a bank or a site wasn't opened.
-#[derive(Clone, Copy, Debug, PartialEq, Eq)]
+#[derive(Clone, Debug, PartialEq, Eq)]
 pub enum OpenError {
     /// The line is no configuration.
-    BadConfiguration,
+    BadConfiguration(LineFault),
     /// The configuration has no site of the number.
     NoSuchSite,
     /// There was no memory.
@@ -16,10 +19,10 @@ pub enum OpenError {
 }
 
 /// Why a line wasn't answered.
-#[derive(Clone, Copy, Debug, PartialEq, Eq)]
+#[derive(Clone, Debug, PartialEq, Eq)]
 pub enum AnswerError {
     /// The line is no command or no event. Nothing has changed.
-    BadLine,
+    BadLine(LineFault),
     /// There was no memory: the answer is lost, and nothing more can be asked.
     OutOfMemory,
     /// It ended before, for want of memory or with a wrong reply.
@@ -27,10 +30,10 @@ pub enum AnswerError {
 }
 
 /// Why a line of a journal wasn't replayed.
-#[derive(Clone, Copy, Debug, PartialEq, Eq)]
+#[derive(Clone, Debug, PartialEq, Eq)]
 pub enum ReplayError {
     /// The line is no entry of this site, or has the id of an entry before. Nothing has changed.
-    BadLine,
+    BadLine(LineFault),
     /// The site gives another reply than the entry has, or its history is full: nothing more can be asked of it.
     WrongReply,
     /// There was no memory: nothing more can be asked of the site.
@@ -44,7 +47,7 @@ pub enum ReplayError {
 #[derive(Debug)]
 pub enum JournalError {
     /// The line is no configuration.
-    BadConfiguration,
+    BadConfiguration(LineFault),
     /// The configuration has no site of the number.
     NoSuchSite,
     /// The file is another bank's journal, or none.
@@ -83,10 +86,10 @@ pub enum JournalError {
 #[cfg(unix)]
 impl JournalError {
     /// The error of an opening's status with its number, if it is one.
-    pub(crate) fn of_open(status: i32, line: u64) -> Result<(), JournalError> {
+    pub(crate) fn of_open(status: i32, line: u64, configuration: &str) -> Result<(), JournalError> {
         Err(match status {
             0 => return Ok(()),
-            2 => JournalError::BadConfiguration,
+            2 => JournalError::BadConfiguration(fault_of(Configuration, "", configuration)),
             3 => JournalError::NoSuchSite,
             5 => JournalError::AnotherJournal,
             6 => JournalError::BadEntry { line },
@@ -119,7 +122,7 @@ impl From<AnswerError> for JournalError {
 impl fmt::Display for JournalError {
     fn fmt(&self, f: &mut fmt::Formatter<'_>) -> fmt::Result {
         match self {
-            JournalError::BadConfiguration => f.write_str("bad configuration"),
+            JournalError::BadConfiguration(why) => write(f, "bad configuration", why),
             JournalError::NoSuchSite => f.write_str("no such site"),
             JournalError::AnotherJournal => f.write_str("another bank's journal"),
             JournalError::BadEntry { line } => write!(f, "journal line {line}: bad line"),
@@ -252,34 +255,43 @@ impl CloseError {
     }
 }
 
+/// A fault, and behind it why, if that is known.
+fn write(f: &mut fmt::Formatter<'_>, fault: &str, why: &LineFault) -> fmt::Result {
+    f.write_str(fault)?;
+    if why.why.is_empty() {
+        return Ok(());
+    }
+    write!(f, ": {why}")
+}
+
 impl fmt::Display for OpenError {
     fn fmt(&self, f: &mut fmt::Formatter<'_>) -> fmt::Result {
-        f.write_str(match self {
-            OpenError::BadConfiguration => "bad configuration",
-            OpenError::NoSuchSite => "no such site",
-            OpenError::OutOfMemory => "out of memory",
-        })
+        match self {
+            OpenError::BadConfiguration(why) => write(f, "bad configuration", why),
+            OpenError::NoSuchSite => f.write_str("no such site"),
+            OpenError::OutOfMemory => f.write_str("out of memory"),
+        }
     }
 }
 
 impl fmt::Display for AnswerError {
     fn fmt(&self, f: &mut fmt::Formatter<'_>) -> fmt::Result {
-        f.write_str(match self {
-            AnswerError::BadLine => "bad line",
-            AnswerError::OutOfMemory => "out of memory",
-            AnswerError::Ended => "ended before",
-        })
+        match self {
+            AnswerError::BadLine(why) => write(f, "bad line", why),
+            AnswerError::OutOfMemory => f.write_str("out of memory"),
+            AnswerError::Ended => f.write_str("ended before"),
+        }
     }
 }
 
 impl fmt::Display for ReplayError {
     fn fmt(&self, f: &mut fmt::Formatter<'_>) -> fmt::Result {
-        f.write_str(match self {
-            ReplayError::BadLine => "bad line",
-            ReplayError::WrongReply => "wrong reply",
-            ReplayError::OutOfMemory => "out of memory",
-            ReplayError::Ended => "ended before",
-        })
+        match self {
+            ReplayError::BadLine(why) => write(f, "bad line", why),
+            ReplayError::WrongReply => f.write_str("wrong reply"),
+            ReplayError::OutOfMemory => f.write_str("out of memory"),
+            ReplayError::Ended => f.write_str("ended before"),
+        }
     }
 }
 

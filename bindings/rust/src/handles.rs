@@ -1,6 +1,7 @@
 //! Banks and sites.
 use crate::c::{self, Handle};
-use crate::{AnswerError, OpenError, ReplayError};
+use crate::LineKind::{Command, Configuration, Entry, Event};
+use crate::{fault_of, AnswerError, LineKind, OpenError, ReplayError};
 use std::fmt;
 
 /// A call that copies what is kept, and gives its length.
@@ -60,29 +61,38 @@ pub(crate) fn without_line_feed(line: &str) -> &str {
     line.strip_suffix('\n').unwrap_or(line)
 }
 
-fn opened(status: i32) -> Result<(), OpenError> {
+fn opened(status: i32, configuration: &str) -> Result<(), OpenError> {
     match status {
         0 => Ok(()),
-        2 => Err(OpenError::BadConfiguration),
+        2 => Err(OpenError::BadConfiguration(fault_of(
+            Configuration,
+            "",
+            configuration,
+        ))),
         3 => Err(OpenError::NoSuchSite),
         _ => Err(OpenError::OutOfMemory),
     }
 }
 
-fn answered(status: i32) -> Result<(), AnswerError> {
+fn answered(
+    status: i32,
+    kind: LineKind,
+    configuration: &str,
+    line: &str,
+) -> Result<(), AnswerError> {
     match status {
         0 => Ok(()),
         1 => Err(AnswerError::Ended),
-        2 => Err(AnswerError::BadLine),
+        2 => Err(AnswerError::BadLine(fault_of(kind, configuration, line))),
         _ => Err(AnswerError::OutOfMemory),
     }
 }
 
-fn replayed(status: i32) -> Result<(), ReplayError> {
+fn replayed(status: i32, configuration: &str, entry: &str) -> Result<(), ReplayError> {
     match status {
         0 => Ok(()),
         1 => Err(ReplayError::Ended),
-        2 => Err(ReplayError::BadLine),
+        2 => Err(ReplayError::BadLine(fault_of(Entry, configuration, entry))),
         3 => Err(ReplayError::WrongReply),
         _ => Err(ReplayError::OutOfMemory),
     }
@@ -108,6 +118,7 @@ fn replayed(status: i32) -> Result<(), ReplayError> {
 /// ```
 pub struct Bank {
     handle: Handle,
+    configuration: String,
     text: Vec<u8>,
 }
 
@@ -130,16 +141,18 @@ impl Bank {
     pub fn open(configuration: &str) -> Result<Bank, OpenError> {
         let mut bank = Bank {
             handle: Handle::NONE,
+            configuration: configuration.to_owned(),
             text: Vec::new(),
         };
         // SAFETY: the handle is zeroed, and the line is that long.
-        opened(unsafe {
+        let status = unsafe {
             c::rbbank_open(
                 &mut bank.handle,
                 configuration.as_ptr(),
                 configuration.len(),
             )
-        })?;
+        };
+        opened(status, configuration)?;
         Ok(bank)
     }
 
@@ -150,7 +163,8 @@ impl Bank {
     /// `BadLine`, after which all is as it was; `OutOfMemory`, which ends the bank; `Ended`.
     pub fn answer(&mut self, command: &str) -> Result<&str, AnswerError> {
         // SAFETY: the handle was opened, and the line is that long.
-        answered(unsafe { c::rbbank_answer(&mut self.handle, command.as_ptr(), command.len()) })?;
+        let status = unsafe { c::rbbank_answer(&mut self.handle, command.as_ptr(), command.len()) };
+        answered(status, Command, &self.configuration, command)?;
         Ok(self.reply())
     }
 
@@ -212,6 +226,7 @@ impl Drop for Bank {
 /// ```
 pub struct Site {
     handle: Handle,
+    configuration: String,
     text: Vec<u8>,
 }
 
@@ -242,17 +257,19 @@ impl Site {
     pub fn open(me: u8, configuration: &str) -> Result<Site, OpenError> {
         let mut site = Site {
             handle: Handle::NONE,
+            configuration: configuration.to_owned(),
             text: Vec::new(),
         };
         // SAFETY: the handle is zeroed, and the line is that long.
-        opened(unsafe {
+        let status = unsafe {
             c::rbbank_site_open(
                 &mut site.handle,
                 me,
                 configuration.as_ptr(),
                 configuration.len(),
             )
-        })?;
+        };
+        opened(status, configuration)?;
         Ok(site)
     }
 
@@ -272,7 +289,9 @@ impl Site {
     /// `BadLine`, after which all is as it was; `OutOfMemory`, which ends the site; `Ended`.
     pub fn answer(&mut self, event: &str) -> Result<&str, AnswerError> {
         // SAFETY: the handle was opened, and the line is that long.
-        answered(unsafe { c::rbbank_site_answer(&mut self.handle, event.as_ptr(), event.len()) })?;
+        let status =
+            unsafe { c::rbbank_site_answer(&mut self.handle, event.as_ptr(), event.len()) };
+        answered(status, Event, &self.configuration, event)?;
         Ok(self.reply())
     }
 
@@ -322,7 +341,9 @@ impl Site {
     /// `BadLine`, after which all is as it was; `WrongReply` and `OutOfMemory`, which end the site; `Ended`.
     pub fn replay(&mut self, entry: &str) -> Result<&str, ReplayError> {
         // SAFETY: the handle was opened, and the line is that long.
-        replayed(unsafe { c::rbbank_site_replay(&mut self.handle, entry.as_ptr(), entry.len()) })?;
+        let status =
+            unsafe { c::rbbank_site_replay(&mut self.handle, entry.as_ptr(), entry.len()) };
+        replayed(status, &self.configuration, entry)?;
         Ok(self.reply())
     }
 }

@@ -139,7 +139,7 @@ impl Journal {
                 &mut number,
             )
         };
-        JournalError::of_open(status, number)?;
+        JournalError::of_open(status, number, configuration)?;
         journal.make_calls()?;
         Ok(journal)
     }

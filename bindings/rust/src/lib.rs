@@ -34,4 +34,4 @@ pub use handles::{Bank, Message, Site};
 #[cfg(unix)]
 pub use journal::Journal;
 pub use runs::{audit, close, migrate, script, Audit, Books};
-pub use texts::{fault_of, version, LineFault};
+pub use texts::{fault_of, version, LineFault, LineKind};

@@ -26,12 +26,26 @@ pub fn version() -> String {
     whole(|out| unsafe { c::rbbank_version(out.as_mut_ptr(), out.len()) })
 }
 
-/// Why a line isn't taken, as far as its text says.
+/// What a line should have been.
+#[derive(Clone, Copy, Debug, PartialEq, Eq)]
+pub enum LineKind {
+    /// A bank's configuration.
+    Configuration = 0,
+    /// A command of a bank.
+    Command = 1,
+    /// An event of a site, or a question to it.
+    Event = 2,
+    /// An entry of a history.
+    Entry = 3,
+}
+
+/// Why a line isn't taken, as the program says it.
 #[derive(Clone, Debug, PartialEq, Eq)]
 pub struct LineFault {
-    /// In words; empty if there was no memory.
+    /// In words, which may change. Empty if there was no memory, or if nothing is wrong with the line itself: an entry
+    /// is another site's, or has the id of an entry before.
     pub why: String,
-    /// Which byte of the line, from 1, the reader of JSON came to, if it isn't JSON.
+    /// Which character of the line it is about, from 1.
     pub column: Option<usize>,
 }
 
@@ -46,21 +60,41 @@ impl fmt::Display for LineFault {
 
 impl Error for LineFault {}
 
-/// Why a line isn't taken, as far as its text says. It is asked after `BadLine` or `BadConfiguration`.
+/// Why a line isn't taken under a configuration, which isn't read if the line should have been one. `BadLine` and
+/// `BadConfiguration` of a bank or a site have it; it is asked of a line of a script or of a history.
 ///
 /// ```
-/// let fault = rbbank::fault_of(r#"{"deposit":["ann" 500]}"#);
-/// assert_eq!(fault.to_string(), "column 19: not JSON");
+/// use rbbank::{fault_of, LineKind};
+///
+/// let configuration = r#"{"accounts":[["ann",0]],"sites":2,"version":1}"#;
+/// let entry = r#"{"event":{"balance":"ann"},"reply":{"refused":25},"site":0}"#;
+/// let fault = fault_of(LineKind::Entry, configuration, entry);
+/// assert_eq!(fault.to_string(), "column 47: 25 is out of range: a refusal is 1 to 24");
 /// ```
-pub fn fault_of(line: &str) -> LineFault {
-    let mut column = 0;
-    // SAFETY: the line and the text are that long, and nothing overlaps.
-    let why = whole(|out| unsafe {
-        let out = (out.as_mut_ptr(), out.len());
-        c::rbbank_error(line.as_ptr(), line.len(), out.0, out.1, &mut column)
+pub fn fault_of(kind: LineKind, configuration: &str, line: &str) -> LineFault {
+    // SAFETY: the texts are that long, and nothing overlaps.
+    let said = whole(|out| unsafe {
+        c::rbbank_error(
+            kind as u8,
+            configuration.as_ptr(),
+            configuration.len(),
+            line.as_ptr(),
+            line.len(),
+            out.as_mut_ptr(),
+            out.len(),
+        )
     });
-    LineFault {
-        why,
-        column: (column > 0).then_some(column),
+    let place = said
+        .strip_prefix("column ")
+        .and_then(|rest| rest.split_once(": "));
+    match place.map(|(column, why)| (column.parse(), why)) {
+        Some((Ok(column), why)) => LineFault {
+            why: why.to_owned(),
+            column: Some(column),
+        },
+        _ => LineFault {
+            why: said,
+            column: None,
+        },
     }
 }

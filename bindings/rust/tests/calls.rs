@@ -1,7 +1,7 @@
 //! Each call once, and each error that a caller can bring about.
 use rbbank::{
     audit, close, fault_of, migrate, script, AnswerError, Audit, Bank, Books, CloseError, Journal,
-    JournalError, Message, OpenError, ReplayError, RunError, Site,
+    JournalError, LineKind, Message, OpenError, ReplayError, RunError, Site,
 };
 use std::fs;
 use std::path::PathBuf;
@@ -28,7 +28,7 @@ fn a_bank_answers() {
     );
     // A bad line changes nothing.
     for bad in ["", "{", "{}", CONFIG, r#"{"balance":"ann"}"#] {
-        assert_eq!(bank.answer(bad), Err(AnswerError::BadLine));
+        assert!(matches!(bank.answer(bad), Err(AnswerError::BadLine(_))));
     }
     assert_eq!(
         bank.answer(r#"{"balance":"ann","site":1}"#),
@@ -85,7 +85,10 @@ fn a_site_sends_and_another_receives() {
         Ok(r#"{"reply":{"held":"B0.1"},"sends":[],"then":[{"applied":"B0.1"}]}"#)
     );
     assert_eq!(other.entries().lines().count(), 2);
-    assert_eq!(other.answer(DEPOSIT), Err(AnswerError::BadLine));
+    assert!(matches!(
+        other.answer(DEPOSIT),
+        Err(AnswerError::BadLine(_))
+    ));
 }
 
 #[test]
@@ -152,14 +155,39 @@ fn a_handle_goes_to_another_thread_and_back() {
 
 #[test]
 fn why_a_line_is_not_taken() {
-    let fault = |line| fault_of(line).to_string();
+    let entry = r#"{"event":{"balance":"ann"},"reply":{"refused":25},"site":0}"#;
+    let said = "column 47: 25 is out of range: a refusal is 1 to 24";
+    assert_eq!(fault_of(LineKind::Entry, CONFIG, entry).to_string(), said);
+    let mut site = Site::open(0, CONFIG).unwrap();
+    let Err(ReplayError::BadLine(why)) = site.replay(entry) else {
+        panic!("it is no entry");
+    };
+    assert_eq!((why.column, why.to_string()), (Some(47), said.to_owned()));
+    // An entry of another site has nothing wrong with it.
+    let entry = r#"{"event":{"balance":"ann"},"reply":{"balance":0},"site":1}"#;
+    let why = site.replay(entry).unwrap_err();
+    assert_eq!(why.to_string(), "bad line");
+    let why = site.answer(r#"{"deposit":["ann",1.0]}"#).unwrap_err();
     assert_eq!(
-        fault(r#"{"deposit":["ann",500]"#),
-        "column 22: JSON that isn't whole"
+        why.to_string(),
+        "bad line: column 19: 1.0 has a point, and an amount in cents is a whole number"
     );
-    assert_eq!(fault("deposit 500"), "column 1: not JSON");
-    assert_eq!(fault("{}"), "JSON, but no line that is taken here");
-    assert_eq!(fault_of("{}").column, None);
+    let mut bank = Bank::open(CONFIG).unwrap();
+    let why = bank.answer(r#"{"balance":"ann"}"#).unwrap_err();
+    assert_eq!(
+        why.to_string(),
+        "bad line: column 17: the key \"site\" of a command is missing"
+    );
+    let why = Bank::open(r#"{"accounts":[["ann",0]],"sites":17,"version":1}"#).unwrap_err();
+    assert_eq!(
+        why.to_string(),
+        "bad configuration: column 33: 17 is out of range: the number of sites is 2 to 16"
+    );
+    let why = fault_of(LineKind::Command, "{}", DEPOSIT);
+    assert_eq!(
+        (why.column, why.to_string()),
+        (None, "no configuration".to_owned())
+    );
     assert!(format!("{:?}", Bank::open(CONFIG).unwrap()).starts_with("Bank"));
     assert!(format!("{:?}", Site::open(1, CONFIG).unwrap()).starts_with("Site"));
 }
@@ -177,7 +205,7 @@ fn a_journal_is_replayed() {
         .to_owned();
     let entry = site.entries().trim_end().to_owned();
     let mut again = Site::open(0, CONFIG).unwrap();
-    assert_eq!(again.replay("{}"), Err(ReplayError::BadLine));
+    assert!(matches!(again.replay("{}"), Err(ReplayError::BadLine(_))));
     let sends = again.replay(&entry).unwrap();
     assert!(
         sends.len() > 20 && answer.contains(sends.trim_end_matches('}').trim_start_matches('{'))
@@ -192,8 +220,14 @@ fn a_journal_is_replayed() {
 
 #[test]
 fn what_is_not_opened() {
-    assert_eq!(Bank::open(DEPOSIT).err(), Some(OpenError::BadConfiguration));
-    assert_eq!(Site::open(0, "").err(), Some(OpenError::BadConfiguration));
+    assert!(matches!(
+        Bank::open(DEPOSIT),
+        Err(OpenError::BadConfiguration(_))
+    ));
+    assert!(matches!(
+        Site::open(0, ""),
+        Err(OpenError::BadConfiguration(_))
+    ));
     assert_eq!(Site::open(2, CONFIG).err(), Some(OpenError::NoSuchSite));
     assert_eq!(OpenError::NoSuchSite.to_string(), "no such site");
 }

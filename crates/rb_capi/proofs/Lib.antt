@@ -3,4 +3,5 @@ mod CutBytes
 mod JournalCalls
 mod Messages
 mod RawBoxValues
+mod SlotMoves
 mod SlotValues

@@ -9,4 +9,4 @@ pub mod Script
 pub mod Sends
 pub mod Sites
 pub mod Slots
-pub mod Texts
+pub mod Why

@@ -8,8 +8,9 @@ ghost use Rattle.rb_history.specs.OnLines.{command_on};
 ghost use Rattle.rb_capi.specs.Banks.{SeenBank, first_bank, kept_answer, next_bank};
 ghost use Rattle.rb_capi.specs.Copies.{Copies};
 
-use crate::bank_handle::BankHandle;
 use crate::copy::copy_text;
+use crate::handles::{BankHandle, Handle};
+use crate::statuses::{BAD_LINE, NO_MEMORY, NONE, OK};
 use rb_history::{LineFault, append_reply, open_command, open_config};
 use rb_world::LeanWorld;
 use std::alloc::Global;
@@ -86,15 +87,15 @@ pub extern "C" fn rbbank_open(alloc: Global, bank: &mut BankHandle, config: &[u8
     bank.clear(alloc);
     let opened = match open(alloc, config) {
         Ok(opened) => opened,
-        Err(LineFault::Bad) => return 2,
-        Err(LineFault::OutOfMemory) => return 4,
+        Err(LineFault::Bad) => return BAD_LINE,
+        Err(LineFault::OutOfMemory) => return NO_MEMORY,
     };
     match Box::new(alloc, opened) {
         Ok(opened) => {
             bank.put(opened);
-            0
+            OK
         }
-        Err(_) => 4,
+        Err(_) => NO_MEMORY,
     }
 }
 
@@ -114,18 +115,18 @@ pub extern "C" fn rbbank_answer(alloc: Global, bank: &mut BankHandle, line: &[u8
     ensures statuses { (result ≡ pos 0) ⊎ ((result ≡ pos 1) ⊎ ((result ≡ pos 2) ⊎ (result ≡ pos 4))) }
 {
     let Some(mut kept) = bank.take(alloc) else {
-        return 1;
+        return NONE;
     };
     match kept.answer_line(alloc, line) {
         Ok(()) => {
             bank.put(kept);
-            0
+            OK
         }
         Err(LineFault::Bad) => {
             bank.put(kept);
-            2
+            BAD_LINE
         }
-        Err(LineFault::OutOfMemory) => 4,
+        Err(LineFault::OutOfMemory) => NO_MEMORY,
     }
 }
 

@@ -12,8 +12,12 @@ ghost use Rattle.rb_capi.specs.JournalSites.{AnswersJournalLine, HandsCall, HasM
 ghost use Rattle.rb_capi.specs.JournalSites.{SeenJournal, calls_left, open_number, open_status, shown_text};
 
 use crate::copy::copy_text;
-use crate::journal_handle::JournalHandle;
+use crate::handles::{Handle, JournalHandle};
 use crate::kept_journal::KeptJournal;
+use crate::statuses::{
+    ANOTHER_JOURNAL, BAD_ENTRY, BAD_LINE, DAMAGED, NO_MEMORY, NONE, OK, REFUSED, SEALED,
+    WRONG_REPLY,
+};
 use rb_journal::Call;
 use rb_run_site::SiteFault;
 use std::alloc::Global;
@@ -23,14 +27,14 @@ fn open_status(fault: SiteFault) -> i32
     ensures { result ≡ pos (open_status fault) }
 {
     match fault {
-        SiteFault::BadConfig { line: _ } => 2,
-        SiteFault::NoSite => 3,
-        SiteFault::AnotherJournal => 5,
-        SiteFault::BadEntry { line: _ } => 6,
-        SiteFault::WrongReply { line: _ } => 7,
-        SiteFault::Damaged { line: _ } => 8,
-        SiteFault::Sealed => 9,
-        _ => 4,
+        SiteFault::BadConfig { line: _ } => BAD_LINE,
+        SiteFault::NoSite => REFUSED,
+        SiteFault::AnotherJournal => ANOTHER_JOURNAL,
+        SiteFault::BadEntry { line: _ } => BAD_ENTRY,
+        SiteFault::WrongReply { line: _ } => WRONG_REPLY,
+        SiteFault::Damaged { line: _ } => DAMAGED,
+        SiteFault::Sealed => SEALED,
+        _ => NO_MEMORY,
     }
 }
 
@@ -146,7 +150,7 @@ pub extern "C" fn rbbank_journal_open(
         Ok(opened) => {
             journal.put(opened);
             *number = 0;
-            0
+            OK
         }
         Err(fault) => {
             *number = open_number(fault);
@@ -178,18 +182,18 @@ pub extern "C" fn rbbank_journal_answer(
     ensures statuses { (result ≡ pos 0) ⊎ ((result ≡ pos 1) ⊎ ((result ≡ pos 3) ⊎ (result ≡ pos 4))) }
 {
     let Some(kept) = journal.take(alloc) else {
-        return 1;
+        return NONE;
     };
     if kept.next().is_some() {
         journal.put(kept);
-        return 3;
+        return REFUSED;
     }
     match answer_boxed(alloc, kept, number, line) {
         Some(answered) => {
             journal.put(answered);
-            0
+            OK
         }
-        None => 4,
+        None => NO_MEMORY,
     }
 }
 
@@ -236,18 +240,18 @@ pub extern "C" fn rbbank_journal_done(alloc: Global, journal: &mut JournalHandle
     ensures statuses { (result ≡ pos 0) ⊎ ((result ≡ pos 1) ⊎ (result ≡ pos 3)) }
 {
     let Some(mut kept) = journal.take(alloc) else {
-        return 1;
+        return NONE;
     };
     if made == 0 {
         drop(kept);
-        return 1;
+        return NONE;
     }
     if kept.made() {
         journal.put(kept);
-        return 0;
+        return OK;
     }
     journal.put(kept);
-    3
+    REFUSED
 }
 
 /// Copies the kept answer to the beginning of `out`, as much of it as fits: how many bytes the whole answer has. That

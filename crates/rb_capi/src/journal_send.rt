@@ -6,8 +6,9 @@ ghost use Rattle.rb_capi.specs.Sends.{IsHandedMessage, kept_messages};
 ghost use Rattle.rb_capi.specs.JournalSites.{shown_text};
 
 use crate::copy::copy_text;
-use crate::journal_handle::JournalHandle;
+use crate::handles::{Handle, JournalHandle};
 use crate::sent::find_message;
+use crate::statuses::{NO_MEMORY, NONE, OK, REFUSED};
 use std::alloc::Global;
 
 /// Copies the message of this index (0 is the first) of the kept answer to the beginning of `out`, as much of it as
@@ -39,7 +40,7 @@ pub extern "C" fn rbbank_journal_send(
 {
     *length = 0;
     let Some(kept) = journal.take(alloc) else {
-        return 1;
+        return NONE;
     };
     let found = find_message(alloc, kept.shown(), index);
     journal.put(kept);
@@ -47,9 +48,9 @@ pub extern "C" fn rbbank_journal_send(
         Ok(Some(sent)) => {
             *to = sent.to;
             *length = copy_text(sent.text.as_bytes(), out);
-            0
+            OK
         }
-        Ok(None) => 3,
-        Err(_) => 4,
+        Ok(None) => REFUSED,
+        Err(_) => NO_MEMORY,
     }
 }

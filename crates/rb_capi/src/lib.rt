@@ -5,17 +5,15 @@
 
 mod audit;
 mod bank;
-mod bank_handle;
 mod close;
 mod copy;
 mod ending;
+mod handles;
 mod journal;
-mod journal_handle;
 mod journal_send;
 mod journals;
 mod kept_journal;
 mod kept_site;
-mod line_error;
 mod migrate;
 mod names;
 mod not_closed;
@@ -23,10 +21,11 @@ mod raw_box;
 mod script;
 mod sent;
 mod site;
-mod site_handle;
 mod site_send;
 mod slot;
+mod statuses;
 mod version;
+mod why;
 
 ghost use Rattle.rb_history.specs.Banks.{MessagesAreRead};
 

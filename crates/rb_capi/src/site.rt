@@ -9,8 +9,9 @@ ghost use Rattle.rb_capi.specs.Sites.{AnswersSiteLine, IsNoEntryLine, IsWrongEnt
 ghost use Rattle.rb_capi.specs.Sites.{first_kept, kept_entries, kept_text};
 
 use crate::copy::copy_text;
+use crate::handles::{Handle, SiteHandle};
 use crate::kept_site::KeptSite;
-use crate::site_handle::SiteHandle;
+use crate::statuses::{NO_MEMORY, NONE, OK};
 use rb_history::LineFault;
 use rb_node::{EntryFault, OpenFault};
 use std::alloc::Global;
@@ -44,9 +45,9 @@ pub extern "C" fn rbbank_site_open(
     match Box::new(alloc, opened) {
         Ok(opened) => {
             site.put(opened);
-            0
+            OK
         }
-        Err(_) => 4,
+        Err(_) => NO_MEMORY,
     }
 }
 
@@ -76,12 +77,12 @@ pub extern "C" fn rbbank_site_answer(alloc: Global, site: &mut SiteHandle, line:
     ensures statuses { (result ≡ pos 0) ⊎ ((result ≡ pos 1) ⊎ ((result ≡ pos 2) ⊎ (result ≡ pos 4))) }
 {
     let Some(mut kept) = site.take(alloc) else {
-        return 1;
+        return NONE;
     };
     match kept.answer_line(line) {
         Ok(()) => {
             site.put(kept);
-            0
+            OK
         }
         Err(LineFault::Bad) => {
             site.put(kept);
@@ -114,12 +115,12 @@ pub extern "C" fn rbbank_site_replay(alloc: Global, site: &mut SiteHandle, line:
         ⊎ (result ≡ pos 4)))) }
 {
     let Some(mut kept) = site.take(alloc) else {
-        return 1;
+        return NONE;
     };
     match kept.replay_line(line) {
         Ok(()) => {
             site.put(kept);
-            0
+            OK
         }
         Err(EntryFault::BadLine) => {
             site.put(kept);

@@ -6,8 +6,9 @@ ghost use Rattle.rb_capi.specs.Sends.{IsHandedMessage, kept_messages};
 ghost use Rattle.rb_capi.specs.Sites.{kept_text};
 
 use crate::copy::copy_text;
+use crate::handles::{Handle, SiteHandle};
 use crate::sent::find_message;
-use crate::site_handle::SiteHandle;
+use crate::statuses::{NO_MEMORY, NONE, OK, REFUSED};
 use std::alloc::Global;
 
 /// Copies the message of this index (0 is the first) of the kept answer to the beginning of `out`, as much of it as
@@ -36,7 +37,7 @@ pub extern "C" fn rbbank_site_send(
 {
     *length = 0;
     let Some(kept) = site.take(alloc) else {
-        return 1;
+        return NONE;
     };
     let found = find_message(alloc, kept.answer.as_slice(), index);
     site.put(kept);
@@ -44,9 +45,9 @@ pub extern "C" fn rbbank_site_send(
         Ok(Some(sent)) => {
             *to = sent.to;
             *length = copy_text(sent.text.as_bytes(), out);
-            0
+            OK
         }
-        Ok(None) => 3,
-        Err(_) => 4,
+        Ok(None) => REFUSED,
+        Err(_) => NO_MEMORY,
     }
 }

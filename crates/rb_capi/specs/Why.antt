@@ -1,0 +1,19 @@
+-- Why a line isn't taken, on one line.
+use Rattle.std.specs.Prelude.{◌≡◌, ◌⊎◌, ◌==◌, ℕ, List, [], unwrap_or}
+use Rattle.std.specs.List.{position, slice_range}
+use Rattle.rb_reasons.specs.Reasons.{IsPlain, IsReason, IsShortReason}
+use Rattle.rb_capi.specs.Copies.{Copies}
+
+-- the first line of a reason, without the two spaces in front of it
+abbrev pub reason_line : List ℕ → List ℕ
+reason_line text = slice_range text 2 (unwrap_or (position (λ b. b == 10) text) 0)
+
+-- the text is the first line of a reason, with which a line of so many bytes is refused, or such a reason on one line;
+-- or there is none
+abbrev pub IsWhy : ℕ → List ℕ → Type 0
+IsWhy len text = ((reason : List ℕ) × IsReason len reason × (text ≡ reason_line reason))
+    ⊎ ((IsShortReason len text × IsPlain text) ⊎ (text ≡ []))
+
+-- C finds why
+abbrev pub TellsWhy : ℕ → List ℕ → List ℕ → ℕ → Type 0
+TellsWhy len before after n = (text : List ℕ) × IsWhy len text × Copies text before after n

@@ -1,0 +1,98 @@
+//! Why a line isn't taken, in the program's words.
+ghost use Rattle.std.specs.Prelude.{◌≡◌, ◌≢◌, ◌⊎◌, ◌<◌, ◌≤◌, codes, length, None, []};
+ghost use Rattle.rb_history.specs.Configurations.{config_on};
+ghost use Rattle.rb_capi.specs.Copies.{Copies};
+ghost use Rattle.rb_capi.specs.Why.{TellsWhy, reason_line};
+ghost use Rattle.rb_capi.specs.declared.why.TheConstants.{CONFIG, ENTRY};
+
+use crate::copy::copy_text;
+use rb_history::{BankName, LineFault, open_config};
+use rb_lines::first_feed;
+use rb_money::Config;
+use rb_reasons::{Expected, reason_at_site, reason_of};
+use std::alloc::Global;
+
+/// A line that should have been a configuration.
+pub const CONFIG: u8 = 0;
+
+/// A line that should have been a command of a bank.
+pub const COMMAND: u8 = 1;
+
+/// A line that should have been an event of a site, or a question to it.
+pub const EVENT: u8 = 2;
+
+/// A line that should have been an entry of a history.
+pub const ENTRY: u8 = 3;
+
+/// The first line of a reason, without the two spaces in front of it.
+fn reason_line(reason: &[u8]) -> &[u8]
+    ensures { result.now ≡ reason_line reason.now }
+{
+    reason
+        .get(2..first_feed(reason).unwrap_or(0))
+        .unwrap_or(b"")
+}
+
+/// Copies why the reader doesn't take the line, under a configuration if it needs one.
+fn copy_reason(
+    alloc: Global,
+    expected: Expected,
+    config: Option<&Config>,
+    line: &[u8],
+    out: &mut [u8],
+) -> usize
+    ensures { TellsWhy (length line.now) out.old out.new result }
+{
+    match reason_of(alloc, expected, config, line) {
+        Some(reason) => copy_text(reason_line(reason.as_bytes()), out),
+        None => copy_text(&[], out),
+    }
+}
+
+/// Copies why a site of the bank doesn't take the line.
+fn copy_reason_at_site(alloc: Global, config: &Config, line: &[u8], out: &mut [u8]) -> usize
+    ensures { TellsWhy (length line.now) out.old out.new result }
+{
+    match reason_at_site(alloc, config, &BankName::none(alloc), line) {
+        Some(reason) => copy_text(reason.as_bytes(), out),
+        None => copy_text(&[], out),
+    }
+}
+
+/// Copies why a line isn't taken to the beginning of `out`, as much of it as fits: how many bytes it has. It is one
+/// line, as `column 47: 25 is out of range: ..`; the column counts characters, from 1. `kind` says what the line should
+/// have been, and `config` is the line of the bank's configuration, which isn't read if the line should be one.
+///
+/// The text is `no such kind of line` or `no configuration` if that is so. It has 0 bytes if memory ran out, and if
+/// nothing is wrong with the line itself: if it is taken, or only not at this site or at this moment.
+#[unsafe(no_mangle)]
+pub extern "C" fn rbbank_error(
+    alloc: Global,
+    kind: u8,
+    config: &[u8],
+    line: &[u8],
+    out: &mut [u8],
+) -> usize
+    ensures no_kind { ENTRY < kind → Copies (codes "no such kind of line") out.old out.new result }
+    ensures no_config { CONFIG < kind → kind ≤ ENTRY → config_on config.now ≡ None
+        → Copies (codes "no configuration") out.old out.new result ⊎ Copies [] out.old out.new result }
+    ensures reason { kind ≤ ENTRY → (kind ≡ CONFIG) ⊎ (config_on config.now ≢ None)
+        → TellsWhy (length line.now) out.old out.new result }
+{
+    if kind == CONFIG {
+        return copy_reason(alloc, Expected::Config, None, line, out);
+    }
+    if ENTRY < kind {
+        return copy_text(b"no such kind of line", out);
+    }
+    let config = match open_config(alloc, config) {
+        Ok(config) => config,
+        Err(LineFault::Bad) => return copy_text(b"no configuration", out),
+        Err(LineFault::OutOfMemory) => return copy_text(&[], out),
+    };
+    match kind {
+        COMMAND => copy_reason(alloc, Expected::Command, Some(&config), line, out),
+        EVENT => copy_reason_at_site(alloc, &config, line, out),
+        _ => copy_reason(alloc, Expected::Entry, Some(&config), line, out),
+    }
+}
