@@ -437,7 +437,10 @@ fn journals_that_are_not_opened() {
     let head = site.entries().to_owned();
     site.answer(r#"{"deposit":["ann",500]}"#).unwrap();
     let entry = site.entries().to_owned();
-    assert_eq!(fault(b"", 0, "{}"), "bad configuration");
+    assert_eq!(
+        fault(b"", 0, "{}"),
+        "bad configuration: column 2: the key \"accounts\" of a configuration is missing"
+    );
     assert_eq!(fault(b"", 2, CONFIG), "no such site");
     assert_eq!(fault(b"{}\n ", 0, CONFIG), "another bank's journal");
     let bad = format!("{head}{{}}\n ");

@@ -11,7 +11,7 @@ ghost use Rattle.rb_capi.specs.Sites.{first_kept, kept_entries, kept_text};
 use crate::copy::copy_text;
 use crate::handles::{Handle, SiteHandle};
 use crate::kept_site::KeptSite;
-use crate::statuses::{NO_MEMORY, NONE, OK};
+use crate::statuses::{BAD_LINE, NO_MEMORY, NONE, OK, REFUSED};
 use rb_history::LineFault;
 use rb_node::{EntryFault, OpenFault};
 use std::alloc::Global;
@@ -38,9 +38,9 @@ pub extern "C" fn rbbank_site_open(
     site.clear(alloc);
     let opened = match KeptSite::open(alloc, config, me) {
         Ok(opened) => opened,
-        Err(OpenFault::BadConfig) => return 2,
-        Err(OpenFault::NoSite) => return 3,
-        Err(OpenFault::OutOfMemory) => return 4,
+        Err(OpenFault::BadConfig) => return BAD_LINE,
+        Err(OpenFault::NoSite) => return REFUSED,
+        Err(OpenFault::OutOfMemory) => return NO_MEMORY,
     };
     match Box::new(alloc, opened) {
         Ok(opened) => {
@@ -86,9 +86,9 @@ pub extern "C" fn rbbank_site_answer(alloc: Global, site: &mut SiteHandle, line:
         }
         Err(LineFault::Bad) => {
             site.put(kept);
-            2
+            BAD_LINE
         }
-        Err(LineFault::OutOfMemory) => 4,
+        Err(LineFault::OutOfMemory) => NO_MEMORY,
     }
 }
 
@@ -124,10 +124,10 @@ pub extern "C" fn rbbank_site_replay(alloc: Global, site: &mut SiteHandle, line:
         }
         Err(EntryFault::BadLine) => {
             site.put(kept);
-            2
+            BAD_LINE
         }
-        Err(EntryFault::WrongReply) => 3,
-        Err(EntryFault::OutOfMemory) => 4,
+        Err(EntryFault::WrongReply) => REFUSED,
+        Err(EntryFault::OutOfMemory) => NO_MEMORY,
     }
 }
 

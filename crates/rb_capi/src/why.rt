@@ -6,8 +6,8 @@ ghost use Rattle.rb_capi.specs.Why.{TellsWhy, reason_line};
 ghost use Rattle.rb_capi.specs.declared.why.TheConstants.{CONFIG, ENTRY};
 
 use crate::copy::copy_text;
-use rb_history::{BankName, LineFault, open_config};
-use rb_lines::first_feed;
+use rb_history::{BankName, LineFault, open_config, read_line};
+use rb_lines::{first_feed, text_on};
 use rb_money::Config;
 use rb_reasons::{Expected, reason_at_site, reason_of};
 use std::alloc::Global;
@@ -23,6 +23,14 @@ pub const EVENT: u8 = 2;
 
 /// A line that should have been an entry of a history.
 pub const ENTRY: u8 = 3;
+
+/// Whether a line is an entry, of whichever site.
+fn is_entry(alloc: Global, config: &Config, line: &[u8]) -> bool {
+    match text_on(line) {
+        Some(text) => read_line(alloc, config, text).is_ok(),
+        None => false,
+    }
+}
 
 /// The first line of a reason, without the two spaces in front of it.
 fn reason_line(reason: &[u8]) -> &[u8]
@@ -59,12 +67,12 @@ fn copy_reason_at_site(alloc: Global, config: &Config, line: &[u8], out: &mut [u
     }
 }
 
-/// Copies why a line isn't taken to the beginning of `out`, as much of it as fits: how many bytes it has. It is one
+/// Copies why a line wasn't taken to the beginning of `out`, as much of it as fits: how many bytes it has. It is one
 /// line, as `column 47: 25 is out of range: ..`; the column counts characters, from 1. `kind` says what the line should
 /// have been, and `config` is the line of the bank's configuration, which isn't read if the line should be one.
 ///
-/// The text is `no such kind of line` or `no configuration` if that is so. It has 0 bytes if memory ran out, and if
-/// nothing is wrong with the line itself: if it is taken, or only not at this site or at this moment.
+/// The text is `no such kind of line` or `no configuration` if that is so. It has 0 bytes if memory ran out, and if it
+/// is an entry, which is another site's then, or has the id of an entry before.
 #[unsafe(no_mangle)]
 pub extern "C" fn rbbank_error(
     alloc: Global,
@@ -93,6 +101,7 @@ pub extern "C" fn rbbank_error(
     match kind {
         COMMAND => copy_reason(alloc, Expected::Command, Some(&config), line, out),
         EVENT => copy_reason_at_site(alloc, &config, line, out),
+        _ if is_entry(alloc, &config, line) => copy_text(&[], out),
         _ => copy_reason(alloc, Expected::Entry, Some(&config), line, out),
     }
 }
