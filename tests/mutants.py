@@ -6,7 +6,7 @@ usage: mutants.py [--jobs N] CRATE..   tries the mutants of these crates, and no
        mutants.py [--jobs N] --all     tries those of every crate, an hour or more
        mutants.py --check              proves nothing: whether each mutant still applies, whether the tables of
                                        promises (docs/PROVED.md, crates/*/README.md) name those of must-fail/, and
-                                       whether each file was tried since its crate changed
+                                       whether each file was tried since its crate's code or contracts changed
 
 A file tests/mutants/CRATE.edits begins with a line that says when all of it was last tried, and at which commit. Then
 it has the crate's mutants, each after its name in brackets, in the form of a must-fail edit: a line 'file: src/..', and
@@ -31,12 +31,14 @@ MUTANTS = os.path.join(ROOT, "tests", "mutants")
 CRATES = os.path.join(ROOT, "crates")
 # how many mutants there are, those of must-fail/ among them, so that none is lost with a change
 MUTANTS_IN_ALL = 881
-# a file has to be tried again when its crate's last change is this many commits after its last run
+# a file has to be tried again when the last change of its crate's code or contracts is this many commits after its run
 MOST_COMMITS = 10
 RUN = re.compile(r"Last tried as a whole: (\d{4}-\d\d-\d\d) at ([0-9a-f]{8}), (\d+) refused\n")
 NEVER = "Last tried as a whole: never\n"
 # what the prover says of a function
 SAID = re.compile(r"^fn (\S+): (proved|not proved|no proof.*)$", re.M)
+# a line that a commit adds or takes away, and that is neither empty nor a comment
+CODE = re.compile(r"[+-](?!--|\+\+|\s*(?://|--|$))")
 # an error that only says that a proof names what the mutant took away
 ONLY_A_NAME = re.compile(r"has no field|is not in scope|has no `|was not admitted")
 
@@ -257,6 +259,17 @@ def note(crate, refused):
         file.write(f"Last tried as a whole: {day} at {commit}, {refused} refused\n" + text.partition("\n")[2])
 
 
+def changed(crate, since):
+    """The last commit since another that changed the crate's code or contracts, comments apart; or that other. Proofs
+    don't count: none lets a body through that its contract refuses."""
+    sources = sources_of(crate)[:2]
+    for commit in git("log", "--format=%H", f"{since}..", "--", *sources).split():
+        shown = git("show", "--format=", "--unified=0", commit, "--", *sources)
+        if any(map(CODE.match, shown.splitlines())):
+            return commit
+    return since
+
+
 def age_of(crate):
     """Why the crate's file has to be tried, or None."""
     run = RUN.match(read(file_of(crate)))
@@ -265,10 +278,9 @@ def age_of(crate):
     if git("rev-parse", "--is-shallow-repository") != "false":
         # (no history to compare with)
         return None
-    changed = git("log", "-1", "--format=%H", "--", *sources_of(crate))
-    count = git("rev-list", "--count", f"{run[2]}..{changed}")
-    if count is None:
+    if git("rev-parse", "--verify", run[2]) is None:
         return f"its commit {run[2]} isn't in the history"
+    count = git("rev-list", "--count", f"{run[2]}..{changed(crate, run[2])}")
     if int(count) >= MOST_COMMITS:
         return f"its crate changed {count} commits after {run[2]}, where it was last tried"
     return None
