@@ -124,7 +124,10 @@ def types(crate):
             value = value_of(text, found.group(2))
             part, beside = value if value else (found.group(0), "")
             if found.group(1) == "trait":
+                own = re.findall(r"\b(?:ghost|type) ([A-Z]\w*)\s*[:;]", part)
                 part = " ".join(clause for clause in re.findall(r"(?:requires|ensures|ghost)\b[^{]*\{(.*)\}", part))
+                # (a type that each implementation gives is none of the repository's, of whatever name)
+                part = " ".join(word for word in WORD.findall(part) if word not in own)
             part = re.sub(r"(?m)^\s*(?:pub )?(?:ghost )?\w+:", " ", part)
             yield Thing("type", crate, file, found.group(2), without(part, "//"), imports(text) | imports(beside), True)
 
@@ -199,11 +202,13 @@ class Things:
 
     def named_by(self, it):
         """The definitions and types that one names."""
+        alone = set(WORD.findall(re.sub(r"\.\w+", "", it.text)))
         for word in dict.fromkeys(WORD.findall(it.text)):
             if word in it.scope:
                 thing = self.imported(*it.scope[word])
             else:
-                thing = None if it.kind == "definition" else self.type_named(it.crate, word)
+                is_type = it.kind != "definition" and word in alone
+                thing = self.type_named(it.crate, word) if is_type else None
             if thing and thing is not it:
                 yield thing
 
