@@ -188,14 +188,6 @@ answers_one answers e p q n new lines_new batch batch_new text_new len fits at_f
   taken_is = subst (λ l. IsTaken p.pending e (take n p.pending ∷ []) l) (sym left) (one_taken p.pending e n len fits at_front);
 }
 
--- what a line adds to the journal's lines is in the batch too
-pub batch_more : {S : Type 0} (answers : Answers S) (old new : S) (lines lines_new batch batch_new before : List (List ℕ))
-    (number : ℕ) (line text text_new : List ℕ)
-    → IsTurn answers old new lines lines_new batch batch_new number line text text_new
-    → lines ≡ before ++ batch → lines_new ≡ before ++ batch_new
-batch_more answers old new lines lines_new batch batch_new before number line text text_new turn is =
-    turn.lines_are ∙ ap (λ ls. ls ++ turn.added) is ∙ append_assoc before batch turn.added ∙ ap (λ ls. before ++ ls) (sym turn.batch_is)
-
 -- ---- one batch
 
 -- of turns and one behind them, all but the last

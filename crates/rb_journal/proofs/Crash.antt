@@ -2,12 +2,40 @@
 use Rattle.std.proofs.Common.{◌≡◌, ◌⊎◌, inl, inr, ℕ, ◌+◌, ◌-◌, ◌<◌, ◌≤◌, List, [], ◌∷◌, ◌++◌, length, take, drop, refl, sym, ◌∙◌}
 use Rattle.std.proofs.Common.{ap, arith, append_assoc, length-append, length-drop, take-append-drop}
 use Rattle.std.specs.List.{concat}
-use Rattle.std.proofs.lemmas.List.{take_at, drop_at, take_all, take-take, take-append-le, length-take, append-nil}
+use Rattle.std.proofs.Math.Seq.{take-append-add}
+use Rattle.std.proofs.lemmas.List.Folds.{concat-append}
+use Rattle.std.proofs.lemmas.List.{drop_all, take_at, drop_at, take_all, take-take, take-append-le, length-take, append-nil}
 use Rattle.rb_journal.specs.Host.{IsWritten, Torn, TornByte, TornRange, Cut}
 use Rattle.rb_journal.specs.Journal.{IsAppended, HasClosedGate, IsRepaired}
 use Rattle.rb_journal.specs.Lines.{recovered, IsBatch, at_rest}
-use Rattle.rb_journal.proofs.Public.Lines.{concat-append, recovered-append, parts, front_nothing, closed}
-use Rattle.rb_journal.proofs.Ends.{take_past, written_at_end}
+use Rattle.rb_journal.proofs.Public.Lines.{recovered-append, parts, front_nothing, closed}
+
+-- bytes that are written where a file ends are added to it
+pub written_at_end : (old : List ℕ) (at : ℕ) (bytes new : List ℕ) → at ≡ length old → IsWritten old at bytes new → new ≡ old ++ bytes
+written_at_end old at bytes new is holds =
+    holds ∙ ap (λ (l : List ℕ). l ++ bytes ++ drop (at + length bytes) old) (take_all at old (omega (arith, is)))
+    ∙ ap (λ (l : List ℕ). old ++ bytes ++ l) (drop_all (at + length bytes) old (omega (arith, is))) ∙ append-nil (old ++ bytes)
+
+byte_length : (at b most : ℕ) (d c : List ℕ) → at + 1 ≤ most → length d ≤ most → TornByte at b d c → length c ≤ most
+byte_length at b most d c le few (inl same) = omega (arith, few, ap length same)
+byte_length at b most d c le few (inr (inl written)) =
+    omega (
+      arith,
+      few,
+      le,
+      ap length written,
+      length-append (take at d ++ b ∷ []) (drop (at + length (b ∷ [])) d),
+      length-append (take at d) (b ∷ []),
+      length-take at d,
+      length-drop (at + length (b ∷ [])) d,
+    )
+byte_length at b most d c le few (inr (inr (end, nul))) = omega (arith, le, end, ap length nul, length-append d (0 ∷ []))
+
+-- a file after a write that a crash cuts short is no longer than it was, or than the end of what was written
+pub torn_length : (at most : ℕ) (bytes d c : List ℕ) → at + length bytes ≤ most → length d ≤ most → Torn at bytes d c → length c ≤ most
+torn_length at most [] d c le few torn = omega (arith, le, few, torn.no_longer)
+torn_length at most (b ∷ []) d c le few torn = byte_length at b most d c le few torn
+torn_length at most (b ∷ e ∷ bytes) d c le few torn = omega (arith, le, few, torn.no_longer)
 
 module _ (file : List ℕ) where
   abbrev lines : List (List ℕ)
@@ -27,15 +55,6 @@ module _ (file : List ℕ) where
   -- it is one byte, the gate, longer than they
   pub length-at_rest : length (at_rest lines) ≡ length text + 1
   length-at_rest = omega (arith, length-append text (32 ∷ []))
-
-  -- while the gate is closed, the file is read as the lines
-  pub shut_is : (c : List ℕ) → take (length text + 1) c ≡ at_rest lines → recovered c ≡ lines
-  shut_is c shut =
-      let whole : c ≡ text ++ 32 ∷ drop (length text + 1) c =
-      sym (take-append-drop (length text + 1) c) ∙ ap (λ (l : List ℕ). l ++ drop (length text + 1) c) shut
-      ∙ append_assoc text (32 ∷ []) (drop (length text + 1) c) in
-      ap recovered whole ∙ behind_nothing (32 ∷ drop (length text + 1) c)
-      (closed 32 (drop (length text + 1) c) (λ is. absurd (omega arith)))
 
   -- a file at rest is no longer than the lines and the gate
   pub shut_at_rest : take (length text + 1) (at_rest lines) ≡ at_rest lines
@@ -94,10 +113,6 @@ module _ (file : List ℕ) where
     pub length-staged : length text < length staged
     length-staged = omega (arith, length-append text (32 ∷ (tail ++ 32 ∷ [])))
 
-    -- it is the file at rest with the rest of the batch and a gate behind it
-    pub staged_is : (at_rest lines ++ tail) ++ 32 ∷ [] ≡ staged
-    staged_is = append_assoc (at_rest lines) tail (32 ∷ []) ∙ append_assoc text (32 ∷ []) (tail ++ 32 ∷ [])
-
     front : take (length text) staged ≡ text
     front = take_at text (32 ∷ (tail ++ 32 ∷ [])) (length text) refl
 
@@ -146,17 +161,12 @@ module _ (file : List ℕ) where
     all_or_none c (inl shut) = inl (closed_is c (length batch) shut)
     all_or_none c (inr is) = inr (ap recovered is ∙ after_gate)
 
-  -- any cut behind the lines keeps them
-  pub cut_keeps : (c : List ℕ) → Cut (length text) file c → recovered c ≡ lines
-  cut_keeps c cut =
-      let whole : c ≡ take (length c) (text ++ (parts file).end) = sym cut.front ∙ ap (λ (l : List ℕ). take (length c) l) (parts file).split
-      in
-      let n = length c - length text in
-      let cut_end : c ≡ text ++ take n (parts file).end = whole ∙ take_past text (parts file).end (length c) n (omega (
-        arith,
-        cut.no_shorter,
-      )) in
-      ap recovered cut_end ∙ behind_nothing (take n (parts file).end) (front_nothing n (parts file).end (parts file).nothing)
+  -- a cut behind the lines leaves them, and a front of what is behind them
+  pub cut_is : (c : List ℕ) → Cut (length text) file c → c ≡ text ++ take (length c - length text) (parts file).end
+  cut_is c cut =
+      let most : length c ≡ length text + (length c - length text) = omega (arith, cut.no_shorter) in
+      sym cut.front ∙ ap (λ (l : List ℕ). take (length c) l) (parts file).split
+      ∙ ap (λ (n : ℕ). take n (text ++ (parts file).end)) most ∙ take-append-add text (parts file).end (length c - length text)
 
   -- a cut behind the lines leaves just them
   pub cut_done : take (length text) file ≡ text
@@ -177,7 +187,8 @@ module _ (file : List ℕ) where
 
   -- what a repair leaves is read as the lines
   pub repaired_is : (c : List ℕ) → IsRepaired file c → recovered c ≡ lines
-  repaired_is c (inl cut) = cut_keeps c cut
+  repaired_is c (inl cut) =
+      ap recovered (cut_is c cut) ∙ behind_nothing (take _ (parts file).end) (front_nothing _ (parts file).end (parts file).nothing)
   repaired_is c (inr (inl gate)) = ap recovered gate ∙ behind_nothing (32 ∷ []) refl
   repaired_is c (inr (inr nul)) = ap recovered nul ∙ behind_nothing (0 ∷ []) refl
 

@@ -1,6 +1,8 @@
 -- A line that is too long, and is dropped as it comes.
-use Rattle.std.proofs.Common.{◌≡◌, ◌<◌, ◌≤◌, ◌+◌, ◌==◌, ◌⊎◌, ℕ, suc, zero, Bool, true, false, List, [], ◌∷◌, ◌++◌, length, take, drop}
-use Rattle.std.proofs.Common.{Option, Some, None, inl, inr, refl, sym, ap, ◌∙◌, arith, append_assoc, append-nil, length-append, rules}
+use Rattle.std.proofs.Common.{◌≡◌, ◌<◌, ◌≤◌, ◌+◌, ◌==◌, ◌⊎◌, ℕ, Bool, true, false, List, [], ◌∷◌, ◌++◌, length, take, drop}
+use Rattle.std.proofs.Common.{Option, inl, inr, refl, sym, ap, ◌∙◌, arith, append_assoc, append-nil, length-append, rules}
+use Rattle.std.proofs.KnownBytes.{Consumes-kept, Consumes-nil, Consumes-trans}
+use Rattle.std.proofs.Math.Seq.{drop-append-add}
 use Rattle.std.proofs.lemmas.List.{length-take}
 use Rattle.std.specs.Io.KnownBytes.{Consumes, Keeps}
 use Rattle.rb_lines.specs.Buffers.{Reads}
@@ -42,11 +44,6 @@ longer (b ∷ xs) ys = longer_step (b == 10) b xs ys refl (longer xs ys)
 pub no_shorter : (xs ys : List ℕ) → line_len xs ≤ line_len (xs ++ ys)
 no_shorter xs ys = omega (arith, longer xs ys, len_is xs, len_is (xs ++ ys))
 
-drop_past : (xs ys : List ℕ) (n m : ℕ) → m ≡ length xs + n → drop m (xs ++ ys) ≡ drop n ys
-drop_past [] ys n m is = let same : m ≡ n = omega (arith, is) in ap (λ k. drop k ys) same
-drop_past (x ∷ xs) ys n zero is = absurd (omega (arith, is))
-drop_past (x ∷ xs) ys n (suc m) is = drop_past xs ys n m (omega (arith, is))
-
 first_either : (p : List ℕ) (e : Bool) → (line_len p < length p) ⊎ ((line_len p ≡ length p) × (e ≡ true)) → 0 < line_len p
     → IsFirst p e (line_len p)
 first_either p e (inl more) some = inl more
@@ -58,22 +55,6 @@ fits_either p e (inr last) = omega (arith, last.0)
 
 -- ---- what was dropped so far
 
-consumes_none : (had : Option (List ℕ)) → Consumes had had []
-consumes_none None = tt
-consumes_none (Some xs) = refl
-
-consumes_then : (had mid has : Option (List ℕ)) (a b : List ℕ) → Consumes had mid a → Consumes mid has b → Consumes had has (a ++ b)
-consumes_then None mid has a b x y = tt
-consumes_then (Some xs) None has a b x y = absurd x
-consumes_then (Some xs) (Some ys) None a b x y = absurd y
-consumes_then (Some xs) (Some ys) (Some zs) a b x y = x ∙ ap (λ l. a ++ l) y ∙ sym (append_assoc a b zs)
-
-consumes_kept : (had mid has : Option (List ℕ)) (a : List ℕ) → Consumes had mid a → Keeps mid has → Consumes had has a
-consumes_kept None mid has a x y = tt
-consumes_kept (Some xs) None has a x y = absurd x
-consumes_kept (Some xs) (Some ys) None a x y = absurd y
-consumes_kept (Some xs) (Some ys) (Some zs) a x y = x ∙ ap (λ l. a ++ l) (sym y)
-
 -- of what waited and what was read behind it, the bytes that are gone have no line feed, and these wait now
 pub record Dropped (old now : List ℕ) (had has : Option (List ℕ)) : Type 0 where
   pub more : List ℕ
@@ -82,8 +63,8 @@ pub record Dropped (old now : List ℕ) (had has : Option (List ℕ)) : Type 0 w
   pub all : old ++ more ≡ gone ++ now
   pub one : line_len gone ≡ length gone
 
-pub none_dropped : (p : List ℕ) (had : Option (List ℕ)) → (d : Dropped p p had had) × (length d.gone ≡ 0)
-none_dropped p had = (record { more = []; gone = []; read = consumes_none had; all = append-nil p; one = refl }, refl)
+pub none_dropped : (p : List ℕ) (had : Option (List ℕ)) → (d : Dropped p p had had) × (length d.gone ≡ 0) × (d.more ≡ [])
+none_dropped p had = (record { more = []; gone = []; read = Consumes-nil had; all = append-nil p; one = refl }, refl, refl)
 
 -- what waits has no line feed: it is dropped, and more is read
 pub dropped_more : (old p p' : List ℕ) (had mid has : Option (List ℕ)) → (d : Dropped old p had mid) → line_len p ≡ length p
@@ -92,7 +73,7 @@ dropped_more old p p' had mid has d none (m, is, read) = (
   record {
     more = d.more ++ m;
     gone = d.gone ++ p;
-    read = consumes_then had mid has d.more m d.read read;
+    read = Consumes-trans had mid has d.more m d.read read;
     all = sym (append_assoc old d.more m) ∙ ap (λ l. l ++ m) d.all ∙ ap (λ l. (d.gone ++ p) ++ l) (sym is);
     one = line_behind d.gone p d.one ∙ ap (λ n. length d.gone + n) none ∙ sym (length-append d.gone p);
   },
@@ -110,14 +91,15 @@ pub behind_all : (old p : List ℕ) (had has : Option (List ℕ)) → (d : Dropp
     → drop (line_len p + 1) p ≡ drop (line_len (old ++ d.more) + 1) (old ++ d.more)
 behind_all old p had has d =
     let at : line_len (old ++ d.more) + 1 ≡ length d.gone + (line_len p + 1) = omega (arith, (all_length old p had has d).0) in
-    sym (ap (λ l. drop (line_len (old ++ d.more) + 1) l) d.all ∙ drop_past d.gone p (line_len p + 1) (line_len (old ++ d.more) + 1) at)
+    sym (ap (λ l. drop (line_len (old ++ d.more) + 1) l) d.all ∙ ap (λ n. drop n (d.gone ++ p)) at
+    ∙ drop-append-add d.gone p (line_len p + 1))
 
 -- the read failed: all that came is the front of one line
 pub stopped_in_line : (old p : List ℕ) (had mid has : Option (List ℕ)) → (d : Dropped old p had mid) → line_len p ≡ length p
     → Keeps mid has → Consumes had has d.more × (line_len (old ++ d.more) ≡ length (old ++ d.more))
 stopped_in_line old p had mid has d none kept =
     let lengths = all_length old p had mid d in
-    (consumes_kept had mid has d.more d.read kept, lengths.0 ∙ ap (λ n. length d.gone + n) none ∙ sym lengths.1)
+    (Consumes-kept had mid has d.more d.read kept, lengths.0 ∙ ap (λ n. length d.gone + n) none ∙ sym lengths.1)
 
 -- ---- the line that was dropped
 

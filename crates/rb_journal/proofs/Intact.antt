@@ -9,7 +9,7 @@ use Rattle.std.proofs.lemmas.List.Elements.{All-take}
 use Rattle.rb_journal.specs.Lines.{lines_in, joined, is_open, recovered, at_rest, behind_lines, MayBeBehind, IsIntact}
 use Rattle.rb_journal.specs.Journal.{IsAppended, HasClosedGate, IsRepaired}
 use Rattle.rb_journal.proofs.Public.Lines.{parts, recovered-append, whole-lf, whole-other, open-true, closed, short_nothing, front_nothing}
-use Rattle.rb_journal.proofs.Ends.{take_past}
+use Rattle.rb_journal.proofs.Crash.{cut_is}
 
 -- what is read as nothing, behind the lines of a file, is what is behind the lines of both
 pub behind_is : (file rest : List ℕ) → recovered rest ≡ [] → behind_lines (concat (recovered file) ++ rest) ≡ rest
@@ -53,12 +53,9 @@ repaired_intact file c was (inr (inl gate)) = subst IsIntact (sym gate) (gate_in
 repaired_intact file c was (inr (inr nul)) =
     subst IsIntact (sym nul) (intact file (0 ∷ []) (short_nothing (0 ∷ []) (omega arith)) (inr (inl refl)))
 repaired_intact file c was (inl cut) =
-    let text : List ℕ = concat (recovered file) in
     let end = (parts file).end in
-    let n = length c - length text in
-    let whole : c ≡ take (length c) (text ++ end) = sym cut.front ∙ ap (λ (l : List ℕ). take (length c) l) (parts file).split in
-    let front : c ≡ text ++ take n end = whole ∙ take_past text end (length c) n (omega (arith, cut.no_shorter)) in
-    subst IsIntact (sym front) (intact file (take n end) (front_nothing n end (parts file).nothing)
+    let n = length c - length (concat (recovered file)) in
+    subst IsIntact (sym (cut_is file c cut)) (intact file (take n end) (front_nothing n end (parts file).nothing)
     (front_behind n end (subst MayBeBehind (end_is file) was)))
 
 -- ---- the first byte behind the lines says whether a file is damaged
@@ -94,23 +91,12 @@ front_of_line b bytes is none =
     no_lf bytes (not_whole b (lines_in bytes) is (ap (λ ls. take_while is_open ls) (sym (whole-other b bytes other)) ∙ none))
 
 -- the first of some bytes says whether they may be behind lines
-pub by_first : (rest : List ℕ) → recovered rest ≡ [] → (length rest ≡ 0 → ⊥)
-    → (get_or rest 0 0 ≡ 32) ⊎ (get_or rest 0 0 ≡ 0) ⊎ (get_or rest 0 0 ≡ 123) → MayBeBehind rest
-by_first [] none some first = tt
-by_first (b ∷ rest) none some (inl space) = inl space
-by_first (b ∷ rest) none some (inr (inl nul)) = inr (inl nul)
-by_first (b ∷ rest) none some (inr (inr opens)) = inr (inr (opens, front_of_line b rest opens none))
-
-pub first_is : (rest : List ℕ) → (length rest ≡ 0 → ⊥) → MayBeBehind rest
-    → (get_or rest 0 0 ≡ 32) ⊎ (get_or rest 0 0 ≡ 0) ⊎ (get_or rest 0 0 ≡ 123)
-first_is [] some may = absurd (some refl)
-first_is (b ∷ rest) some (inl is) = inl is
-first_is (b ∷ rest) some (inr (inl is)) = inr (inl is)
-first_is (b ∷ rest) some (inr (inr is)) = inr (inr is.0)
-
-pub nothing_may : (rest : List ℕ) → length rest ≡ 0 → MayBeBehind rest
-nothing_may [] none = tt
-nothing_may (b ∷ rest) none = absurd (omega (arith, none))
+pub by_first : (rest : List ℕ) → recovered rest ≡ []
+    → (get_or rest 0 0 ≡ 0) ⊎ (get_or rest 0 0 ≡ 32) ⊎ (get_or rest 0 0 ≡ 123) → MayBeBehind rest
+by_first [] none first = tt
+by_first (b ∷ rest) none (inl nul) = inr (inl nul)
+by_first (b ∷ rest) none (inr (inl space)) = inl space
+by_first (b ∷ rest) none (inr (inr opens)) = inr (inr (opens, front_of_line b rest opens none))
 
 -- what an append leaves isn't damaged
 pub appended_intact : (file batch c : List ℕ) → recovered (at_rest (recovered file ++ recovered batch)) ≡ recovered file ++ recovered batch

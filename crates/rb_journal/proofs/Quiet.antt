@@ -1,16 +1,11 @@
 -- Calls that put nothing out, one after another.
 use Rattle.std.proofs.Common.{◌≡◌, ℕ, List, arith, sym, subst, ◌∙◌}
-use Rattle.std.specs.Prelude.{Result, Ok, Err, OnOk}
+use Rattle.std.specs.Prelude.{Result, Err, OnOk}
 use Rattle.rb_journal.specs.Host.{DiskCause, Elapses, LeavesOnly}
 use Rattle.rb_journal.specs.Quiet.{Quiet}
 use Rattle.rb_journal.specs.declared.host.Host.{Ghosts}
 use Rattle.rb_journal.specs.declared.host.HostError.{HostError}
 use Rattle.rb_journal.proofs.Public.Moments.{goes_on, runs_on, started, weaker}
-
--- what follows from a fact at `Ok`
-pub on_ok : {T E P Q : Type 0} (r : Result T E) → (P → Q) → OnOk r P → OnOk r Q
-on_ok (Ok t) f p = f p
-on_ok (Err e) f p = tt
 
 module _ {H : Type 0} {h : Ghosts H} where
   -- one call, before which each file that a crash leaves has P

@@ -1,7 +1,10 @@
 -- The runs that a commit of turns may leave, and the meaning of a full file.
-use Rattle.std.proofs.Common.{◌≡◌, ◌≤◌, ◌+◌, ◌^◌, ◌⊎◌, ℕ, Bool, true, List, [], ◌∷◌, ◌++◌, length, take, Some, inl, inr, refl, sym}
-use Rattle.std.proofs.Common.{ap, ◌∙◌, arith, subst, append_assoc, append-nil, length-append}
+use Rattle.std.proofs.Common.{◌≡◌, ◌≤◌, ◌+◌, ◌^◌, ◌⊎◌, ℕ, Bool, true, List, [], ◌++◌, length, take, Option, Some, None, inl, inr, refl, sym}
+use Rattle.std.proofs.Common.{ap, ◌∙◌, arith, subst, append-nil, length-append}
+use Rattle.std.specs.Prelude.{IfSome}
+use Rattle.std.proofs.lemmas.List.Folds.{concat-append}
 use Rattle.std.specs.List.{concat}
+use Rattle.std.specs.Io.KnownBytes.{IsAtEnd}
 use Rattle.rb_journal.specs.Journal.{IsDurable}
 use Rattle.rb_journal.specs.Lines.{IsBatch, recovered}
 use Rattle.rb_journal.specs.declared.host.HostError.{HostError}
@@ -9,39 +12,35 @@ use Rattle.rb_journal.specs.declared.host.HostError.TheVariants.{Memory, DiskFai
 use Rattle.rb_lines.specs.Lines.{lines_of}
 use Rattle.rb_journal.specs.Ends.{IsFull}
 use Rattle.rb_journal.specs.Faults.{fault_of_host}
-use Rattle.rb_journal.specs.Run.{AreFirst, IsRunOfBatches}
+use Rattle.rb_journal.specs.Run.{AreFirst, IsRunOfBatches, served_input}
 use Rattle.rb_journal.specs.Steps.{Advances, AdvancesByBatch, IsTaken, Point}
 use Rattle.rb_journal.specs.Turns.{Answers, Turn, lines_added, lines_answered, texts, to_answer}
 use Rattle.rb_journal.specs.declared.fault.ServeFault.TheVariants.{Journal}
 use Rattle.rb_journal.proofs.Advance.{to_answer_then}
+use Rattle.rb_journal.proofs.Follow.{run_start}
 
 -- if lines were taken, the turns that answer them are first
-pub first_of_taken : {S : Type 0} (first : ℕ) (turns : List (Turn S)) (p q : List ℕ) (e : Bool) (taken : List (List ℕ)) (rest : List ℕ)
-    → IsTaken p e taken q
-    → (e ≡ true → rest ≡ []) → lines_answered turns ≡ to_answer first taken
-    → AreFirst first turns (p ++ rest)
-first_of_taken first turns p q e taken rest is end answered =
-    let left = to_answer (first + length taken) (lines_of (q ++ rest)) in (
+first_of_taken : {S : Type 0} (first : ℕ) (turns : List (Turn S)) (p q : List ℕ) (e : Bool) (taken : List (List ℕ))
+    (rest : Option (List ℕ))
+    → IsTaken p e taken q → (e ≡ true → IsAtEnd rest) → lines_answered turns ≡ to_answer first taken
+    → IfSome (served_input p rest) (AreFirst first turns)
+first_of_taken first turns p q e taken None is end answered = tt
+first_of_taken first turns p q e taken (Some r) is end answered =
+    let left = to_answer (first + length taken) (lines_of (q ++ r)) in (
       left,
-      ap (to_answer first) (is.lines rest end) ∙ to_answer_then first (first + length taken) taken (lines_of (q ++ rest)) refl
+      ap (to_answer first) (is.lines r end) ∙ to_answer_then first (first + length taken) taken (lines_of (q ++ r)) refl
           ∙ ap (λ ls. ls ++ left) (sym answered),
     )
 
 -- at each moment of a commit there are the turns before it, or those of the batch too
-pub durable_is_run : {S : Type 0} (answers : Answers S) (e : Bool) (p q : Point S) (rest batch output reply c d : List ℕ)
+pub durable_is_run : {S : Type 0} (answers : Answers S) (e : Bool) (p q : Point S) (rest : Option (List ℕ))
+    (batch output reply c d : List ℕ)
     → AdvancesByBatch answers e p q
-    → (e ≡ true → rest ≡ []) → q.lines ≡ p.lines ++ recovered batch → p.text ≡ [] → q.text ≡ reply
+    → (e ≡ true → IsAtEnd rest) → q.lines ≡ p.lines ++ recovered batch → p.text ≡ [] → q.text ≡ reply
     → IsDurable p.lines (recovered batch) output reply c d
-    → IsRunOfBatches answers p.number (Some (p.pending ++ rest)) p.state p.lines output c d
-durable_is_run answers e p q rest batch output reply c d (a, one) end lines none text (inl at) = record {
-  done = [];
-  batch = [];
-  are = tt;
-  in_order = (to_answer p.number (lines_of (p.pending ++ rest)), refl);
-  lines_are = at.0 ∙ sym (append-nil p.lines);
-  output_is = (0, at.1 ∙ sym (append-nil output) ∙ sym (append-nil (output ++ [])));
-  one_batch = (omega arith, omega arith);
-}
+    → IsRunOfBatches answers p.number (served_input p.pending rest) p.state p.lines output c d
+durable_is_run answers e p q rest batch output reply c d (a, one) end lines none text (inl at) =
+    run_start answers p.number _ p.state p.lines output c d at.0 at.1
 durable_is_run answers e p q rest batch output reply c d (a, one) end lines none text (inr at) = record {
   done = [];
   batch = a.turns;
@@ -56,15 +55,12 @@ durable_is_run answers e p q rest batch output reply c d (a, one) end lines none
   one_batch = one;
 }
 
-concat_then : (xs ys : List (List ℕ)) → concat (xs ++ ys) ≡ concat xs ++ concat ys
-concat_then [] ys = refl
-concat_then (x ∷ xs) ys = ap (λ l. x ++ l) (concat_then xs ys) ∙ sym (append_assoc x (concat xs) (concat ys))
-
 -- a batch that finds no place below 2^60 bytes
-pub is_full : {S : Type 0} (answers : Answers S) (e : Bool) (p q : Point S) (rest batch : List ℕ) (end : ℕ) → Advances answers e p q
-    → (e ≡ true → rest ≡ []) → q.lines ≡ p.lines ++ recovered batch → IsBatch batch → end ≡ length (concat p.lines)
+pub is_full : {S : Type 0} (answers : Answers S) (e : Bool) (p q : Point S) (rest : Option (List ℕ)) (batch : List ℕ) (end : ℕ)
+    → Advances answers e p q
+    → (e ≡ true → IsAtEnd rest) → q.lines ≡ p.lines ++ recovered batch → IsBatch batch → end ≡ length (concat p.lines)
     → 2 ^ 60 ≤ end + length batch
-    → IsFull answers p.number (Some (p.pending ++ rest)) p.state p.lines
+    → IsFull answers p.number (served_input p.pending rest) p.state p.lines
 is_full answers e p q rest batch end a over lines whole at long = record {
   turns = a.turns;
   are = a.are;
@@ -72,7 +68,7 @@ is_full answers e p q rest batch end a over lines whole at long = record {
   long =
       let same : p.lines ++ recovered batch ≡ p.lines ++ lines_added a.turns = sym lines ∙ a.lines_are in
       let all : length (concat (p.lines ++ recovered batch)) ≡ end + length batch =
-      ap length (concat_then p.lines (recovered batch) ∙ ap (λ l. concat p.lines ++ l) whole)
+      ap length (concat-append p.lines (recovered batch) ∙ ap (λ l. concat p.lines ++ l) whole)
       ∙ length-append (concat p.lines) batch ∙ ap (λ n. n + length batch) (sym at) in
       let kept : 2 ^ 60 ≤ length (concat (p.lines ++ recovered batch)) = omega (arith, all, long) in
       subst (λ ls. 2 ^ 60 ≤ length (concat ls)) same kept;

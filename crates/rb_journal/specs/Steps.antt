@@ -5,9 +5,14 @@ use Rattle.rb_lines.specs.Buffers.{Counts, IsWholeLine, left}
 use Rattle.rb_lines.specs.Lines.{line_len, lines_of, whole_lines}
 use Rattle.rb_lines.specs.declared.buffers.Buffers.{Buffers}
 use Rattle.rb_lines.specs.declared.limits.TheConstants.{LINE_LIMIT}
+use Rattle.rb_journal.specs.Lines.{recovered}
+use Rattle.rb_journal.specs.Run.{IsRunOfBatches, served_input}
 use Rattle.rb_journal.specs.Turns.{Answers, AreTurns, IsOneBatch, Turn, lines_added, lines_answered, state_after, texts}
 use Rattle.rb_journal.specs.Turns.{to_answer}
+use Rattle.rb_journal.specs.declared.host.Host.{Ghosts as Hosts}
 use Rattle.rb_journal.specs.declared.input.Input.{Ghosts}
+use Rattle.rb_journal.specs.declared.journal.Journal.{Journal}
+use Rattle.rb_journal.specs.declared.responder.JournaledResponder.{Ghosts as Responders}
 use Rattle.rb_journal.specs.declared.waiting.Waiting.{Waiting}
 use Rattle.rb_journal.specs.declared.waiting.Waiting.TheVariants.{Line, Long, Nothing}
 use Rattle.rb_journal.specs.declared.work.Work.{Work}
@@ -32,6 +37,30 @@ point_of state lines text work pending = record {
   count = work.count;
 }
 
+-- between two batches: what was answered is in the journal, and its text is put out
+abbrev pub point_at : {R H : Type 0} → (r : Responders R) → Hosts H → R → Journal H → Work → List ℕ → Point r.State
+point_at r h responder journal work pending =
+    point_of (r.state responder) (recovered (h.content journal.host)) (h.output journal.host) work pending
+
+-- what was answered is the same, and these bytes wait
+abbrev pub waits : {S : Type 0} → Point S → List ℕ → Point S
+waits p pending = record {
+  state = p.state;
+  lines = p.lines;
+  text = p.text;
+  pending = pending;
+  number = p.number;
+  count = p.count;
+}
+
+-- and now more bytes, behind those that waited
+abbrev pub longer : {S : Type 0} → Point S → List ℕ → Point S
+longer p more = waits p (p.pending ++ more)
+
+-- a crash leaves this file, and this was put out, in a run from here on; this is still to be read, if that is known
+abbrev pub IsRunFrom : {S : Type 0} → Answers S → Point S → Option (List ℕ) → List ℕ → List ℕ → Type 0
+IsRunFrom answers p rest = IsRunOfBatches answers p.number (served_input p.pending rest) p.state p.lines p.text
+
 -- these lines were taken off what waits, whatever is read behind it; behind the end of the input nothing is
 pub record IsTaken (pending : List ℕ) (ended : Bool) (taken : List (List ℕ)) (left : List ℕ) : Type 0 where
   pub lines : (rest : List ℕ) → (ended ≡ true → rest ≡ []) →
@@ -51,7 +80,14 @@ pub record Advances {S : Type 0} (answers : Answers S) (ended : Bool) (old new :
   pub answered : lines_answered turns ≡ to_answer old.number taken
   pub taken_is : IsTaken old.pending ended taken new.pending
 
--- and the turns that answer them are one batch
+-- bytes were read, behind what waited, and lines of both were answered; an input that had ended gave none, and still has
+pub record Goes {S : Type 0} (answers : Answers S) (was is : Bool) (old new : Point S) (had has : Option (List ℕ)) : Type 0 where
+  pub more : List ℕ
+  pub read : Consumes had has more
+  pub still : was ≡ true → (more ≡ []) × (is ≡ true)
+  pub steps : Advances answers is (longer old more) new
+
+-- some lines were taken and answered, by turns that are one batch
 abbrev pub AdvancesByBatch : {S : Type 0} → Answers S → Bool → Point S → Point S → Type 0
 AdvancesByBatch answers ended old new = (steps : Advances answers ended old new) × IsOneBatch steps.turns
 
@@ -66,6 +102,7 @@ IsWaiting b Nothing = (line_len b.pending ≡ length b.pending) × (b.ended ≡ 
 pub record DropsLine (old new : Buffers) (had has : Option (List ℕ)) : Type 0 where
   pub more : List ℕ
   pub read : Consumes had has more
+  pub still : old.ended ≡ true → (more ≡ []) × (new.ended ≡ true)
   pub whole : (line_len (old.pending ++ more) < length (old.pending ++ more))
       ⊎ ((line_len (old.pending ++ more) ≡ length (old.pending ++ more)) × (new.ended ≡ true))
   pub left : new.pending ≡ drop (line_len (old.pending ++ more) + 1) (old.pending ++ more)
@@ -90,4 +127,3 @@ pub record IsNext {I : Type 0} (i : Ghosts I) (old new : Buffers) (had has : Wor
   pub left : left new < left old
   pub end : new.ended ≡ true → IsAtEnd (i.remaining is)
   pub number : has.number ≡ had.number + 1
-  pub count : has.count ≤ has.number

@@ -1,5 +1,6 @@
 //! The bytes of a batch, line by line.
-ghost use Rattle.std.specs.Prelude.{◌≡◌, ◌↔◌, ◌++◌, [], ◌∷◌, IsTrue, OnOk, OnErr};
+ghost use Rattle.std.specs.Prelude.{◌≡◌, ◌↔◌, ◌++◌, [], ◌∷◌, IsTrue, OnOk, OnErr, if◌then◌else◌};
+ghost use Rattle.std.specs.Result.{is_ok};
 ghost use Rattle.rb_journal.specs.Lines.{recovered, IsBatch, IsLine};
 
 use crate::spare::take_out_all;
@@ -32,8 +33,7 @@ impl LineBatch {
             ++ (line.now ++ 10 ∷ []) ∷ []) }
         ensures err { OnErr result (self.new.bytes.items ≡ self.old.bytes.items) }
     {
-        add_line(&mut self.bytes, line)?;
-        Ok(())
+        add_line(&mut self.bytes, line)
     }
 
     /// Adds whole lines, each with its LF. `Err` means out of memory: nothing is added.
@@ -44,8 +44,7 @@ impl LineBatch {
             ++ recovered lines.now) }
         ensures err { OnErr result (self.new.bytes.items ≡ self.old.bytes.items) }
     {
-        add_lines(&mut self.bytes, lines)?;
-        Ok(())
+        self.bytes.extend_from_slice(lines)
     }
 
     /// Takes all lines out. It keeps the spare capacity, unless that is large.
@@ -67,8 +66,7 @@ pub fn is_line(line: &[u8]) -> bool
 }
 
 fn add_line(bytes: &mut Vec<u8>, line: &[u8]) -> Result<(), AllocError>
-    ensures ok { OnOk result (bytes.new.items ≡ bytes.old.items ++ (line.now ++ 10 ∷ [])) }
-    ensures err { OnErr result (bytes.new.items ≡ bytes.old.items) }
+    ensures { bytes.new.items ≡ (if is_ok result then bytes.old.items ++ (line.now ++ 10 ∷ []) else bytes.old.items) }
 {
     let len = bytes.len();
     bytes.extend_from_slice(line)?;
@@ -79,11 +77,4 @@ fn add_line(bytes: &mut Vec<u8>, line: &[u8]) -> Result<(), AllocError>
             Err(AllocError::from(error))
         }
     }
-}
-
-fn add_lines(bytes: &mut Vec<u8>, lines: &[u8]) -> Result<(), AllocError>
-    ensures ok { OnOk result (bytes.new.items ≡ bytes.old.items ++ lines.now) }
-    ensures err { OnErr result (bytes.new.items ≡ bytes.old.items) }
-{
-    bytes.extend_from_slice(lines)
 }

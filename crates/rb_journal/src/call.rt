@@ -9,7 +9,7 @@ pub enum Call {
     Cut { len: usize },
     /// Wait until all that was written is on the disk.
     Sync,
-    /// Add these bytes, which are behind this number of lines and are to be cut off, to the end of the file that keeps
+    /// Add these bytes, which come after this number of lines and are to be cut off, to the end of the file that keeps
     /// them, and wait until they are on the disk.
     Keep { lines: u64, bytes: Vec<u8> },
     /// Put these bytes out.

@@ -24,7 +24,7 @@ const KEPT: u64 = 6;
 
 const OPENED: u64 = 7;
 
-/// The calls, newest first. It takes no memory: nothing of it is there at run time.
+/// A log of calls, for contracts to speak of: newest first. It takes no memory: nothing of it is there at run time.
 #[derive(Drop)]
 pub struct CallLog {
     marker: PhantomData<u8>,
@@ -36,12 +36,13 @@ impl Model for CallLog {
 }
 
 impl CallLog {
-    ghost use Rattle.std.specs.Prelude.{◌⊎◌, ◌<◌, ◌≤◌, ◌↔◌, ◌++◌, ℕ, length, take, true};
-    ghost use Rattle.std.specs.Prelude.{IfOk, IfSome, IsOk, IsSome, IsTrue, OnOk};
+    ghost use Rattle.std.specs.Prelude.{◌⊎◌, ◌<◌, ◌≤◌, ◌↔◌, ◌++◌, ℕ, length, take, true, if◌then◌else◌};
+    ghost use Rattle.std.specs.Prelude.{Ok, Err, IfOk, IfSome, IsOk, IsSome, IsTrue, OnOk};
     ghost use Rattle.std.specs.Option.{ForSome};
     ghost use Rattle.rb_journal.specs.Calls.{content_of, faults_of, files_read, kept_of, knows_disk, leaves};
     ghost use Rattle.rb_journal.specs.Calls.{left_since, output_of};
     ghost use Rattle.rb_journal.specs.Host.{AddsPrefix, DiskCause, Elapses, Only, OutputCause, Outputs};
+    ghost use Rattle.rb_journal.specs.declared.host.HostError.TheVariants.{DiskFailed};
     ghost use Rattle.rb_journal.specs.Planned.{cut_event, found_event, kept_event, made_event, opened_event};
     ghost use Rattle.rb_journal.specs.Planned.{output_event, sync_event, wrote_event};
 
@@ -58,6 +59,20 @@ impl CallLog {
     fn note(&mut self, _numbers: &[u64], _bytes: &[u8])
         ensures { self.new.events ≡ noted_call_of _numbers.now _bytes.now ∷ self.old.events }
     {}
+
+    /// Notes a call that was tried, and whether it succeeded.
+    fn tried(&mut self, kind: u64, number: u64, bytes: &[u8], ok: bool) -> Result<(), HostError>
+        ensures noted { self.new.events ≡ (kind, number, ok, bytes.now) ∷ self.old.events }
+        ensures answer { result ≡ (if ok then Ok tt else Err DiskFailed) }
+    {
+        if ok {
+            self.note(&[kind, number, 1], bytes);
+            Ok(())
+        } else {
+            self.note(&[kind, number, 0], bytes);
+            Err(HostError::DiskFailed)
+        }
+    }
 
     /// A file was opened, and these were its bytes.
     pub fn note_opened(&mut self, bytes: &[u8])
@@ -85,7 +100,7 @@ impl CallLog {
         log
     }
 
-    /// A call that was made as it was asked for.
+    /// Notes a call that was made, and succeeded.
     pub(crate) fn made(&mut self, call: &Call)
         ensures { self.new.events ≡ made_event call.now ∷ self.old.events }
     {
@@ -134,13 +149,7 @@ impl CallLog {
         ensures usable { OnOk result (faults_of self.new.events ≡ 0) }
         ensures cause { DiskCause (faults_of self.old.events) (faults_of self.new.events) result }
     {
-        if ok {
-            self.note(&[WROTE, at as u64, 1], bytes);
-            Ok(())
-        } else {
-            self.note(&[WROTE, at as u64, 0], bytes);
-            Err(HostError::DiskFailed)
-        }
+        self.tried(WROTE, at as u64, bytes, ok)
     }
 
     /// A cut to this length, and whether it succeeded.
@@ -151,13 +160,7 @@ impl CallLog {
         ensures usable { OnOk result (faults_of self.new.events ≡ 0) }
         ensures cause { DiskCause (faults_of self.old.events) (faults_of self.new.events) result }
     {
-        if ok {
-            self.note(&[CUT, len as u64, 1], &[]);
-            Ok(())
-        } else {
-            self.note(&[CUT, len as u64, 0], &[]);
-            Err(HostError::DiskFailed)
-        }
+        self.tried(CUT, len as u64, &[], ok)
     }
 
     /// A sync, and whether it succeeded.
@@ -170,13 +173,7 @@ impl CallLog {
         ensures crash { (c : List ℕ) → leaves self.new.events c → leaves self.old.events c }
         ensures cause { DiskCause (faults_of self.old.events) (faults_of self.new.events) result }
     {
-        if ok {
-            self.note(&[SYNCED, 0, 1], &[]);
-            Ok(())
-        } else {
-            self.note(&[SYNCED, 0, 0], &[]);
-            Err(HostError::DiskFailed)
-        }
+        self.tried(SYNCED, 0, &[], ok)
     }
 
     /// These bytes were added to the file that keeps what is cut off, and whether all of it succeeded.
@@ -188,13 +185,7 @@ impl CallLog {
         ensures kept { OnOk result (kept_of self.new.events ≡ kept_of self.old.events ++ bytes.now) }
         ensures cause { DiskCause (faults_of self.old.events) (faults_of self.new.events) result }
     {
-        if ok {
-            self.note(&[KEPT, 0, 1], bytes);
-            Ok(())
-        } else {
-            self.note(&[KEPT, 0, 0], bytes);
-            Err(HostError::DiskFailed)
-        }
+        self.tried(KEPT, 0, bytes, ok)
     }
 
     /// The first `count` of these bytes were put out; none, if the output failed.

@@ -51,34 +51,17 @@ impl<R, P> Disk<R, P> {
     pub fn error(&self) -> Option<io::Error> {
         self.failed
     }
-
-    /// Whether the system did what it was asked for. Its error is kept.
-    fn is_done(&mut self, done: io::Result<()>) -> bool
-        ensures log { self.new.log ≡ self.old.log }
-        ensures file { self.new.file ≡ self.old.file }
-        ensures unwritable { self.new.unwritable ≡ self.old.unwritable }
-        ensures len { self.new.len ≡ self.old.len }
-        ensures path { self.new.path ≡ self.old.path }
-        ensures out_descriptor { self.new.out_descriptor ≡ self.old.out_descriptor }
-        ensures out { self.new.out ≡ self.old.out }
-    {
-        match done {
-            Ok(()) => true,
-            Err(error) => {
-                self.failed = Some(error);
-                false
-            }
-        }
-    }
 }
 
-/// A file that was opened, locked and read: its name, why it can only be read, if that is so, and its bytes.
-#[derive(Drop)]
-struct Opened {
-    file: fs::File,
-    unwritable: Option<io::Error>,
-    path: String,
-    bytes: Vec<u8>,
+/// Whether the system did what it was asked for. Its error is kept in `failed`.
+fn is_done(failed: &mut Option<io::Error>, done: io::Result<()>) -> bool {
+    match done {
+        Ok(()) => true,
+        Err(error) => {
+            *failed = Some(error);
+            false
+        }
+    }
 }
 
 /// Why a file isn't opened at this error of the system: `NoFile` if it isn't there, and no new one is asked for.
@@ -103,37 +86,6 @@ fn not_read<R: Files + AllocGlobal>(rt: &R, file: &fs::File, error: io::Error) -
     }
 }
 
-/// Opens a journal's file, locks it and reads it, for `open_disk`. The output has this descriptor.
-fn open_and_read<R: Files<File = fs::File> + AllocGlobal>(
-    rt: &R,
-    path: &str,
-    new: bool,
-    output: i32,
-) -> Result<Opened, OpenError>
-    ensures path { IfOk result (λ opened. string_bytes opened.path ≡ path.now) }
-    ensures new { IfOk result (λ opened. new ≡ true → opened.bytes.items ≡ []) }
-    ensures asked { IfErr result (IsAskedFor new) }
-{
-    let (mut file, unwritable) = match open_file(rt, path, new) {
-        Ok(opened) => opened,
-        Err(error) => return Err(not_opened(error, new)),
-    };
-    let bytes = match read_locked(rt, &mut file, output) {
-        Ok(bytes) => bytes,
-        Err(error) => return Err(not_read(rt, &file, error)),
-    };
-    if new && !bytes.is_empty() {
-        return Err(OpenError::NotEmpty);
-    }
-    let path = String::from_str(rt.alloc(), path)?;
-    Ok(Opened {
-        file,
-        unwritable,
-        path,
-        bytes,
-    })
-}
-
 /// Opens the file of this name, locks it against other processes, and reads its bytes. Nothing of it is changed, and
 /// nothing is known of the disk: `Host::write_again` comes before all else. If a new file is asked for, it is made,
 /// unless it is there and empty.
@@ -141,7 +93,7 @@ fn open_and_read<R: Files<File = fs::File> + AllocGlobal>(
 /// Errors: `NoFile` if it isn't there, and no new one is asked for; `NotEmpty` if a new one is asked for, and it is
 /// there with bytes in it; `IsErrors` if it may be standard error; else the system's, `WouldBlock` if another process
 /// has the file, or `InvalidInput` if it is no regular file, or standard input or the output. A new name has to be one
-/// with `.cut` behind it too.
+/// with `.cut` after it too.
 pub fn open_disk<R: Files<File = fs::File> + Clock + AllocGlobal + Copy, P: Print + AsFd + Drop>(
     rt: &R,
     path: &str,
@@ -161,22 +113,32 @@ pub fn open_disk<R: Files<File = fs::File> + Clock + AllocGlobal + Copy, P: Prin
     ensures asked { IfErr result (IsAskedFor new) }
 {
     let out_descriptor = out.as_fd().as_raw_fd();
-    let opened = open_and_read(rt, path, new, out_descriptor)?;
+    let (mut file, unwritable) = match open_file(rt, path, new) {
+        Ok(opened) => opened,
+        Err(error) => return Err(not_opened(error, new)),
+    };
+    let bytes = match read_locked(rt, &mut file, out_descriptor) {
+        Ok(bytes) => bytes,
+        Err(error) => return Err(not_read(rt, &file, error)),
+    };
+    if new && !bytes.is_empty() {
+        return Err(OpenError::NotEmpty);
+    }
     let disk = Disk {
         rt: *rt,
-        file: opened.file,
-        unwritable: opened.unwritable,
-        len: opened.bytes.len() as u64,
-        path: opened.path,
+        file,
+        unwritable,
+        len: bytes.len() as u64,
+        path: String::from_str(rt.alloc(), path)?,
         out,
         out_descriptor,
         failed: None,
-        log: CallLog::opened(&opened.bytes),
+        log: CallLog::opened(&bytes),
     };
-    Ok((disk, opened.bytes))
+    Ok((disk, bytes))
 }
 
-/// Says on standard error that bytes behind this number of lines are cut off and kept. A failed write is no fault.
+/// Says on standard error that bytes after this number of lines are cut off and kept. A failed write is no fault.
 fn say_kept<R: Eprint + AllocGlobal>(rt: &R, path: &str, lines: u64, count: usize) {
     let text = format!(in rt.alloc();
         "rbbank: journal line {lines}: {count} bytes behind it cut off, kept in {path}.cut"
@@ -211,6 +173,12 @@ impl<R: Files<File = fs::File> + AllocGlobal, P> Disk<R, P> {
         leads_to(&self.rt, self.path.as_str(), &self.file, self.len)?;
         write_again(&self.file, bytes)?;
         sync_folder(&self.rt, self.path.as_str())
+    }
+
+    /// Sets the file's length. A sync of the data alone might leave a shorter one for later.
+    fn set_len(&self, len: u64) -> io::Result<()> {
+        self.file.set_len(len)?;
+        self.file.sync_all()
     }
 
     /// Writes bytes at this place, in the file that the next start opens.
@@ -251,26 +219,20 @@ impl<R: Files<File = fs::File> + Clock + Eprint + AllocGlobal, P: Print> Host fo
 
     fn write_again(&mut self, bytes: &[u8]) -> Result<(), HostError> {
         let done = self.make_durable(bytes);
-        let ok = self.is_done(done);
-        self.log.written_again(bytes, ok)
+        self.log
+            .written_again(bytes, is_done(&mut self.failed, done))
     }
 
     fn write_at(&mut self, at: usize, bytes: &[u8]) -> Result<(), HostError> {
         let done = self.write_there(at, bytes);
         self.len = self.len.max((at as u64).saturating_add(bytes.len() as u64));
-        let ok = self.is_done(done);
-        self.log.wrote(at, bytes, ok)
+        self.log.wrote(at, bytes, is_done(&mut self.failed, done))
     }
 
     fn cut(&mut self, len: usize) -> Result<(), HostError> {
-        // A sync of the data alone might leave a shorter length for later.
-        let done = match self.file.set_len(len as u64) {
-            Ok(()) => self.file.sync_all(),
-            Err(error) => Err(error),
-        };
+        let done = self.set_len(len as u64);
         self.len = len as u64;
-        let ok = self.is_done(done);
-        self.log.cut(len, ok)
+        self.log.cut(len, is_done(&mut self.failed, done))
     }
 
     fn keep(&mut self, lines: u64, bytes: &[u8]) -> Result<(), HostError> {
@@ -281,7 +243,7 @@ impl<R: Files<File = fs::File> + Clock + Eprint + AllocGlobal, P: Print> Host fo
             self.out_descriptor,
             bytes,
         );
-        let ok = self.is_done(done);
+        let ok = is_done(&mut self.failed, done);
         if ok {
             say_kept(&self.rt, self.path.as_str(), lines, bytes.len());
         }
@@ -290,8 +252,7 @@ impl<R: Files<File = fs::File> + Clock + Eprint + AllocGlobal, P: Print> Host fo
 
     fn sync(&mut self) -> Result<(), HostError> {
         let done = self.file.sync_data();
-        let ok = self.is_done(done);
-        self.log.synced(ok)
+        self.log.synced(is_done(&mut self.failed, done))
     }
 
     fn put_out(&mut self, bytes: &[u8]) -> Result<usize, HostError> {

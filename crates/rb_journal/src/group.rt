@@ -1,14 +1,15 @@
 //! The lines that one read brought share one commit, since that costs two syncs, however many lines there are: they
 //! are answered, committed together, and then their answers are put out. If they come to more than a batch may, the
 //! next batch goes on with the rest of them, so that no number of lines takes more memory than one batch.
-ghost use Rattle.std.specs.Prelude.{◌≡◌, ◌+◌, ◌^◌, ◌<◌, ◌≤◌, ◌⊎◌, ◌++◌, List, ℕ, [], true, Some, Ok, Err, length};
+ghost use Rattle.std.specs.Prelude.{◌≡◌, ◌+◌, ◌^◌, ◌<◌, ◌≤◌, ◌⊎◌, List, ℕ, [], true, Option, Ok, Err, length};
 ghost use Rattle.std.specs.Prelude.{IfOk, OnOk};
+ghost use Rattle.std.specs.Io.KnownBytes.{IsAtEnd};
 ghost use Rattle.rb_journal.specs.Host.{LeavesOnly};
 ghost use Rattle.rb_journal.specs.Lines.{IsIntact, recovered};
 ghost use Rattle.rb_journal.specs.Journal.{IsSettled};
 ghost use Rattle.rb_journal.specs.Ends.{IsFull};
-ghost use Rattle.rb_journal.specs.Run.{IsRunOfBatches};
-ghost use Rattle.rb_journal.specs.Steps.{Advances, IsWaiting, point_of};
+ghost use Rattle.rb_journal.specs.Run.{served_input};
+ghost use Rattle.rb_journal.specs.Steps.{Advances, IsRunFrom, IsWaiting, point_at};
 ghost use Rattle.rb_journal.specs.declared.fault.ServeFault.TheVariants.{Journal as JournalFailed, Read, Write};
 ghost use Rattle.rb_journal.specs.declared.waiting.Waiting.TheVariants.{Line};
 
@@ -22,7 +23,7 @@ use crate::work::Work;
 use rb_lines::Buffers;
 
 /// Answers lines that wait whole, one batch of them, commits what they add, and then puts out their text; says what
-/// waits behind them. If there is no memory for a line, those before it are committed and put out too.
+/// waits after them. If there is no memory for a line, those before it are committed and put out too.
 pub fn answer_group<R: JournaledResponder, H: Host>(
     responder: &mut R,
     journal: &mut Journal<H>,
@@ -34,31 +35,27 @@ pub fn answer_group<R: JournaledResponder, H: Host>(
     requires batch { work.old.batch.bytes.items ≡ [] }
     requires buffered { buffers.old.buffered.items ≡ [] }
     requires number { work.old.number + length buffers.old.pending < 2 ^ 64 }
-    requires count { work.old.count ≤ work.old.number }
 
     ensures settled { OnOk result (IsSettled H.is_usable H.content H.may_leave journal.new) }
     ensures same { OnOk result (R.lines (R.state responder.new) ≡ recovered (H.content journal.new.host)) }
     ensures answered { OnOk result (Advances R.answers buffers.old.ended
-        (point_of (R.state responder.old) (recovered (H.content journal.old.host)) (H.output journal.old.host) work.old
-        buffers.old.pending)
-        (point_of (R.state responder.new) (recovered (H.content journal.new.host)) (H.output journal.new.host) work.new
-        buffers.new.pending)) }
+        (point_at R.JournaledResponder H.Host responder.old journal.old work.old buffers.old.pending)
+        (point_at R.JournaledResponder H.Host responder.new journal.new work.new buffers.new.pending)) }
     ensures waiting { IfOk result (IsWaiting buffers.new) }
     ensures fewer { (n : ℕ) → result ≡ Ok (Line n) → length buffers.new.pending < length buffers.old.pending }
 
-    // A crash leaves a run over these lines, whatever is read behind them, and only one batch isn't put out yet.
-    ensures any_moment { (rest : List ℕ) → (buffers.old.ended ≡ true → rest ≡ [])
-        → LeavesOnly H.moment H.left_since journal.old.host journal.new.host
-        (IsRunOfBatches R.answers work.old.number (Some (buffers.old.pending ++ rest)) (R.state responder.old)
-        (recovered (H.content journal.old.host)) (H.output journal.old.host)) }
+    // A crash leaves a run over these lines, whatever is read after them, and only one batch isn't put out yet.
+    ensures any_moment { (left : Option (List ℕ)) → (buffers.old.ended ≡ true → IsAtEnd left)
+        → LeavesOnly H.moment H.left_since journal.old.host journal.new.host (IsRunFrom R.answers
+        (point_at R.JournaledResponder H.Host responder.old journal.old work.old buffers.old.pending) left) }
     ensures intact { LeavesOnly H.moment H.left_since journal.old.host journal.new.host (λ c _. IsIntact c) }
 
     ensures not_read { result ≡ Err Read → ⊥ }
     ensures later { H.faults journal.old.host ≤ H.faults journal.new.host }
     ensures write { result ≡ Err Write → H.faults journal.old.host < H.faults journal.new.host }
     ensures journal { result ≡ Err JournalFailed → (H.faults journal.old.host < H.faults journal.new.host)
-        ⊎ ((rest : List ℕ) → (buffers.old.ended ≡ true → rest ≡ [])
-        → IsFull R.answers work.old.number (Some (buffers.old.pending ++ rest)) (R.state responder.old)
+        ⊎ ((left : Option (List ℕ)) → (buffers.old.ended ≡ true → IsAtEnd left)
+        → IsFull R.answers work.old.number (served_input buffers.old.pending left) (R.state responder.old)
         (recovered (H.content journal.old.host))) }
 
     ensures batch { OnOk result (work.new.batch.bytes.items ≡ []) }
@@ -66,7 +63,6 @@ pub fn answer_group<R: JournaledResponder, H: Host>(
     ensures reads { buffers.new.reads ≡ buffers.old.reads }
     ensures ended { buffers.new.ended ≡ buffers.old.ended }
     ensures number { work.new.number + length buffers.new.pending ≤ work.old.number + length buffers.old.pending }
-    ensures count { work.new.count ≤ work.new.number }
 {
     let answered = answer_waiting(responder, buffers, work);
     journal.commit_and_put_out(&work.batch.bytes, &buffers.buffered)?;

@@ -37,7 +37,7 @@ impl<T: Drop> From<AllocFailed<T>> for HostError {
     }
 }
 
-/// A file and an output. After an `Err` nothing more may be asked of it.
+/// What a journal is kept in, and replies go out by: a file and an output. After an `Err` no further call may be made.
 ///
 /// A file that is just opened was only read, maybe from the system's memory alone: it isn't known what a crash leaves.
 /// So `write_again` is its first call, and before that nothing of it is changed.
@@ -127,7 +127,7 @@ pub trait Host {
             (Silent (may_leave self.new) (output self.old)) }
         ensures cause { DiskCause (faults self.old) (faults self.new) result };
 
-    /// Keeps bytes that are to be cut off, behind this number of whole lines: they are added to the end of a file
+    /// Keeps bytes that are to be cut off, after this number of whole lines: they are added to the end of a file
     /// beside this one, and are on the disk after it.
     fn keep(&mut self, lines: u64, bytes: &[u8]) -> Result<(), HostError>
         requires usable { is_usable self.old }
@@ -180,10 +180,10 @@ pub trait Host {
     ghost counts_now: { (host : Self) (t : ℕ) (c : List ℕ) → knows_disk host → t ≤ moment host → may_leave host c →
         left_since host t c (output host) };
 
-    /// Since this moment there is no other, and it is none if that isn't known.
+    /// The only moment since this one is this one, and it doesn't count if it isn't known what a crash leaves.
     ghost only_now: { (host : Self) (c d : List ℕ) → left_since host (moment host) c d →
         knows_disk host × may_leave host c × (d ≡ output host) };
 
-    /// It is known of each that may be asked for more.
+    /// Of each host that may be called it is known what a crash leaves.
     ghost is_known: { (host : Self) → is_usable host → knows_disk host };
 }

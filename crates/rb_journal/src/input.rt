@@ -22,7 +22,7 @@ pub trait Input {
     /// It may be read from while this is what reads will give, and this is what was put out.
     ghost may_read: { Self → Option (List ℕ) → List ℕ → Type 0 };
 
-    /// Reads once more, to behind what waits, as `Buffers::read_more` does.
+    /// Reads once more, as `Buffers::read_more` does: the bytes are added after those that wait.
     fn read_more<H: Host>(&mut self, buffers: &mut Buffers, host: &H) -> Result<(), NoLine>
         requires counted { Counts (calls self.old) buffers.old.reads }
         requires going { buffers.old.ended ≡ false }

@@ -1,6 +1,6 @@
 //! Lines that begin with `{`, and then a closed gate, a space. The gate is the place of the next batch's first byte:
-//! a batch is written behind it, with a closed gate of its own at its end, and synced; then the gate is opened, by
-//! the one byte `{`, and synced. So a crash leaves all of a batch or none of it.
+//! the rest of a batch is written after it, with a closed gate of its own at its end, and synced; then the gate is
+//! opened, by the one byte `{`, and synced. So a crash leaves all of a batch or none of it.
 ghost use Rattle.std.specs.Prelude.{◌≡◌, ◌⊎◌, ◌+◌, ◌<◌, ◌≤◌, ◌^◌, ◌++◌, [], ◌∷◌, List, ℕ, length, take, IfOk, IfErr};
 ghost use Rattle.std.specs.Prelude.{◌↔◌, drop, OnOk, IsErrOf, IsTrue, MatchOption, MatchResult};
 ghost use Rattle.std.specs.List.{concat};
@@ -52,7 +52,7 @@ impl<H: Host> Journal<H> {
         ensures any_moment_err { IfErr result (λ e. LeavesOnly H.moment H.left_since host e.1
             (IsLeftAs (recovered bytes.now) (H.output host))) }
 
-        // And a file with some bytes cut off, or its lines with a byte behind them: undamaged, if the file was.
+        // And a file with some bytes cut off, or its lines with a byte after them: undamaged, if the file was.
         ensures repaired { IfOk result (λ journal. LeavesOnly H.moment H.left_since host journal.host
             (λ c _. IsRepaired bytes.now c × (IsIntact bytes.now → IsIntact c))) }
         ensures repaired_err { IfErr result (λ e. LeavesOnly H.moment H.left_since host e.1
@@ -135,7 +135,7 @@ impl<H: Host> Journal<H> {
     }
 }
 
-// Writes what a batch has behind its first byte, and a closed gate, behind the closed gate.
+// Writes a batch but for its first byte, and then a closed gate, after the closed gate that is there.
 fn stage<H: Host>(host: &mut H, end: usize, tail: &[u8]) -> Result<(), HostError>
     requires usable { H.is_usable host.old }
     requires rest { H.content host.old ≡ at_rest (recovered (H.content host.old)) }
@@ -176,14 +176,10 @@ fn put_out_all<H: Host>(host: &mut H, bytes: &[u8]) -> Result<(), HostError>
 fn is_bare_gate(rest: &[u8]) -> bool
     ensures { result ≡ is_bare_gate rest.now }
 {
-    match rest {
-        [] => true,
-        [b] => *b == b' ' || *b == 0,
-        _ => false,
-    }
+    matches!(rest, [] | [b' ' | 0])
 }
 
-// Keeps what is to be cut off behind this number of lines, unless it is a bare gate.
+// Keeps what is to be cut off after this number of lines, unless it is a bare gate.
 fn keep_rest<H: Host>(host: &mut H, lines: u64, rest: &[u8]) -> Result<(), HostError>
     requires usable { H.is_usable host.old }
     requires lines { lines ≡ length (recovered (H.content host.old)) }
@@ -194,12 +190,13 @@ fn keep_rest<H: Host>(host: &mut H, lines: u64, rest: &[u8]) -> Result<(), HostE
     ensures crash { (c : List ℕ) → H.may_leave host.new c → H.may_leave host.old c }
 {
     if is_bare_gate(rest) {
-        return Ok(());
+        Ok(())
+    } else {
+        host.keep(lines, rest)
     }
-    host.keep(lines, rest)
 }
 
-// Cuts off what is behind this number of lines, with their end, and keeps it before.
+// Keeps what comes after this number of lines, which end at `end`, and cuts it off.
 fn cut_off<H: Host>(host: &mut H, lines: u64, end: usize, rest: &[u8]) -> Result<(), HostError>
     requires usable { H.is_usable host.old }
     requires lines { lines ≡ length (recovered (H.content host.old)) }
@@ -245,7 +242,7 @@ fn repair<H: Host>(host: &mut H, bytes: &[u8], lines: u64, end: usize) -> Result
 {
     host.write_again(bytes)?;
     cut_off(host, lines, end, &bytes[end..])?;
-    // The cut has to be on the disk first: behind a gate that is torn open, what was there would count.
+    // The cut has to be on the disk first: after a gate that is torn open, what was there would count.
     write_byte(host, end, b' ')
 }
 
@@ -275,32 +272,15 @@ pub fn end_of_lines(bytes: &[u8]) -> usize
     ensures length { result ≡ length (concat (recovered bytes.now)) }
     ensures lines { take result bytes.now ≡ concat (recovered bytes.now) }
 {
-    let (_count, end) = count_lines(bytes);
-    end
+    count_lines(bytes).1
 }
 
-// Whether a crash may leave bytes behind lines that begin with this one: a gate, a NUL in its place, or a line's front.
-fn may_begin(first: u8) -> bool
-    ensures { IsTrue result ↔ (first ≡ 32) ⊎ (first ≡ 0) ⊎ (first ≡ 123) }
-{
-    match first {
-        b' ' => true,
-        0 => true,
-        b'{' => true,
-        _ => false,
-    }
-}
-
-// Whether a crash may leave these bytes behind lines.
+// Whether a crash may leave these bytes after lines: nothing, or a gate, a NUL in its place or a line's front first.
 fn may_be_behind(rest: &[u8]) -> bool
     requires { recovered rest.now ≡ [] }
     ensures { IsTrue result ↔ MayBeBehind rest.now }
 {
-    if rest.is_empty() {
-        true
-    } else {
-        may_begin(rest[0])
-    }
+    rest.is_empty() || matches!(rest[0], b' ' | 0 | b'{')
 }
 
 /// The place of the damage in a file of these bytes: the number, from 1, of the line at whose place, or at that of the

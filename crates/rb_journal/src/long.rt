@@ -9,8 +9,8 @@ ghost use Rattle.rb_journal.specs.Ends.{EndsAtRest, IsFull};
 ghost use Rattle.rb_journal.specs.Host.{LeavesOnly};
 ghost use Rattle.rb_journal.specs.Journal.{IsSettled};
 ghost use Rattle.rb_journal.specs.Lines.{IsIntact, recovered};
-ghost use Rattle.rb_journal.specs.Run.{IsRunOfBatches, served_input};
-ghost use Rattle.rb_journal.specs.Steps.{Advances, DropsLine, ReadsAsBefore, IsNext, ReadsOn, point_of};
+ghost use Rattle.rb_journal.specs.Run.{served_input};
+ghost use Rattle.rb_journal.specs.Steps.{DropsLine, Goes, IsNext, IsRunFrom, ReadsAsBefore, ReadsOn, point_at};
 ghost use Rattle.rb_journal.specs.declared.fault.ServeFault.TheVariants.{Journal as JournalFailed, Read, Write};
 
 use crate::fault::ServeFault;
@@ -84,17 +84,14 @@ pub fn answer_long_line<R: JournaledResponder, H: Host, I: Input>(
         → buffers.old.ended ≡ false → line_len (buffers.old.pending ++ more) ≡ length (buffers.old.pending ++ more)
         → I.may_read reader.old left (H.output journal.old.host) }
     requires number { work.old.number + 1 < 2 ^ 64 }
-    requires count { work.old.count ≤ work.old.number }
 
     ensures settled { EndsAtRest result → IsSettled H.is_usable H.content H.may_leave journal.new }
     ensures same { EndsAtRest result → R.lines (R.state responder.new) ≡ recovered (H.content journal.new.host) }
-    // The bytes read are behind those that waited, and of both together the first line was answered.
-    ensures answered { OnOk result ((more : List ℕ) × Consumes (I.remaining reader.old) (I.remaining reader.new) more
-        × Advances R.answers buffers.new.ended
-        (point_of (R.state responder.old) (recovered (H.content journal.old.host)) (H.output journal.old.host) work.old
-        (buffers.old.pending ++ more))
-        (point_of (R.state responder.new) (recovered (H.content journal.new.host)) (H.output journal.new.host) work.new
-        buffers.new.pending)) }
+    // The bytes read come after those that waited, and of both together the first line was answered.
+    ensures answered { OnOk result (Goes R.answers buffers.old.ended buffers.new.ended
+        (point_at R.JournaledResponder H.Host responder.old journal.old work.old buffers.old.pending)
+        (point_at R.JournaledResponder H.Host responder.new journal.new work.new buffers.new.pending)
+        (I.remaining reader.old) (I.remaining reader.new)) }
     ensures stopped { result ≡ Err Read
         → ReadsOn buffers.old buffers.new (I.remaining reader.old) (I.remaining reader.new)
         × ((I.failed reader.new ≡ true) ⊎ (I.calls reader.new ≡ MOST_READS))
@@ -102,8 +99,8 @@ pub fn answer_long_line<R: JournaledResponder, H: Host, I: Input>(
 
     // A crash leaves a run over what waited and what was still to be read.
     ensures any_moment { LeavesOnly H.moment H.left_since journal.old.host journal.new.host
-        (IsRunOfBatches R.answers work.old.number (served_input buffers.old.pending (I.remaining reader.old))
-        (R.state responder.old) (recovered (H.content journal.old.host)) (H.output journal.old.host)) }
+        (IsRunFrom R.answers (point_at R.JournaledResponder H.Host responder.old journal.old work.old
+        buffers.old.pending) (I.remaining reader.old)) }
     ensures intact { LeavesOnly H.moment H.left_since journal.old.host journal.new.host (λ c _. IsIntact c) }
 
     ensures goes_on { ReadsAsBefore I.Input buffers.old buffers.new reader.old reader.new }

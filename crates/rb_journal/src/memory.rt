@@ -9,7 +9,7 @@ use crate::call_log::CallLog;
 use crate::{Host, HostError};
 use std::alloc::{AllocError, Global};
 
-/// Each call is done at once, and what a crash may leave is all that a host allows.
+/// A host in memory. Each call is done at once, and what a crash may leave is all that a host allows.
 #[derive(Drop)]
 pub struct Memory {
     alloc: Global,

@@ -52,21 +52,20 @@ fn open_above<R: Files<File = fs::File>>(
     }
 }
 
-/// Whether a file can't be opened to be written, and maybe can be to be read.
-fn is_unwritable(error: &io::Error) -> bool {
+/// Whether a file that can't be opened to be written, for this error, may be opened to be read. It has to be a regular
+/// one: opening another may wait for somebody.
+fn is_readable<R: Files>(rt: &R, path: &str, error: &io::Error) -> bool {
     let kind = error.kind();
-    kind == io::ErrorKind::PermissionDenied || kind == io::ErrorKind::ReadOnlyFilesystem
-}
-
-/// Whether there is a regular file of this name: opening another one to be read may wait for somebody.
-fn is_regular<R: Files>(rt: &R, path: &str) -> bool {
+    if kind != io::ErrorKind::PermissionDenied && kind != io::ErrorKind::ReadOnlyFilesystem {
+        return false;
+    }
     match fs::metadata(rt, path) {
         Ok(found) => found.is_file(),
         Err(_) => false,
     }
 }
 
-/// Opens the file of this name, or makes it, if a new one is asked for, whose name has to be one with `.cut` behind it
+/// Opens the file of this name, or makes it, if a new one is asked for, whose name has to be one with `.cut` after it
 /// too. One that may not be written is opened to be read, so that it is refused for what it has; then the error is why.
 pub fn open_file<R: Files<File = fs::File> + AllocGlobal>(
     rt: &R,
@@ -82,7 +81,7 @@ pub fn open_file<R: Files<File = fs::File> + AllocGlobal>(
         Ok(file) => return Ok((file, None)),
         Err(error) => error,
     };
-    if is_unwritable(&error) && is_regular(rt, path) {
+    if is_readable(rt, path, &error) {
         if let Ok(file) = open_above(rt, OpenOptions::new().read(true), path) {
             return Ok((file, Some(error)));
         }
@@ -129,29 +128,17 @@ fn folder_of(path: &str) -> &str {
     }
 }
 
-/// Syncs the folder of this name, with the name there.
-fn sync_folder_of<R: Files<File = fs::File>>(rt: &R, path: &str) -> io::Result<()> {
-    match fs::File::open(rt, folder_of(path)) {
-        Ok(folder) => folder.sync_all(),
-        Err(error) => Err(error),
-    }
-}
-
 /// Syncs the folder of a file, with its name there; if the name is a link, that of the file that it leads to.
 pub fn sync_folder<R: Files<File = fs::File> + AllocGlobal>(rt: &R, path: &str) -> io::Result<()> {
-    if !fs::symlink_metadata(rt, path)?.is_symlink() {
-        return sync_folder_of(rt, path);
-    }
-    let path = fs::canonicalize(rt, path)?;
-    sync_folder_of(rt, path.as_str())
+    let folder = if fs::symlink_metadata(rt, path)?.is_symlink() {
+        fs::File::open(rt, folder_of(fs::canonicalize(rt, path)?.as_str()))?
+    } else {
+        fs::File::open(rt, folder_of(path))?
+    };
+    folder.sync_all()
 }
 
-/// The name of the file that keeps what is cut off the file of this name.
-fn beside<R: AllocGlobal>(rt: &R, path: &str) -> io::Result<String> {
-    Ok(format!(in rt.alloc(); "{path}.cut")?)
-}
-
-/// The error of that file, which says whose it is.
+/// The error of the file that keeps what is cut off, which says whose it is.
 fn of_beside<R: AllocGlobal>(rt: &R, error: io::Error) -> io::Error {
     match format!(in rt.alloc(); "its .cut: {error}") {
         Ok(why) => io::Error::new(error.kind(), why.as_str()),
@@ -159,37 +146,19 @@ fn of_beside<R: AllocGlobal>(rt: &R, error: io::Error) -> io::Error {
     }
 }
 
-/// An error if no file can have this name with `.cut` behind it, as the name is too long: what a crash leaves couldn't
+/// An error if no file can have this name with `.cut` after it, as the name is too long: what a crash leaves couldn't
 /// be kept.
 fn fits_beside<R: Files + AllocGlobal>(rt: &R, path: &str) -> io::Result<()> {
-    match fs::symlink_metadata(rt, beside(rt, path)?.as_str()) {
+    let name = format!(in rt.alloc(); "{path}.cut")?;
+    match fs::symlink_metadata(rt, name.as_str()) {
         Err(error) if error.kind() == io::ErrorKind::InvalidFilename => Err(of_beside(rt, error)),
         _ => Ok(()),
     }
 }
 
-/// Opens the file of this name, which is beside this one, to add bytes to it. It is made if it isn't there, with no
-/// more permissions than those of this one. It has to be a regular file, and neither this one nor a stream.
-fn open_beside<R: Files<File = fs::File> + AllocGlobal>(
-    rt: &R,
-    name: &str,
-    file: &fs::File,
-    output: i32,
-) -> io::Result<fs::File> {
-    let opened = file.metadata()?;
-    let mut how = OpenOptions::new();
-    // A pipe that is opened for reading too doesn't wait for its other end.
-    how.read(true).append(true).create(true);
-    how.mode(opened.permissions().mode() & PERMISSIONS);
-    let kept = open_above(rt, &how, name)?;
-    let found = kept.metadata()?;
-    if !found.is_file() || is_same(&found, &opened) || is_stream(rt, &kept, output)? {
-        return Err(refused("it is no regular file of its own"));
-    }
-    Ok(kept)
-}
-
-/// Adds bytes to the end of the file of this name, and waits until they are on the disk, and the name too.
+/// Adds bytes to the end of the file of this name, which is beside this one, and waits until they are on the disk, and
+/// the name too. It is made if it isn't there, with no more permissions than those of this one. It has to be a regular
+/// file, and neither this one nor a stream.
 fn add_beside<R: Files<File = fs::File> + AllocGlobal>(
     rt: &R,
     name: &str,
@@ -197,7 +166,16 @@ fn add_beside<R: Files<File = fs::File> + AllocGlobal>(
     output: i32,
     bytes: &[u8],
 ) -> io::Result<()> {
-    let mut kept = open_beside(rt, name, file, output)?;
+    let opened = file.metadata()?;
+    let mut how = OpenOptions::new();
+    // A pipe that is opened for reading too doesn't wait for its other end.
+    how.read(true).append(true).create(true);
+    how.mode(opened.permissions().mode() & PERMISSIONS);
+    let mut kept = open_above(rt, &how, name)?;
+    let found = kept.metadata()?;
+    if !found.is_file() || is_same(&found, &opened) || is_stream(rt, &kept, output)? {
+        return Err(refused("it is no regular file of its own"));
+    }
     kept.write_all(bytes)?;
     kept.sync_all()?;
     sync_folder(rt, name)
@@ -212,6 +190,6 @@ pub fn keep_beside<R: Files<File = fs::File> + AllocGlobal>(
     output: i32,
     bytes: &[u8],
 ) -> io::Result<()> {
-    let name = beside(rt, path)?;
+    let name = format!(in rt.alloc(); "{path}.cut")?;
     add_beside(rt, name.as_str(), file, output, bytes).map_err(|error| of_beside(rt, error))
 }

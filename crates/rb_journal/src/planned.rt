@@ -1,5 +1,5 @@
 //! A file whose calls somebody else makes, as a program that has a loop of its own. Each call is noted, and is taken as
-//! made well; whoever makes them makes them in their order, says so of each, and makes none behind one that failed.
+//! made well; whoever makes them makes them in their order, says so of each, and makes none after one that failed.
 //!
 //! The log of all calls that were noted is that of the file once they are made. Before that a crash leaves one of the
 //! files that it might have left at some moment of that log: each moment of the calls is one of them.
@@ -13,7 +13,7 @@ use crate::call_log::CallLog;
 use crate::{Host, HostError};
 use std::alloc::Global;
 
-/// The calls that are still to be made, the newest first, and the logs of those that were made and of all.
+/// A host whose calls its caller makes: those still to be made, the newest first, and logs of those made and of all.
 #[derive(Drop)]
 pub struct Planned {
     alloc: Global,
@@ -105,11 +105,8 @@ impl Host for Planned {
     }
 
     fn write_at(&mut self, at: usize, bytes: &[u8]) -> Result<(), HostError> {
-        let call = Call::Write {
-            at,
-            bytes: bytes.to_vec(self.alloc)?,
-        };
-        self.calls.insert(0, call)?;
+        let copy = bytes.to_vec(self.alloc)?;
+        self.calls.insert(0, Call::Write { at, bytes: copy })?;
         self.log.wrote(at, bytes, true)
     }
 
@@ -125,11 +122,8 @@ impl Host for Planned {
     }
 
     fn keep(&mut self, lines: u64, bytes: &[u8]) -> Result<(), HostError> {
-        let call = Call::Keep {
-            lines,
-            bytes: bytes.to_vec(self.alloc)?,
-        };
-        self.calls.insert(0, call)?;
+        let copy = bytes.to_vec(self.alloc)?;
+        self.calls.insert(0, Call::Keep { lines, bytes: copy })?;
         self.log.kept(bytes, true)
     }
 
@@ -139,10 +133,8 @@ impl Host for Planned {
     }
 
     fn put_out(&mut self, bytes: &[u8]) -> Result<usize, HostError> {
-        let call = Call::PutOut {
-            bytes: bytes.to_vec(self.alloc)?,
-        };
-        self.calls.insert(0, call)?;
+        let copy = bytes.to_vec(self.alloc)?;
+        self.calls.insert(0, Call::PutOut { bytes: copy })?;
         self.log.output(bytes, Some(bytes.len()))
     }
 }

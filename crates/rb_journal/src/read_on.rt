@@ -11,8 +11,8 @@ use crate::host::Host;
 use crate::input::Input;
 use rb_lines::{Buffers, NoLine};
 
-/// Reads once more, to behind what waits, which is the front of one line: `Read` if the read failed or there were
-/// `MOST_READS` before, or `OutOfMemory`.
+/// Reads once more. The bytes are added after those that wait, which are a prefix of one line. `Read` if the read
+/// failed or there were `MOST_READS` before, or `OutOfMemory`.
 pub fn read_on<I: Input, H: Host>(
     buffers: &mut Buffers,
     reader: &mut I,

@@ -1,4 +1,4 @@
-//! A journal that is never written again: the closed gate behind its lines becomes the seal, a TAB. It is one byte, as
+//! A journal that is never written again: the closed gate after its lines becomes the seal, a TAB. It is one byte, as
 //! blank to a reader as the gate, and no crash of an append or of a repair leaves it. So a file is sealed or it isn't,
 //! and a copy from before isn't.
 ghost use Rattle.std.specs.Prelude.{◌≡◌, ◌≢◌, ◌<◌, ◌≤◌, ◌↔◌, [], ◌∷◌, IfErr, IfOk, IsTrue, MatchResult};
@@ -9,22 +9,12 @@ ghost use Rattle.rb_journal.specs.Journal.{IsSealedOrNot, IsSettled};
 use crate::journal::write_byte;
 use crate::{Host, HostError, Journal, end_of_lines};
 
-// Whether these bytes are the seal.
-fn is_seal(rest: &[u8]) -> bool
-    ensures { IsTrue result ↔ rest.now ≡ 9 ∷ [] }
-{
-    match rest {
-        [b] => *b == b'\t',
-        _ => false,
-    }
-}
-
-/// Whether a file of these bytes is sealed: lines, and behind them the seal and nothing else.
+/// Whether a file of these bytes is sealed: lines, and after them the seal and nothing else.
 pub fn is_sealed(bytes: &[u8]) -> bool
     ensures { IsTrue result ↔ IsSealed bytes.now }
 {
     let end = end_of_lines(bytes);
-    end > 0 && is_seal(&bytes[end..])
+    end > 0 && bytes[end..] == [b'\t']
 }
 
 impl<H: Host> Journal<H> {

@@ -49,7 +49,6 @@ fn answer_next<R: JournaledResponder>(
     requires few_entries { length work.old.batch.bytes.items ≤ MOST_BATCHED }
     requires short_text { length buffers.old.buffered.items ≤ MOST_BATCHED }
     requires number { work.old.number + 1 < 2 ^ 64 }
-    requires count { work.old.count ≤ work.old.number }
     ensures answered { OnOk result (Advances R.answers buffers.old.ended
         (point_of (R.state responder.old) (R.lines (R.state responder.old)) buffers.old.buffered.items work.old
         buffers.old.pending)
@@ -69,7 +68,6 @@ fn answer_next<R: JournaledResponder>(
     ensures number { OnOk result ((work.new.number ≡ work.old.number + 1)
         × (length buffers.new.pending < length buffers.old.pending)) }
     ensures one { OnOk result (work.new.count ≤ work.old.count + 1) }
-    ensures count { work.new.count ≤ work.new.number }
 {
     let line = &buffers.pending.as_slice()[..n];
     if !is_blank(line) {
@@ -81,7 +79,7 @@ fn answer_next<R: JournaledResponder>(
     Ok(())
 }
 
-/// Answers lines that wait whole, one batch of them, and says what waits behind them: a line, if the batch ended before
+/// Answers lines that wait whole, one batch of them, and says what waits after them: a line, if the batch ended before
 /// it, which it does once its entries or its texts have more than `MOST_BATCHED` bytes; or a line that is too long.
 /// `Err` means out of memory.
 pub fn answer_waiting<R: JournaledResponder>(
@@ -92,7 +90,6 @@ pub fn answer_waiting<R: JournaledResponder>(
     requires batch { work.old.batch.bytes.items ≡ [] }
     requires buffered { buffers.old.buffered.items ≡ [] }
     requires number { work.old.number + length buffers.old.pending < 2 ^ 64 }
-    requires count { work.old.count ≤ work.old.number }
     // Of a responder without memory nothing is said: then there is the state before the line that it didn't answer.
     ensures answered { (state : R.State) × AdvancesByBatch R.answers buffers.old.ended
         (point_of (R.state responder.old) (R.lines (R.state responder.old)) buffers.old.buffered.items work.old
@@ -106,13 +103,11 @@ pub fn answer_waiting<R: JournaledResponder>(
     ensures reads { buffers.new.reads ≡ buffers.old.reads }
     ensures ended { buffers.new.ended ≡ buffers.old.ended }
     ensures number { work.new.number + length buffers.new.pending ≤ work.old.number + length buffers.old.pending }
-    ensures count { work.new.count ≤ work.new.number }
 {
     'lines: loop {
-        let n = match next_waiting(buffers) {
-            Waiting::Line(n) => n,
-            Waiting::Long => return Ok(Waiting::Long),
-            Waiting::Nothing => return Ok(Waiting::Nothing),
+        let next = next_waiting(buffers);
+        let Waiting::Line(n) = next else {
+            return Ok(next);
         };
         if work.batch.bytes.len() > MOST_BATCHED || buffers.buffered.len() > MOST_BATCHED {
             return Ok(Waiting::Line(n));

@@ -1,15 +1,16 @@
 //! Lines that were answered and not yet committed.
-ghost use Rattle.std.specs.Prelude.{◌≡◌, []};
+ghost use Rattle.std.specs.Prelude.{◌≡◌, ◌≤◌, []};
 
 use crate::batch::LineBatch;
 use std::alloc::Global;
 
-/// The journal's lines that are to be committed, the number of the next line, and how many lines were answered.
+/// How far serving has come: the lines to commit, the number of the next line, and how many lines were answered.
 #[derive(Drop)]
 pub struct Work {
     pub batch: LineBatch,
     pub number: u64,
     pub count: u64,
+    pub ghost counted: { count ≤ number },
 }
 
 impl Work {

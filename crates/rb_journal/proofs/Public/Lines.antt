@@ -4,13 +4,9 @@ use Rattle.std.proofs.Common.{refl, sym, ◌∙◌, ap, subst, append_assoc, ari
 use Rattle.std.specs.List.{concat}
 use Rattle.std.proofs.lemmas.Bool.{cases_eq, cases_Bool, cond-true, cond-false, eq-eqb, ne_eqb}
 use Rattle.std.proofs.lemmas.List.{append-nil, append_cancel_left}
+use Rattle.std.proofs.lemmas.List.Folds.{concat-append}
 use Rattle.std.proofs.lemmas.List.Sums.{take_while-cons}
 use Rattle.rb_journal.specs.Lines.{joined, lines_in, is_open, recovered, IsBatch, IsLine}
-
--- the bytes of two lists of lines together
-pub concat-append : (xs ys : List (List ℕ)) → concat (xs ++ ys) ≡ concat xs ++ concat ys
-concat-append [] ys = refl
-concat-append (x ∷ xs) ys = ap (λ (l : List ℕ). x ++ l) (concat-append xs ys) ∙ sym (append_assoc x (concat xs) (concat ys))
 
 -- an LF at the beginning is a line alone, before the lines of what is behind it
 pub whole-lf : (b : ℕ) (bytes : List ℕ) → b ≡ 10 → lines_in (b ∷ bytes) ≡ (10 ∷ []) ∷ lines_in bytes
@@ -209,11 +205,6 @@ begins b bytes all = elim (cases_eq b 123) [
 pub lines-append : (lines rest : List ℕ) → IsBatch lines → recovered (lines ++ rest) ≡ recovered lines ++ recovered rest
 lines-append lines rest all = ap (λ (l : List ℕ). recovered (l ++ rest)) (sym all) ∙ recovered-append lines rest
 
--- the lines of bytes are lines
-pub are_lines : (file : List ℕ) → IsBatch (concat (recovered file))
-are_lines file = ap concat (ap recovered (sym (append-nil (concat (recovered file)))) ∙ recovered-append file []
-    ∙ append-nil (recovered file))
-
 -- and so are lines behind lines
 pub both_lines : (xs ys : List ℕ) → IsBatch xs → IsBatch ys → IsBatch (xs ++ ys)
 both_lines xs ys first second =
@@ -249,12 +240,6 @@ line_alone [] is = absurd (omega (arith, is.begins))
 line_alone (b ∷ line) is =
     ap (λ (ls : List (List ℕ)). take_while is_open ls) (one_whole (b ∷ line) (λ k below lf. is.one k 0 below lf))
     ∙ open-true ((b ∷ line) ++ 10 ∷ []) [] (eq-eqb b 123 is.begins)
-
--- and so is one more behind others
-pub line_more : (bytes line : List ℕ) → IsBatch bytes → IsLine line →
-    recovered (bytes ++ (line ++ 10 ∷ [])) ≡ recovered bytes ++ (line ++ 10 ∷ []) ∷ []
-line_more bytes line all is = lines-append bytes (line ++ 10 ∷ []) all
-    ∙ ap (λ (ls : List (List ℕ)). recovered bytes ++ ls) (line_alone line is)
 
 -- lines, and behind them one more with its LF, are lines
 pub still_lines : (bytes line : List ℕ) → IsBatch bytes → IsLine line → IsBatch (bytes ++ (line ++ 10 ∷ []))

@@ -1,5 +1,5 @@
 -- Files that are sealed.
-use Rattle.std.proofs.Common.{◌≡◌, ◌⊎◌, ◌+◌, inl, inr, ℕ, List, [], ◌∷◌, ◌++◌, length, drop, refl, sym, ◌∙◌, ap, subst, arith}
+use Rattle.std.proofs.Common.{◌≡◌, ◌⊎◌, ◌+◌, inl, inr, ℕ, List, [], ◌∷◌, ◌++◌, length, drop, refl, ◌∙◌, ap, subst, arith}
 use Rattle.std.specs.List.{concat}
 use Rattle.std.proofs.lemmas.List.{append-nil, drop_all, drop_at, take_all, take_at}
 use Rattle.rb_journal.specs.Host.{IsWritten, TornByte}
@@ -7,7 +7,6 @@ use Rattle.rb_journal.specs.Journal.{IsRepaired}
 use Rattle.rb_journal.specs.Lines.{at_rest, recovered, sealed, behind_lines, IsIntact, IsSealed, MayBeBehind}
 use Rattle.rb_journal.proofs.Public.Lines.{recovered-append, short_nothing}
 use Rattle.rb_journal.proofs.Crash.{fits, length-at_rest}
-use Rattle.rb_journal.proofs.Intact.{at_rest_intact}
 
 -- a sealed file is read as its lines
 pub sealed_is : (file : List ℕ) → recovered (sealed (recovered file)) ≡ recovered file
@@ -55,7 +54,3 @@ intact_unsealed file may is = not_behind (subst MayBeBehind (seal_behind file is
 -- a file that wasn't changed is one that a repair may leave
 pub untouched : (file : List ℕ) → IsRepaired file file
 untouched file = inl (record { no_shorter = fits file; front = take_all (length file) file (omega arith) })
-
--- so is a file at rest, which isn't damaged
-pub rested : (file c : List ℕ) → c ≡ at_rest (recovered file) → IsRepaired file c × IsIntact c
-rested file c is = (inr (inl is), subst IsIntact (sym is) (at_rest_intact file))

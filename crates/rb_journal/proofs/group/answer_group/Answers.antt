@@ -1,11 +1,11 @@
 -- A group of lines is answered and committed.
-use Rattle.std.proofs.Common.{rules, ◌≡◌, ◌++◌, ⊎_elim, inl, inr, Some, Err, ap, sym, subst, ℕ, List, [], true}
+use Rattle.std.proofs.Common.{rules, ◌≡◌, ◌++◌, ⊎_elim, inl, inr, Option, Err, ap, sym, subst, ℕ, List, true}
+use Rattle.std.specs.Io.KnownBytes.{IsAtEnd}
 use Rattle.rb_journal.specs.Host.{LeavesOnly}
 use Rattle.rb_journal.specs.Lines.{IsBatch, IsIntact, recovered}
 use Rattle.rb_journal.specs.declared.host.HostError.TheVariants.{DiskFailed, Full}
 use Rattle.rb_journal.specs.Faults.{fault_of_host}
-use Rattle.rb_journal.specs.Run.{IsRunOfBatches}
-use Rattle.rb_journal.specs.Steps.{AdvancesByBatch, point_of}
+use Rattle.rb_journal.specs.Steps.{AdvancesByBatch, IsRunFrom, point_at, point_of}
 use Rattle.rb_journal.specs.declared.fault.ServeFault.TheVariants.{Journal}
 use Rattle.rb_journal.proofs.Public.Moments.{weaker}
 use Rattle.rb_journal.proofs.Runs.{durable_is_run, is_full, journal_cause}
@@ -32,11 +32,10 @@ steps g c =
     c.requires.same c.answer_waiting-answered.ensures.answered.1
 
 -- a crash leaves a run over the lines
-run : (g : Over) (c : After-commit_and_put_out g) (rest : List ℕ) → (c.args.buffers.now.ended ≡ true → rest ≡ [])
+run : (g : Over) (c : After-commit_and_put_out g) (rest : Option (List ℕ)) → (c.args.buffers.now.ended ≡ true → IsAtEnd rest)
     → LeavesOnly g.H.Host.moment g.H.Host.left_since c.args.journal.now.host c.commit_and_put_out.new.self.host
-    (IsRunOfBatches g.R.JournaledResponder.answers c.args.work.now.number (Some (c.args.buffers.now.pending ++ rest))
-    (g.R.JournaledResponder.state c.args.responder.now)
-    (recovered (g.H.Host.content c.args.journal.now.host)) (g.H.Host.output c.args.journal.now.host))
+    (IsRunFrom g.R.JournaledResponder.answers (point_at g.R.JournaledResponder g.H.Host c.args.responder.now c.args.journal.now
+    c.args.work.now c.args.buffers.now.pending) rest)
 run g c rest end =
     let lines = recovered (g.H.Host.content c.args.journal.now.host) in
     let advances = steps g (goal.at.After-commit_and_put_out g c).After-answer_waiting-answered in

@@ -3,4 +3,4 @@ use Rattle.rb_journal.proofs.Crash.{cut_done}
 use Rattle.rb_journal.proofs.journal.end_of_lines.Goals as goal
 
 pub returns-clause-lines : goal.returns-clause-lines
-returns-clause-lines c = ap (λ (n : ℕ). take n c.args.bytes.now) c.count_lines-count.ensures.length ∙ cut_done c.args.bytes.now
+returns-clause-lines c = ap (λ (n : ℕ). take n c.args.bytes.now) c.count_lines.ensures.length ∙ cut_done c.args.bytes.now

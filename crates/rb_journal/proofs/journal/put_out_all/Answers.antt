@@ -1,9 +1,18 @@
-use Rattle.std.proofs.Common.{◌≡◌, ℕ, ◌+◌, ◌-◌, List, ◌++◌, length, take, drop, ◌∙◌, ap, arith, length-drop}
+use Rattle.std.proofs.Common.{◌≡◌, ℕ, ◌+◌, ◌-◌, List, ◌++◌, length, take, drop, sym, ◌∙◌, ap, arith, append_assoc, length-drop}
+use Rattle.std.proofs.Math.Seq.{take-add}
 use Rattle.std.proofs.lemmas.List.{take_rest}
 use Rattle.rb_journal.specs.Host.{Outputs, AddsPrefix}
 use Rattle.rb_journal.proofs.Public.Moments.{goes_on}
-use Rattle.rb_journal.proofs.Output.{output_more}
 use Rattle.rb_journal.proofs.journal.put_out_all.Goals as goal
+
+-- after some bytes, some of the rest of them
+output_more : (start now bytes : List ℕ) (done k : ℕ) → now ≡ start ++ take done bytes →
+    now ++ take k (take (length bytes - done) (drop done bytes)) ≡ start ++ take (done + k) bytes
+output_more start now bytes done k is =
+    ap (λ (l : List ℕ). l ++ take k (take (length bytes - done) (drop done bytes))) is
+    ∙ append_assoc start (take done bytes) (take k (take (length bytes - done) (drop done bytes)))
+    ∙ ap (λ (l : List ℕ). start ++ (take done bytes ++ take k l)) (take_rest bytes done)
+    ∙ ap (λ (l : List ℕ). start ++ l) (sym (take-add done k bytes))
 
 some_more : (start now bytes d : List ℕ) (done : ℕ) → now ≡ start ++ take done bytes →
     AddsPrefix now (take (length bytes - done) (drop done bytes)) d → AddsPrefix start bytes d

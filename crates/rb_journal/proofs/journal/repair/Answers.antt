@@ -2,13 +2,13 @@ use Rattle.std.proofs.Common.{◌≡◌, ℕ, List, [], ◌∷◌, ◌++◌, len
 use Rattle.std.specs.Prelude.{Err}
 use Rattle.std.specs.List.{concat}
 use Rattle.std.proofs.lemmas.List.{take_all}
+use Rattle.std.proofs.lemmas.Result.{on_ok_weaker}
 use Rattle.rb_journal.specs.Host.{Cut, TornByte}
 use Rattle.rb_journal.specs.Journal.{IsRepaired}
 use Rattle.rb_journal.specs.Lines.{recovered}
 use Rattle.rb_journal.specs.Quiet.{Quiet}
-use Rattle.rb_journal.proofs.Ends.{written_at_end}
-use Rattle.rb_journal.proofs.Crash.{cut_done, fits, torn_end}
-use Rattle.rb_journal.proofs.Quiet.{on_ok, one_call, stopped, then_on}
+use Rattle.rb_journal.proofs.Crash.{cut_done, fits, torn_end, written_at_end}
+use Rattle.rb_journal.proofs.Quiet.{one_call, stopped, then_on}
 use Rattle.rb_journal.proofs.journal.repair.Given.{Over}
 use Rattle.rb_journal.proofs.journal.repair.Goals.{After-write_again, After-cut_off, In_ok-cut_off}
 use Rattle.rb_journal.proofs.journal.repair.Goals as goal
@@ -73,6 +73,6 @@ returns-clause-quiet g c =
 pub returns-clause-at_rest : goal.returns-clause-at_rest
 returns-clause-at_rest g c =
     let is_kept = is_cut g (goal.at.returns-clause-at_rest g c).In_ok-cut_off in
-    on_ok c.write_byte.result
+    on_ok_weaker c.write_byte.result
     (λ written. written_at_end _ _ _ _ (c.requires.end ∙ sym (ap length is_kept)) written ∙ ap (λ (l : List ℕ). l ++ 32 ∷ []) is_kept)
     c.write_byte.ensures.written

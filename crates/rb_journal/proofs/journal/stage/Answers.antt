@@ -6,8 +6,7 @@ use Rattle.rb_journal.specs.Journal.{HasClosedGate}
 use Rattle.rb_journal.specs.Lines.{recovered, at_rest}
 use Rattle.rb_journal.specs.Quiet.{Quiet}
 use Rattle.rb_journal.proofs.Quiet.{one_call, stopped, then_on}
-use Rattle.rb_journal.proofs.Crash.{length-at_rest, shut_at_rest, shut_closed, stays_shut}
-use Rattle.rb_journal.proofs.Torn.{torn_length}
+use Rattle.rb_journal.proofs.Crash.{length-at_rest, shut_at_rest, shut_closed, stays_shut, torn_length}
 use Rattle.rb_journal.proofs.journal.stage.Given.{Over}
 use Rattle.rb_journal.proofs.journal.stage.Goals.{After-write_at}
 use Rattle.rb_journal.proofs.journal.stage.Goals as goal

@@ -4,12 +4,11 @@ use Rattle.std.proofs.Common.{append-nil, refl}
 use Rattle.rb_lines.specs.Lines.{line_len}
 use Rattle.rb_journal.specs.Host.{LeavesOnly}
 use Rattle.rb_journal.specs.Lines.{recovered}
-use Rattle.rb_journal.specs.Run.{IsRunOfBatches, served_input}
-use Rattle.rb_journal.specs.Steps.{Advances, Point}
+use Rattle.rb_journal.specs.Steps.{Advances, IsRunFrom, Point, point_at}
 use Rattle.rb_journal.specs.Turns.{IsTurn}
 use Rattle.rb_journal.proofs.Advance.{alone, answers_one, long_answered}
 use Rattle.rb_journal.proofs.Dropping.{dropped_first, dropped_fits, dropped_long}
-use Rattle.rb_journal.proofs.Follow.{no_rest, read_over, rest_of, run_start, served_before}
+use Rattle.rb_journal.proofs.Follow.{only_read, run_on, run_start}
 use Rattle.rb_journal.proofs.Public.Moments.{started, weaker}
 use Rattle.rb_journal.proofs.Runs.{durable_is_run}
 use Rattle.rb_journal.proofs.long.answer_long_line.Given.{Over}
@@ -106,29 +105,25 @@ returns-clause-answered g c =
     c.in_ok-commit_and_put_out.ensures.lines ∙ append-nil lines in
     let said : g.H.Host.output c.commit_and_put_out.new.self.host ≡ output ++ c.answer_long.new.text.items =
     c.in_ok-commit_and_put_out.ensures.output ∙ ap (λ l. output ++ l) c.deref.ensures.value in
-    (dropped.more, dropped.read, rw (kept, said) (step g p output))
+    record { more = dropped.more; read = dropped.read; still = dropped.still; steps = rw (kept, said) (step g p output) }
 
 -- a crash leaves a prefix of the answer put out
 moments : (g : Over) (c : After-commit_and_put_out g) → LeavesOnly g.H.Host.moment g.H.Host.left_since c.args.journal.now.host
     c.commit_and_put_out.new.self.host
-    (IsRunOfBatches g.R.JournaledResponder.answers c.args.work.now.number
-    (served_input c.args.buffers.now.pending (g.I.Input.remaining c.args.reader.now))
-    (g.R.JournaledResponder.state c.args.responder.now)
-    (recovered (g.H.Host.content c.args.journal.now.host)) (g.H.Host.output c.args.journal.now.host))
+    (IsRunFrom g.R.JournaledResponder.answers (point_at g.R.JournaledResponder g.H.Host c.args.responder.now c.args.journal.now
+    c.args.work.now c.args.buffers.now.pending) (g.I.Input.remaining c.args.reader.now))
 unfolding all before after
 moments g c =
     let lines = recovered (g.H.Host.content c.args.journal.now.host) in
     let dropped = c.in_ok-drop_line.ensures.dropped in
-    let has = g.I.Input.remaining c.drop_line.new.reader in
+    let end = c.in_ok-drop_line.ensures.end in
     let s = step g c [] in
+    let p = point_at g.R.JournaledResponder g.H.Host c.args.responder.now c.args.journal.now c.args.work.now c.args.buffers.now.pending in
     weaker g.H.Host.moment g.H.Host.left_since _ _ _ _ c.commit_and_put_out.ensures.any_moment
-    (λ f d kept. read_over g.R.JournaledResponder.answers c.args.work.now.number _ _ _ lines _ f d
-    (λ ts are. served_before c.args.work.now.number ts c.args.buffers.now.pending dropped.more
-    (g.I.Input.remaining c.args.reader.now) has dropped.read are)
-    (durable_is_run g.R.JournaledResponder.answers c.drop_line.new.buffers.ended (before g c []) (after g c []) (rest_of has) [] _
-    c.deref.result.now f d (s, alone s.turns (omega (arith, s.count_is)))
-    (λ ended. no_rest has (c.in_ok-drop_line.ensures.end ended)) (sym (append-nil lines))
-    refl (sym c.deref.ensures.value) kept))
+    (λ f d kept. run_on (only_read g.R.JournaledResponder.answers _ _ p dropped.more _ _ dropped.read dropped.still) end f d
+    (durable_is_run g.R.JournaledResponder.answers c.drop_line.new.buffers.ended (before g c []) (after g c []) _ [] _
+    c.deref.result.now f d (s, alone s.turns (omega (arith, s.count_is))) end (sym (append-nil lines)) refl (sym c.deref.ensures.value)
+    kept))
 
 pub returns-in_err-commit_and_put_out-clause-any_moment : goal.returns-in_err-commit_and_put_out-clause-any_moment
 returns-in_err-commit_and_put_out-clause-any_moment g c =
@@ -140,10 +135,8 @@ returns-clause-any_moment g c = moments g (goal.at.returns-clause-any_moment g c
 -- before that the journal is as it was
 at_start : (g : Over) (c : After-drop_line g) → LeavesOnly g.H.Host.moment g.H.Host.left_since c.args.journal.now.host
     c.args.journal.now.host
-    (IsRunOfBatches g.R.JournaledResponder.answers c.args.work.now.number
-    (served_input c.args.buffers.now.pending (g.I.Input.remaining c.args.reader.now))
-    (g.R.JournaledResponder.state c.args.responder.now)
-    (recovered (g.H.Host.content c.args.journal.now.host)) (g.H.Host.output c.args.journal.now.host))
+    (IsRunFrom g.R.JournaledResponder.answers (point_at g.R.JournaledResponder g.H.Host c.args.responder.now c.args.journal.now
+    c.args.work.now c.args.buffers.now.pending) (g.I.Input.remaining c.args.reader.now))
 at_start g c =
     let host = g.H.Host in
     let was = c.args.journal.now.host in

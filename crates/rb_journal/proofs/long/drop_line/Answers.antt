@@ -1,5 +1,5 @@
 -- The line is dropped, or more of it.
-use Rattle.std.proofs.Common.{rules, arith, ◌≡◌, ◌∙◌, ◌+◌, ◌*◌, [], length, drop, ap, inl, inr}
+use Rattle.std.proofs.Common.{rules, arith, ◌≡◌, ◌∙◌, ◌+◌, ◌*◌, [], false, length, drop, ap, inl, inr}
 use Rattle.std.proofs.Common.{subst, Err}
 use Rattle.std.proofs.lemmas.List.{length-drop}
 use Rattle.std.proofs.Math.ListN.{drop_of_length-le}
@@ -8,7 +8,8 @@ use Rattle.rb_lines.specs.Lines.{line_len}
 use Rattle.rb_lines.specs.declared.limits.TheConstants.{READ_SIZE}
 use Rattle.rb_journal.specs.declared.fault.ServeFault.TheVariants.{Read}
 use Rattle.rb_journal.proofs.Dropping.{all_length, behind_all, dropped_more, no_shorter, none_dropped, stopped_in_line}
-use Rattle.rb_journal.proofs.Ending.{keeps_same}
+use Rattle.std.proofs.KnownBytes.{Keeps-refl}
+use Rattle.rb_journal.proofs.Follow.{was_going}
 use Rattle.rb_journal.proofs.long.drop_line.Goals.{then-whole-via-then-whole, then-whole-via-else-whole+then-buffers}
 use Rattle.rb_journal.proofs.long.drop_line.Goals as goal
 
@@ -19,10 +20,9 @@ reads-init g c =
       counted = c.requires.counted;
       buffered = c.requires.nothing_buffered;
       end = c.requires.end;
-      begun = λ going. going;
       order = λ left said may. may;
       fewer = omega arith;
-      dropped = (none.0, omega (arith, none.1));
+      dropped = (none.0, omega (arith, none.1), λ ended. (none.2, ended));
     }
 
 pub returns-then-whole-clause-dropped : goal.returns-then-whole-clause-dropped
@@ -36,9 +36,11 @@ returns-then-whole-clause-dropped g c =
     let n : c.first_line-n.result ≡ line_len p = c.first_line-n.ensures.length in
     let len : length c.as_slice.result.now ≡ length p = ap length (c.as_slice.ensures ∙ c.first_line-n.ensures.same) in
     let now : c.skip_line.new.self.pending ≡ drop (c.first_line-n.result + 1) p = search rules in
+    let same : c.skip_line.new.self.ended ≡ c.reads.buffers.ended = search rules in
     record {
       more = d.more;
       read = d.read;
+      still = λ ended. ((c.reads.invariant.dropped.2 ended).0, same ∙ (c.reads.invariant.dropped.2 ended).1);
       whole = elim c.then-whole.branch [
         | then-whole-via-then-whole w ↦ inl (omega (arith, lengths.0, lengths.1, n, len, w.if-whole.true))
         | then-whole-via-else-whole+then-buffers w ↦
@@ -81,6 +83,7 @@ reads-preserved g c =
     let all : line_len p ≡ length p = omega (arith, n, len, c.first_line-n.ensures.within, c.if-whole.false) in
     let now : c.skip_line.new.self.pending ≡ drop (c.first_line-n.result + 1) p = search rules in
     let reads : c.skip_line.new.self.reads ≡ c.reads.buffers.reads = search rules in
+    let going : c.reads.buffers.ended ≡ false = search rules in
     let none : c.skip_line.new.self.pending ≡ [] = now ∙ drop_of_length-le p (omega (arith, n, all)) in
     let more = dropped_more old p c.read_on.new.buffers.pending had mid has inv.dropped.0 all
     (subst (λ l. Reads l c.read_on.new.buffers.pending mid has) none read.read) in
@@ -88,10 +91,13 @@ reads-preserved g c =
       counted = c.read_on.ensures.counted;
       buffered = search rules;
       end = read.end;
-      begun = λ _. inv.begun (search rules);
       order = λ left said may. c.read_on.ensures.order left said (inv.order left said may);
       fewer = omega (arith, read.fewer, reads, inv.fewer);
-      dropped = (more.0, omega (arith, more.1, read.left, ap length none, ap (λ k. READ_SIZE * k) reads, inv.dropped.1));
+      dropped = (
+        more.0,
+        omega (arith, more.1, read.left, ap length none, ap (λ k. READ_SIZE * k) reads, inv.dropped.1),
+        λ ended. absurd (cc (going, (inv.dropped.2 ended).1)),
+      );
     }
 
 pub returns-in_err-read_on-clause-stopped : goal.returns-in_err-read_on-clause-stopped
@@ -123,5 +129,5 @@ read_on-requires-clause-order g c =
     let n : c.first_line-n.result ≡ line_len p = c.first_line-n.ensures.length in
     let len : length c.as_slice.result.now ≡ length p = ap length (c.as_slice.ensures ∙ c.first_line-n.ensures.same) in
     let all : line_len p ≡ length p = omega (arith, n, len, c.first_line-n.ensures.within, c.if-whole.false) in
-    let line = stopped_in_line old p had mid mid inv.dropped.0 all (keeps_same mid) in
-    inv.order mid said (c.requires.order inv.dropped.0.more mid line.0 (inv.begun (search rules)) line.1)
+    let line = stopped_in_line old p had mid mid inv.dropped.0 all (Keeps-refl mid) in
+    inv.order mid said (c.requires.order inv.dropped.0.more mid line.0 (was_going _ _ inv.dropped.2 (search rules)) line.1)

@@ -1,5 +1,5 @@
 -- Between two reads: what was dropped is the front of the line.
-use Rattle.std.proofs.Common.{◌≡◌, ◌≤◌, ◌+◌, [], false, true, length, ℕ, List, Option}
+use Rattle.std.proofs.Common.{◌≡◌, ◌≤◌, ◌+◌, [], true, length, ℕ, List, Option}
 use Rattle.std.specs.Io.KnownBytes.{IsAtEnd}
 use Rattle.rb_lines.specs.Buffers.{Counts, left}
 use Rattle.rb_journal.proofs.Dropping.{Dropped}
@@ -10,11 +10,11 @@ invariant-reads g l = record {
   counted : Counts (g.I.Input.calls l.reader) l.buffers.reads;
   buffered : l.buffers.buffered.items ≡ [];
   end : l.buffers.ended ≡ true → IsAtEnd (g.I.Input.remaining l.reader);
-  begun : l.buffers.ended ≡ false → l.fn.buffers.ended ≡ false;
   order : (left : Option (List ℕ)) (said : List ℕ) → g.I.Input.may_read l.fn.reader left said → g.I.Input.may_read l.reader left said;
   fewer : l.buffers.reads ≤ l.fn.buffers.reads;
   dropped : (d : Dropped l.fn.buffers.pending l.buffers.pending (g.I.Input.remaining l.fn.reader) (g.I.Input.remaining l.reader))
-      × (left l.buffers + length d.gone ≤ left l.fn.buffers);
+      × (left l.buffers + length d.gone ≤ left l.fn.buffers)
+      × (l.fn.buffers.ended ≡ true → (d.more ≡ []) × (l.buffers.ended ≡ true));
 }
 
 abbrev pub decreases-reads : goal.decreases-reads

@@ -5,7 +5,7 @@ use Rattle.rb_lines.specs.declared.buffers.Buffers.{Buffers}
 use Rattle.rb_journal.specs.Steps.{Advances, AdvancesByBatch, Point, point_of}
 use Rattle.rb_journal.proofs.Advance.{batch_then, few_so_far, none_yet}
 use Rattle.rb_journal.proofs.waiting.answer_waiting.Given.{Over}
-use Rattle.rb_journal.proofs.waiting.answer_waiting.Goals.{After-next_waiting}
+use Rattle.rb_journal.proofs.waiting.answer_waiting.Goals.{After-next_waiting-next}
 use Rattle.rb_journal.proofs.waiting.answer_waiting.Goals as goal
 
 pub lines-init : goal.lines-init
@@ -19,7 +19,6 @@ lines-init g c =
       reads = search rules;
       ended = search rules;
       number = omega arith;
-      count = c.requires.count;
       shorter = omega arith;
       begun = inl (c.requires.batch, c.requires.buffered);
     }
@@ -28,7 +27,7 @@ pub lines-preserved : goal.lines-preserved
 lines-preserved g c =
     let inv = c.lines.invariant in
     let step = c.in_ok-answer_next.ensures in
-    let same = c.next_waiting.ensures.same in
+    let same = c.next_waiting-next.ensures.same in
     let state = g.R.JournaledResponder.state in
     let lines = g.R.JournaledResponder.lines in
     let first = state c.args.responder.now in
@@ -52,20 +51,19 @@ lines-preserved g c =
       reads = step.reads ∙ ap (λ (b : Buffers). b.reads) same ∙ inv.reads;
       ended = step.ended ∙ ap (λ (b : Buffers). b.ended) same ∙ inv.ended;
       number = omega (arith, step.number.0, step.number.1, ap (λ (b : Buffers). length b.pending) same, inv.number);
-      count = step.count;
       shorter = omega (arith, fewer);
       begun = inr fewer;
     }
 
 -- what was answered before the next line
-so_far : (g : Over) (c : After-next_waiting g) → AdvancesByBatch g.R.JournaledResponder.answers c.args.buffers.now.ended
+so_far : (g : Over) (c : After-next_waiting-next g) → AdvancesByBatch g.R.JournaledResponder.answers c.args.buffers.now.ended
     (point_of (g.R.JournaledResponder.state c.args.responder.now)
     (g.R.JournaledResponder.lines (g.R.JournaledResponder.state c.args.responder.now))
     c.args.buffers.now.buffered.items c.args.work.now c.args.buffers.now.pending)
     (point_of (g.R.JournaledResponder.state c.lines.responder)
     (g.R.JournaledResponder.lines (g.R.JournaledResponder.state c.args.responder.now)
     ++ recovered c.lines.work.batch.bytes.items)
-    c.next_waiting.new.buffers.buffered.items c.lines.work c.next_waiting.new.buffers.pending)
+    c.next_waiting-next.new.buffers.buffered.items c.lines.work c.next_waiting-next.new.buffers.pending)
 so_far g c =
     let inv = c.lines.invariant in
     let state = g.R.JournaledResponder.state in
@@ -75,22 +73,19 @@ so_far g c =
     let e = c.args.buffers.now.ended in
     let work = c.lines.work in
     subst (λ (b : Buffers). AdvancesByBatch g.R.JournaledResponder.answers e start
-    (point_of last (lines ++ recovered work.batch.bytes.items) b.buffered.items work b.pending)) (sym c.next_waiting.ensures.same)
+    (point_of last (lines ++ recovered work.batch.bytes.items) b.buffered.items work b.pending)) (sym c.next_waiting-next.ensures.same)
     (subst (λ ls. AdvancesByBatch g.R.JournaledResponder.answers e start
     (point_of last ls c.lines.buffers.buffered.items work c.lines.buffers.pending)) inv.batch inv.answered)
 
-pub returns-in-Long-clause-answered : goal.returns-in-Long-clause-answered
-returns-in-Long-clause-answered g c =
-    (g.R.JournaledResponder.state c.lines.responder, so_far g (goal.at.returns-in-Long-clause-answered g c).After-next_waiting, refl)
-
-pub returns-in-Nothing-clause-answered : goal.returns-in-Nothing-clause-answered
-returns-in-Nothing-clause-answered g c =
-    (g.R.JournaledResponder.state c.lines.responder, so_far g (goal.at.returns-in-Nothing-clause-answered g c).After-next_waiting, refl)
+pub returns-in_default-clause-answered : goal.returns-in_default-clause-answered
+returns-in_default-clause-answered g c =
+    let at = goal.at.returns-in_default-clause-answered g c in
+    (g.R.JournaledResponder.state c.lines.responder, so_far g at.After-next_waiting-next, refl)
 
 pub returns-then-len-gt-MOST_BATCHED-clause-answered : goal.returns-then-len-gt-MOST_BATCHED-clause-answered
 returns-then-len-gt-MOST_BATCHED-clause-answered g c = (
   g.R.JournaledResponder.state c.lines.responder,
-  so_far g (goal.at.returns-then-len-gt-MOST_BATCHED-clause-answered g c).After-next_waiting,
+  so_far g (goal.at.returns-then-len-gt-MOST_BATCHED-clause-answered g c).After-next_waiting-next,
   refl,
 )
 
@@ -105,7 +100,7 @@ returns-in_err-answer_next-clause-answered g c =
     c.args.buffers.now.pending in (
       last,
       subst (AdvancesByBatch g.R.JournaledResponder.answers c.args.buffers.now.ended start) (sym (step.same last lines))
-          (so_far g (goal.at.returns-in_err-answer_next-clause-answered g c).After-next_waiting),
+          (so_far g (goal.at.returns-in_err-answer_next-clause-answered g c).After-next_waiting-next),
       search rules,
     )
 
@@ -117,6 +112,6 @@ returns-in_err-answer_next-clause-number g c =
       arith,
       ap (λ (p : Point g.R.JournaledResponder.State). p.number) same,
       ap (λ (p : Point g.R.JournaledResponder.State). length p.pending) same,
-      ap (λ (b : Buffers). length b.pending) c.next_waiting.ensures.same,
+      ap (λ (b : Buffers). length b.pending) c.next_waiting-next.ensures.same,
       c.lines.invariant.number,
     )

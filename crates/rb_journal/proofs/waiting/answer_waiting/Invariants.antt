@@ -16,7 +16,6 @@ invariant-lines g l =
       reads : l.buffers.reads ≡ l.fn.buffers.reads;
       ended : l.buffers.ended ≡ l.fn.buffers.ended;
       number : l.work.number + length l.buffers.pending ≤ l.fn.work.number + length l.fn.buffers.pending;
-      count : l.work.count ≤ l.work.number;
       shorter : length l.buffers.pending ≤ length l.fn.buffers.pending;
       begun : ((l.work.batch.bytes.items ≡ []) × (l.buffers.buffered.items ≡ []))
           ⊎ (length l.buffers.pending < length l.fn.buffers.pending);

@@ -2,12 +2,10 @@
 use Rattle.std.proofs.Common.{◌≡◌, ◌∙◌, ℕ, true, List, sym}
 use Rattle.std.specs.Io.KnownBytes.{IsAtEnd}
 use Rattle.rb_journal.specs.Host.{LeavesOnly}
-use Rattle.rb_journal.specs.Lines.{IsIntact, recovered}
-use Rattle.rb_journal.specs.Run.{IsRunOfBatches, IsRunOfTurns, served_input}
-use Rattle.rb_journal.specs.Steps.{point_of}
-use Rattle.rb_journal.proofs.Follow.{Follows, are_turns}
-use Rattle.rb_journal.proofs.Groups.{group_follows, group_moments, moments_on}
-use Rattle.rb_journal.proofs.Public.Moments.{runs_on, weaker}
+use Rattle.rb_journal.specs.Lines.{IsIntact}
+use Rattle.rb_journal.specs.Steps.{Goes, IsRunFrom, point_at}
+use Rattle.rb_journal.proofs.Follow.{moments_on, more_taken, starting}
+use Rattle.rb_journal.proofs.Public.Moments.{runs_on}
 use Rattle.rb_journal.proofs.run.serve.Given.{Over}
 use Rattle.rb_journal.proofs.run.serve.Goals.{After-answer_group, After-answer_long_line, In_ok-answer_group}
 use Rattle.rb_journal.proofs.run.serve.Goals as goal
@@ -21,33 +19,19 @@ then_intact {moment = m} {left_since = l} {old = x} {mid = y} {new = z} so_far t
 
 -- at each moment of the calls so far, and of the batch that was answered now
 pub moments : (g : Over) (c : After-answer_group g) → LeavesOnly g.H.Host.moment g.H.Host.left_since c.args.journal.now.host
-    c.answer_group.new.journal.host (IsRunOfBatches g.R.JournaledResponder.answers c.args.number
-    (served_input c.args.buffers.now.pending (g.I.Input.remaining c.args.reader.now))
-    (g.R.JournaledResponder.state c.args.responder.now) (recovered (g.H.Host.content c.args.journal.now.host))
-    (g.H.Host.output c.args.journal.now.host))
+    c.answer_group.new.journal.host (IsRunFrom g.R.JournaledResponder.answers (starting g.R.JournaledResponder g.H.Host
+    c.args.responder.now c.args.journal.now c.args.number c.args.buffers.now.pending) (g.I.Input.remaining c.args.reader.now))
 moments g c =
     let inv = c.batches.invariant in
-    group_moments inv.follows inv.end inv.any_moment c.answer_group.ensures.any_moment
-
--- and that leaves a run of turns
-pub turned : (g : Over) (c : After-answer_group g) → LeavesOnly g.H.Host.moment g.H.Host.left_since c.args.journal.now.host
-    c.answer_group.new.journal.host (IsRunOfTurns g.R.JournaledResponder.answers c.args.number
-    (served_input c.args.buffers.now.pending (g.I.Input.remaining c.args.reader.now))
-    (g.R.JournaledResponder.state c.args.responder.now) (recovered (g.H.Host.content c.args.journal.now.host))
-    (g.H.Host.output c.args.journal.now.host))
-turned g c =
-    weaker g.H.Host.moment g.H.Host.left_since _ _ _ _ (moments g c) (λ f d run. are_turns _ _ _ _ _ _ f d run)
+    moments_on inv.follows inv.end inv.any_moment (c.answer_group.ensures.any_moment _ inv.end)
 
 -- how far the run has come
-pub here : (g : Over) (c : In_ok-answer_group g) → Follows g.R.JournaledResponder.answers
-    (served_input c.args.buffers.now.pending (g.I.Input.remaining c.args.reader.now))
-    (g.R.JournaledResponder.state c.args.responder.now) (recovered (g.H.Host.content c.args.journal.now.host))
-    (g.H.Host.output c.args.journal.now.host) c.args.number
-    (point_of (g.R.JournaledResponder.state c.answer_group.new.responder) (recovered (g.H.Host.content c.answer_group.new.journal.host))
-    (g.H.Host.output c.answer_group.new.journal.host) c.answer_group.new.work c.answer_group.new.buffers.pending)
-    (g.I.Input.remaining c.batches.reader) c.answer_group.new.buffers.ended
-here g c =
-    group_follows c.batches.invariant.follows c.batches.invariant.end c.in_ok-answer_group.ensures.answered c.answer_group.ensures.ended
+pub here : (g : Over) (c : In_ok-answer_group g) → Goes g.R.JournaledResponder.answers c.args.buffers.now.ended
+    c.answer_group.new.buffers.ended
+    (starting g.R.JournaledResponder g.H.Host c.args.responder.now c.args.journal.now c.args.number c.args.buffers.now.pending)
+    (point_at g.R.JournaledResponder g.H.Host c.answer_group.new.responder c.answer_group.new.journal c.answer_group.new.work
+    c.answer_group.new.buffers.pending) (g.I.Input.remaining c.args.reader.now) (g.I.Input.remaining c.batches.reader)
+here g c = more_taken c.batches.invariant.follows c.in_ok-answer_group.ensures.answered c.answer_group.ensures.ended
 
 -- the input has ended only if all of it was read
 pub ended_here : (g : Over) (c : After-answer_group g) → c.answer_group.new.buffers.ended ≡ true
@@ -56,19 +40,9 @@ ended_here g c ended = c.batches.invariant.end (sym c.answer_group.ensures.ended
 
 -- the same after a line that is too long
 pub long_moments : (g : Over) (c : After-answer_long_line g) → LeavesOnly g.H.Host.moment g.H.Host.left_since c.args.journal.now.host
-    c.answer_long_line.new.journal.host (IsRunOfBatches g.R.JournaledResponder.answers c.args.number
-    (served_input c.args.buffers.now.pending (g.I.Input.remaining c.args.reader.now))
-    (g.R.JournaledResponder.state c.args.responder.now) (recovered (g.H.Host.content c.args.journal.now.host))
-    (g.H.Host.output c.args.journal.now.host))
+    c.answer_long_line.new.journal.host (IsRunFrom g.R.JournaledResponder.answers (starting g.R.JournaledResponder g.H.Host
+    c.args.responder.now c.args.journal.now c.args.number c.args.buffers.now.pending) (g.I.Input.remaining c.args.reader.now))
 long_moments g c =
     let at = goal.at.After-answer_long_line g c in
     moments_on (here g at.In_ok-answer_group) (ended_here g at.After-answer_group) (moments g at.After-answer_group)
     c.answer_long_line.ensures.any_moment
-
-pub long_turned : (g : Over) (c : After-answer_long_line g) → LeavesOnly g.H.Host.moment g.H.Host.left_since c.args.journal.now.host
-    c.answer_long_line.new.journal.host (IsRunOfTurns g.R.JournaledResponder.answers c.args.number
-    (served_input c.args.buffers.now.pending (g.I.Input.remaining c.args.reader.now))
-    (g.R.JournaledResponder.state c.args.responder.now) (recovered (g.H.Host.content c.args.journal.now.host))
-    (g.H.Host.output c.args.journal.now.host))
-long_turned g c =
-    weaker g.H.Host.moment g.H.Host.left_since _ _ _ _ (long_moments g c) (λ f d run. are_turns _ _ _ _ _ _ f d run)
