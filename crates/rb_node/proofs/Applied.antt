@@ -1,12 +1,11 @@
 -- The operations that are ready are applied, one after another, and an answer is written around that.
 use Rattle.std.proofs.Common.{◌≡◌, ℕ, ◌+◌, ◌-◌, ◌<◌, Bool, false, List, [], ◌∷◌, ◌++◌, codes, length, take, arith}
-use Rattle.std.proofs.Common.{length-append, refl, sym, ap, subst, ◌∙◌, append_assoc, append-nil, inl, inr}
+use Rattle.std.proofs.Common.{length-append, refl, sym, ap, subst, ◌∙◌, append_assoc, append-nil, inl}
 use Rattle.std.proofs.lemmas.Bool.Decides.{nat_tests}
-use Rattle.std.specs.Prelude.{map, nat_le, Result, Ok, Err, MatchResult}
+use Rattle.std.specs.Prelude.{map, nat_le, None, Result, Ok, Err, MatchResult}
 use Rattle.std.proofs.lemmas.Grind.{flat_map-append}
 use Rattle.std.proofs.lemmas.List.{map-append}
 use Rattle.rb_money.specs.Settings.{Settings}
-use Rattle.json.specs.Print.{escape_byte, quoted}
 use Rattle.serde_json.specs.View.{items_of}
 use Rattle.serde_json.specs.Written.{compact_text, items_text}
 use Rattle.rb_shadow.specs.declared.op_name.OpName.{OpName}
@@ -23,13 +22,14 @@ use Rattle.rb_history.specs.Replies.{reply_json}
 use Rattle.rb_history.specs.Adds.{Adds}
 use Rattle.rb_history.proofs.Public.Appended.{both, front_of_front, front_of_sum, front_stays}
 use Rattle.rb_history.proofs.Public.Listed.{rest_text, whole_text}
-use Rattle.rb_history.proofs.Public.IdText.{id_escape}
 use Rattle.rb_history.specs.Entries.{asked_entry_json}
-use Rattle.rb_history.specs.Ids.{AskedEntry, IsIdOrNone, between_if_any}
+use Rattle.rb_history.specs.Ids.{AskedEntry, IsIdOrNone}
 use Rattle.rb_node.specs.Answers.{AppliesAll, AreReadyInTurn, IsAllApplied, IsNextName, asked_answer_json, entry_lines, line_of}
-use Rattle.rb_node.specs.Answers.{messages_json, reply_kept}
-use Rattle.rb_node.specs.Asked.{SeenAsked, asked_state, without_ids, with_id, with_more}
-use Rattle.rb_node.specs.Steps.{AnswersEvent, Applies, AppliesOne, Steps, StepsKept, without_id}
+use Rattle.rb_node.specs.Answers.{reply_kept}
+use Rattle.rb_node.specs.Asked.{SeenAsked, asked_state, known_of, without_ids, with_id, with_more}
+use Rattle.rb_node.specs.LineAnswers.{AddsEvent}
+use Rattle.rb_node.specs.Steps.{Applies, AppliesOne, Steps, StepsKept, without_id}
+use Rattle.rb_node.proofs.AnswerTexts.{answer_line, head_text, rest_of_front}
 use Rattle.rb_node.proofs.Recorded.{more-alone, more-none}
 
 -- what is ready is applied: the replies behind a text, the first behind this comma, and the lines of the entries,
@@ -165,63 +165,19 @@ closed (Err y) old new a b c k l h front kept end = (front_of_front a b c front 
 
 -- ---- an answer
 
--- what an answer begins with, behind its id
-abbrev pub rest_of_front : Settings → List ℕ → Reply → List Message → List ℕ
-rest_of_front s bank reply sent = compact_text (reply_json reply)
-    ++ (codes ",\"sends\":" ++ (compact_text (messages_json s bank sent) ++ codes ",\"then\":["))
-
--- its id, if it has one, and the key of the reply
-abbrev pub head_text : List ℕ → List ℕ
-head_text id = codes "{" ++ (between_if_any (codes "\"id\":\"") id (codes "\",") ++ codes "\"reply\":")
-
--- what an answer begins with
-abbrev pub front_text : Settings → List ℕ → List ℕ → Reply → List Message → List ℕ
-front_text s bank id reply sent = head_text id ++ rest_of_front s bank reply sent
-
--- the parts of an answer without an id, one behind another
-parts : (reply sends later : List ℕ)
-    → (codes "{\"reply\":" ++ (reply ++ (codes ",\"sends\":" ++ (sends ++ codes ",\"then\":[")))) ++ (later ++ codes "}\n")
-    ≡ (codes "{\"reply\":" ++ (reply ++ (codes ",\"sends\":" ++ (sends ++ (codes ",\"then\":" ++ ((codes "[" ++ later)
-    ++ codes "}")))))) ++ 10 ∷ []
-parts reply sends later = simp append_assoc
-
--- and of one with an id
-parts_with : (id quoted reply sends later : List ℕ) → quoted ≡ codes "\"" ++ (id ++ codes "\"")
-    → ((codes "{" ++ ((codes "\"id\":\"" ++ (id ++ codes "\",")) ++ codes "\"reply\":"))
-    ++ (reply ++ (codes ",\"sends\":" ++ (sends ++ codes ",\"then\":[")))) ++ (later ++ codes "}\n")
-    ≡ (codes "{\"id\":" ++ (quoted ++ (codes ",\"reply\":" ++ (reply ++ (codes ",\"sends\":" ++ (sends ++ (codes ",\"then\":"
-    ++ ((codes "[" ++ later) ++ codes "}")))))))) ++ 10 ∷ []
-parts_with id quoted reply sends later is =
-    subst (λ q. ((codes "{" ++ ((codes "\"id\":\"" ++ (id ++ codes "\",")) ++ codes "\"reply\":"))
-    ++ (reply ++ (codes ",\"sends\":" ++ (sends ++ codes ",\"then\":[")))) ++ (later ++ codes "}\n")
-    ≡ (codes "{\"id\":" ++ (q ++ (codes ",\"reply\":" ++ (reply ++ (codes ",\"sends\":" ++ (sends ++ (codes ",\"then\":"
-    ++ ((codes "[" ++ later) ++ codes "}")))))))) ++ 10 ∷ []) (sym is) (simp append_assoc)
-
--- the parts are the answer's line
-whole_answer : (s : Settings) (bank id : List ℕ) (reply : Reply) (sent : List Message) (later : List Reply) → IsIdOrNone id →
-    front_text s bank id reply sent ++ (items_text false (items_of (map reply_json later)) ++ codes "}\n")
-    ≡ line_of (asked_answer_json s bank id reply sent later)
-unfolding escape_byte
-whole_answer s bank [] reply sent later is = parts (compact_text (reply_json reply)) (compact_text (messages_json s bank sent))
-    (items_text false (items_of (map reply_json later)))
-whole_answer s bank (b ∷ bs) reply sent later (inl none) = absurd (cc)
-whole_answer s bank (b ∷ bs) reply sent later (inr is) =
-    parts_with (b ∷ bs) (quoted (b ∷ bs)) (compact_text (reply_json reply)) (compact_text (messages_json s bank sent))
-    (items_text false (items_of (map reply_json later))) (ap (λ l. 34 ∷ (l ++ 34 ∷ [])) (id_escape (b ∷ bs) is))
-
 -- what was there is there before two texts that were added
 front_stays_two : (k l m xs ys : List ℕ) → l ≡ k ++ xs → m ≡ l ++ ys → take (length k) m ≡ k
 front_stays_two k l m xs ys e f = front_of_sum k m (xs ++ ys) (both k l m xs ys e f)
 
 -- an event was answered, and what was ready then applied
 pub answered : {A E : Type 0} (r : Result A E) (all : Bool) (s : Settings) (bank : List ℕ) (old mid new : SeenAsked)
-    (id : List ℕ) (e : Event) (reply : Reply)
-    (sent : List Message) (a b c d k l m : List ℕ) → IsIdOrNone id → s ≡ old.settings → bank ≡ old.bank
-    → StepsKept all old mid id e reply k l
+    (id : List ℕ) (e : Event) (reply : Reply) (sent : List Message) (a b c d k l m : List ℕ) → IsIdOrNone id
+    → known_of old id ≡ None → s ≡ old.settings → bank ≡ old.bank → StepsKept all old mid id e reply k l
     → sent ≡ sent_at old.settings (asked_state old) e
-    → b ≡ a ++ front_text s bank id reply sent → Applies mid new b c l m → Adds r c d (codes "}\n")
-    → MatchResult r (λ _. AnswersEvent all old new id e a d k m) (λ _. (take (length a) d ≡ a) × (take (length k) m ≡ k))
-answered (Ok y) all s bank old mid new id e reply sent a b c d k l m is same named step posted begun applies end =
+    → b ≡ a ++ (head_text (codes "{") id ++ rest_of_front s bank reply sent) → Applies mid new b c l m → Adds r c d (codes "}\n")
+    → MatchResult r (λ _. AddsEvent all old new (record { id = id; event = e }) a d k m)
+    (λ _. (take (length a) d ≡ a) × (take (length k) m ≡ k))
+answered (Ok y) all s bank old mid new id e reply sent a b c d k l m is unknown same named step posted begun applies end = λ line on.
     let settings = old.settings in
     let x = without_ids old in
     let kept : mid.settings ≡ settings = ap (λ (y : SeenAsked). y.settings) step.recorded_are in
@@ -229,34 +185,42 @@ answered (Ok y) all s bank old mid new id e reply sent a b c d k l m is same nam
     let t = asked_state mid in
     let events = map Apply applies.names in
     let later = items_text false (items_of (map reply_json applies.replies)) in
-    let front = front_text s bank id reply sent in
-    let tags = map-append (with_id id) step.recorded applies.recorded in
-    record {
-      mid = without_ids mid;
-      mid_is = step.site;
-      applied = applies.names;
-      in_turn = subst (λ r. AreReadyInTurn r t applies.names) kept applies.applied.in_turn;
-      all_applied = subst (λ r. IsAllApplied r (after_events r t events)) kept applies.applied.all;
-      after = applies.applied.after;
-      text_is = end ∙ ap (λ y. y ++ codes "}\n") (applies.text_is ∙ ap (λ y. y ++ later) begun)
+    let front = head_text (codes "{") id ++ rest_of_front s bank reply sent in
+    let tags = map-append (with_id id) step.recorded applies.recorded in (
+      _,
+      _,
+      inl (record {
+        asked = record { id = id; event = e };
+        is_event = on;
+        unknown = unknown;
+        mid = without_ids mid;
+        mid_is = step.site;
+        applied = applies.names;
+        in_turn = subst (λ r. AreReadyInTurn r t applies.names) kept applies.applied.in_turn;
+        all_applied = subst (λ r. IsAllApplied r (after_events r t events)) kept applies.applied.all;
+        after = applies.applied.after;
+        text_is = refl;
+        recorded = step.recorded ++ applies.recorded;
+        recorded_are = more_of_both old mid new (map (with_id id) step.recorded) (map (with_id id) applies.recorded) step.recorded_are
+            (applies.recorded_are id) ∙ ap (with_more old) (sym tags);
+        entries_are = refl;
+      }),
+      end ∙ ap (λ y. y ++ codes "}\n") (applies.text_is ∙ ap (λ y. y ++ later) begun)
           ∙ ap (λ y. y ++ codes "}\n") (append_assoc a front later)
           ∙ append_assoc a (front ++ later) (codes "}\n")
-          ∙ ap (λ y. a ++ y) (append_assoc front later (codes "}\n") ∙ whole_answer s bank id reply sent applies.replies is)
+          ∙ ap (λ y. a ++ y) (append_assoc front later (codes "}\n") ∙ answer_line s bank id reply sent applies.replies is)
           ∙ ap (λ u. a ++ line_of (asked_answer_json u bank id reply sent applies.replies)) same
           ∙ ap (λ u. a ++ line_of (asked_answer_json settings u id reply sent applies.replies)) named
           ∙ ap (λ u. a ++ line_of (asked_answer_json settings old.bank id u sent applies.replies)) step.reply_is
           ∙ ap (λ u. a ++ line_of (asked_answer_json settings old.bank id (reply_kept all x e) u applies.replies)) posted
           ∙ ap (λ u. a ++ line_of (asked_answer_json settings old.bank id (reply_kept all x e) (sent_at settings (asked_state old) e) u))
-          (subst (λ r. applies.replies ≡ replies_to_events r t events) kept applies.applied.replies_are);
-      recorded = step.recorded ++ applies.recorded;
-      recorded_are = more_of_both old mid new (map (with_id id) step.recorded) (map (with_id id) applies.recorded) step.recorded_are
-          (applies.recorded_are id) ∙ ap (with_more old) (sym tags);
-      entries_are = lines_of_both settings mid.settings old.me mid.me (map (with_id id) step.recorded) (map (with_id id) applies.recorded)
+          (subst (λ r. applies.replies ≡ replies_to_events r t events) kept applies.applied.replies_are),
+      lines_of_both settings mid.settings old.me mid.me (map (with_id id) step.recorded) (map (with_id id) applies.recorded)
           k l m kept me step.entries_are (applies.entries_are id)
-          ∙ ap (λ ys. k ++ entry_lines settings old.me ys) (sym tags);
-    }
-answered (Err y) all s bank old mid new id e reply sent a b c d k l m is same named step posted begun applies end = (
-  front_stays a c d (front_text s bank id reply sent ++ items_text false (items_of (map reply_json applies.replies)))
-      (both a b c (front_text s bank id reply sent) _ begun applies.text_is) end,
+          ∙ ap (λ ys. k ++ entry_lines settings old.me ys) (sym tags),
+    )
+answered (Err y) all s bank old mid new id e reply sent a b c d k l m is unknown same named step posted begun applies end = (
+  front_stays a c d ((head_text (codes "{") id ++ rest_of_front s bank reply sent)
+      ++ items_text false (items_of (map reply_json applies.replies))) (both a b c _ _ begun applies.text_is) end,
   front_stays_two k l m _ _ step.entries_are (applies.entries_are id),
 )

@@ -1,16 +1,13 @@
 mod SentAgain
-mod AgainTexts
+mod AnswerTexts
 mod Answered
 mod Applied
 mod Ascending
 mod Failed
 mod Index
-mod JournalLines
-mod NamesSent
 mod NextSite
 mod Once
 mod OneAnswer
-mod Ready
 mod Recorded
 mod Replayed
 mod Requests

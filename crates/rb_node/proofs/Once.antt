@@ -2,7 +2,7 @@
 use Rattle.std.proofs.Common.{◌≡◌, ◌≢◌, inl, inr, ℕ, Bool, true, false, cond, List, [], ◌∷◌, ◌++◌, map, true≢false}
 use Rattle.std.proofs.Common.{refl, sym, ap, subst, ◌∙◌, append_assoc, append-nil}
 use Rattle.std.specs.Prelude.{bytes_eq, Some, None}
-use Rattle.std.proofs.lemmas.List.{append_cancel_left, map-append}
+use Rattle.std.proofs.lemmas.List.{append_cancel_left}
 use Rattle.std.proofs.lemmas.Slice.Eq.{bytes_eq-Decides}
 use Rattle.rb_money.specs.Settings.{Settings}
 use Rattle.rb_shadow.specs.declared.op_name.OpName.{OpName}
@@ -18,7 +18,9 @@ use Rattle.rb_history.proofs.Public.Each.{each_both}
 use Rattle.rb_node.specs.Answers.{IsKnownAnswer, IsSiteAnswer, again_json, is_kept, line_of, other_request_json}
 use Rattle.rb_node.specs.Asked.{AreIdsOnce, Known, SeenAsked, asked_state, entries_alone, known_from, known_of, without_ids, with_id}
 use Rattle.rb_node.specs.Laws.{AnswersAreTheSame, IdsStayOnce}
-use Rattle.rb_node.proofs.OneAnswer.{not_both, not_other}
+use Rattle.rb_node.proofs.OneAnswer.{known_or_new, not_both, not_other}
+use Rattle.rb_node.proofs.Recorded.{more-alone}
+use Rattle.rb_node.proofs.Spelled.{some_is}
 
 -- ---- which entries have an id
 
@@ -232,11 +234,6 @@ one_and_none [] [] a b = tt
 one_and_none [] (y ∷ ys) a b = b.1
 one_and_none (x ∷ xs) ys a b = each_both HasNoId xs ys a b
 
--- entries, given an id and left without it
-alone : (id : List ℕ) (zs : List Entry) → entries_alone (map (with_id id) zs) ≡ zs
-alone id [] = refl
-alone id (z ∷ zs) = ap (λ l. z ∷ l) (alone id zs)
-
 -- an answer records one entry that may have an id, or none, and entries of applications
 recorded_form : (all : Bool) (old new : SeenAsked) (line text entries : List ℕ) (a : IsSiteAnswer all old new line text entries)
     → IsOneAndMore a.recorded
@@ -248,8 +245,7 @@ recorded_form all old new line text entries a =
     (subst (λ (y : SeenSite). Grows x y IsOneAndMore) (sym a.mid_is) (kept_grow (is_kept all x e) x e)) (applied_grow a.mid a.applied) in
     subst IsOneAndMore (append_cancel_left x.entries grown.more a.recorded
     (sym grown.is ∙ ap (λ (y : SeenSite). y.entries) (sym a.after) ∙ ap (λ (y : SeenAsked). entries_alone y.asked) a.recorded_are
-    ∙ map-append (λ (z : AskedEntry). z.entry) old.asked (map (with_id a.asked.id) a.recorded)
-    ∙ ap (λ l. x.entries ++ l) (alone a.asked.id a.recorded))) grown.form
+    ∙ more-alone old a.asked.id a.recorded)) grown.form
 
 -- ---- the law
 
@@ -262,14 +258,6 @@ ids_stay_once all old new line text entries (inl a) once =
 ids_stay_once all old new line text entries (inr (inl a)) once = subst (λ (y : SeenAsked). AreIdsOnce y.asked) (sym a.after) once
 ids_stay_once all old new line text entries (inr (inr (inl a))) once = subst (λ (y : SeenAsked). AreIdsOnce y.asked) (sym a.after) once
 ids_stay_once all old new line text entries (inr (inr (inr a))) once = subst (λ (y : SeenAsked). AreIdsOnce y.asked) (sym a.after) once
-
--- what is known is one
-some_one : {A : Type 0} (x y : A) → Some x ≡ Some y → x ≡ y
-some_one x y e = cc
-
--- what is known isn't unknown
-known_not_none : {A P : Type 0} (x : A) → Some x ≡ None → P
-known_not_none x e = absurd (cc)
 
 -- an answer to an id that is known, of the event on the line and of what is known
 said_of : (old new : SeenAsked) (line text entries : List ℕ) (asked : AskedEvent) (k : Known)
@@ -289,17 +277,15 @@ said_of old new line text entries asked k a same is = (
 -- an answer to an id that an entry has is that entry's, or refuses another request
 pub answers_are_the_same : AnswersAreTheSame
 answers_are_the_same all old new line text entries (inl a) once asked is some before later x split same =
-    let known = known_at old asked.id before later x some once split same in
-    let one : a.asked ≡ asked = some_one a.asked asked (sym a.is_event ∙ is) in
-    known_not_none _ (sym known ∙ ap (λ (q : AskedEvent). known_of old q.id) (sym one) ∙ a.unknown)
+    absurd (known_or_new old line a.asked asked _ a.is_event is a.unknown (known_at old asked.id before later x some once split same))
 answers_are_the_same all old new line text entries (inr (inl a)) once asked is some before later x split same =
     let k : Known = record {
       event = x.entry.event;
       reply = x.entry.reply;
       sent = sent_at old.settings (asked_state (record old { asked = before })) x.entry.event;
     } in
-    let one : a.asked ≡ asked = some_one a.asked asked (sym a.is_event ∙ is) in
-    said_of old new line text entries asked k a one (some_one a.known k
+    let one : a.asked ≡ asked = some_is a.asked asked (sym a.is_event ∙ is) in
+    said_of old new line text entries asked k a one (some_is a.known k
     (sym a.is_known ∙ ap (λ (q : AskedEvent). known_of old q.id) one ∙ known_at old asked.id before later x some once split same))
 answers_are_the_same all old new line text entries (inr (inr (inl a))) once asked is some before later x split same =
     absurd (not_both old.settings old.bank line asked a.question is a.is_question)

@@ -132,7 +132,7 @@ one_known old new other line text words entries rows a b = (
     back f = ap (λ (k : Known). k.event) known ∙ f ∙ sym (ap (λ (q : AskedEvent). q.event) asked)
 
 -- an id isn't both known and not
-known_or_new : (old : SeenAsked) (line : List ℕ) (x y : AskedEvent) (k : Known) → asked_event_on old.settings old.bank line ≡ Some x
+pub known_or_new : (old : SeenAsked) (line : List ℕ) (x y : AskedEvent) (k : Known) → asked_event_on old.settings old.bank line ≡ Some x
     → asked_event_on old.settings old.bank line ≡ Some y → known_of old x.id ≡ None → known_of old y.id ≡ Some k → ⊥
 known_or_new old line x y k is same none some =
     let e : known_of old x.id ≡ Some k =

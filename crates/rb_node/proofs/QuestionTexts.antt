@@ -16,6 +16,7 @@ use Rattle.rb_node.specs.Answers.{line_of, sent_line}
 use Rattle.rb_node.specs.Index.{lines_again, messages_of}
 use Rattle.rb_node.specs.LineAnswers.{question_text, reply_only}
 use Rattle.rb_node.specs.declared.sent_entry.SentEntry.{SentEntry}
+use Rattle.rb_node.proofs.AnswerTexts.{alone_parts, parts}
 
 -- ---- what entries sent, once more
 
@@ -35,16 +36,12 @@ pub lines_written : (s : Settings) (bank : List ℕ) (us : List Shadow) (out tot
     out ++ lines_again s bank us (drop i xs) ≡ total → out ≡ total
 lines_written s bank us out total xs i h e = sym (append-nil out) ∙ ap (λ l. out ++ lines_again s bank us l) (sym (drop_all i xs h)) ∙ e
 
-resent_parts : (n : List ℕ) → codes "{\"reply\":{\"resent\":" ++ (n ++ codes "},\"sends\":[],\"then\":[]}\n")
-    ≡ (codes "{\"reply\":" ++ ((codes "{\"resent\":" ++ (n ++ codes "}")) ++ (codes ",\"sends\":" ++ (codes "[]" ++ (codes ",\"then\":"
-    ++ (codes "[]" ++ codes "}")))))) ++ 10 ∷ []
-resent_parts n = simp append_assoc
-
 -- the line that says of how many entries that was
 pub resent_line : (n : ℕ) → codes "{\"reply\":{\"resent\":" ++ (decimal n ++ codes "},\"sends\":[],\"then\":[]}\n")
     ≡ line_of (reply_only (one_json (codes "resent") (number_json n)))
 unfolding escape_byte
-resent_line n = resent_parts (decimal n)
+resent_line n = alone_parts (codes "{\"reply\":") (codes "{\"resent\":") (decimal n)
+    ∙ parts (codes "{") (codes "{\"resent\":" ++ (decimal n ++ codes "}")) (codes "[]") (codes "]")
 
 -- ---- about the site
 

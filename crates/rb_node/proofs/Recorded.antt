@@ -147,20 +147,21 @@ no-id x id y is =
 
 -- ---- steps
 
--- an event of no id was recorded
-pub recorded : (old new : SeenAsked) (e : Event) (reply : Reply) (config : Settings) (me : ℕ) (entries after : List ℕ)
-    → is_full old.settings (asked_state old) ≡ false → new ≡ with_more old (with_id [] (entry e reply) ∷ [])
-    → reply ≡ reply_to old.settings (asked_state old) e
-    → config ≡ old.settings → me ≡ old.me → after ≡ entries ++ line_of (entry_json config me (entry e reply))
+-- an event of no id was recorded, and its line written
+pub recorded : (all : Bool) (old mid new : SeenAsked) (id : List ℕ) (e : Event) (reply : Reply) (entries after : List ℕ) → id ≡ []
+    → is_full old.settings (asked_state old) ≡ false → mid ≡ with_more old (with_id id (entry e reply) ∷ [])
+    → reply ≡ reply_to old.settings (asked_state old) e → Notes true all mid new id (entry e reply) entries after
     → Steps old new e reply entries after
-recorded old new e reply config me entries after free is given same number added =
+recorded all old mid new id e reply entries after none free is given noted =
     let x = entry e reply in
+    let tag : with_id id x ≡ without_id x = ap (λ i. with_id i x) none ∙ with-none x in
+    let same : new ≡ with_more old (without_id x ∷ []) = noted.0 ∙ is ∙ ap (λ y. with_more old (y ∷ [])) tag in
     record {
-      site = recorded-next old new [] e reply free is given;
+      site = recorded-next old new [] e reply free (same ∙ ap (λ y. with_more old (y ∷ [])) (sym (with-none x))) given;
       reply_is = given;
-      recorded_are = is ∙ ap (λ y. with_more old (y ∷ [])) (with-none x);
-      entries_are = added ∙ ap (λ s. entries ++ line_of (entry_json s me x)) same
-          ∙ ap (λ n. entries ++ line_of (entry_json old.settings n x)) number
+      recorded_are = same;
+      entries_are = noted.1 ∙ ap (λ (y : SeenAsked). entries ++ line_of (asked_entry_json y.settings y.me (with_id id x))) is
+          ∙ ap (λ y. entries ++ line_of (asked_entry_json old.settings old.me y)) tag
           ∙ ap (λ l. entries ++ l) (sym (append-nil (line_of (entry_json old.settings old.me x))));
     }
 

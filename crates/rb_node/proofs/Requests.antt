@@ -353,12 +353,6 @@ pub copies_new : (copies : Option (Vec ℕ Global × Event)) (id : List ℕ) (e 
 copies_new None id e kept is none = tt
 copies_new (Some p) id e kept is none = ap (λ t. find_request t kept) is.1 ∙ none
 
--- there is an id if there are copies
-pub copies_of_id : {P : Type 0} (copies : Option (Vec ℕ Global × Event)) (id : List ℕ) (e : Event) → AreCopies copies id e
-    → (id ≢ [] → P) → IfSome copies (λ p. P)
-copies_of_id None id e is f = tt
-copies_of_id (Some p) id e is f = f is.0
-
 -- ---- an event that may be recorded or not
 
 -- an event that is recorded finds spare capacity

@@ -20,7 +20,7 @@ use Rattle.rb_site.specs.Seen.{SeenSite, state_of}
 use Rattle.rb_site.proofs.Public.Runs.{noted}
 use Rattle.rb_node.specs.Answers.{sent_line}
 use Rattle.rb_node.specs.Index.{index_from, index_of, lines_again, messages_of, noted_of}
-use Rattle.rb_node.specs.Resends.{one_if_any, resent, resent_count}
+use Rattle.rb_node.specs.Resends.{resent, senders, some_of}
 use Rattle.rb_node.specs.declared.sent_entry.SentEntry.{SentEntry}
 
 -- ---- what one event sent
@@ -32,11 +32,6 @@ between us vs more =
     ∙ ap (take (length (us ++ vs) - length us)) (drop_at us (vs ++ more) (length us) refl)
     ∙ take_at vs more (length (us ++ vs) - length us)
     (let q : length (us ++ vs) ≡ length us + length vs = length-append us vs in omega arith)
-
--- the messages, if there are any
-abbrev some_of : List Message → List (List Message)
-some_of [] = []
-some_of (m ∷ ms) = (m ∷ ms) ∷ []
 
 -- the messages of an entry, at a site that applied these operations
 abbrev behind : List Shadow → SentEntry → List Message
@@ -101,12 +96,6 @@ grown_run s t (e ∷ es) =
     (a ++ b, more ∙ ap (λ l. l ++ b) is ∙ append_assoc t.ops a b)
 
 -- ---- what the entries sent, but for some of the first
-
--- the messages of each entry that sent any, but for a number of the first entries
-abbrev senders : Settings → ModelSite → ℕ → List Entry → List (List Message)
-senders s t k [] = []
-senders s t zero (x ∷ xs) = some_of (sent_at s t x.event) ++ senders s (after_event s t x.event) zero xs
-senders s t (suc k) (x ∷ xs) = senders s (after_event s t x.event) k xs
 
 -- an entry is kept if it isn't among this number of the first
 abbrev is_kept : ℕ → SentEntry → Bool
@@ -178,7 +167,7 @@ read_kept s t before m us [] all = refl
 read_kept s t before m us (x ∷ xs) all = kept_more s t before m us x xs (later_ops s t x xs us all)
     (read_kept s (after_event s t x.event) (suc before) m us xs all)
 
--- ---- lines, and how many
+-- ---- lines
 
 line_of_some : (s : Settings) (bank : List ℕ) (ms : List Message) → flat_map (sent_line s bank) (some_of ms) ≡ sent_line s bank ms
 line_of_some s bank [] = refl
@@ -192,18 +181,6 @@ lines_of_senders s bank t zero (x ∷ xs) =
     ∙ ap (λ l. l ++ flat_map (sent_line s bank) (senders s (after_event s t x.event) zero xs)) (line_of_some s bank (sent_at s t x.event))
     ∙ ap (λ l. sent_line s bank (sent_at s t x.event) ++ l) (lines_of_senders s bank (after_event s t x.event) zero xs)
 lines_of_senders s bank t (suc k) (x ∷ xs) = lines_of_senders s bank (after_event s t x.event) k xs
-
-count_some : (ms : List Message) → length (some_of ms) ≡ one_if_any ms
-count_some [] = refl
-count_some (m ∷ ms) = refl
-
-count_senders : (s : Settings) (t : ModelSite) (k : ℕ) (xs : List Entry) → length (senders s t k xs) ≡ resent_count s t k xs
-count_senders s t k [] = refl
-count_senders s t zero (x ∷ xs) =
-    length-append (some_of (sent_at s t x.event)) (senders s (after_event s t x.event) zero xs)
-    ∙ ap (λ n. n + length (senders s (after_event s t x.event) zero xs)) (count_some (sent_at s t x.event))
-    ∙ ap (λ n. one_if_any (sent_at s t x.event) + n) (count_senders s (after_event s t x.event) zero xs)
-count_senders s t (suc k) (x ∷ xs) = count_senders s (after_event s t x.event) k xs
 
 -- lines of the messages of entries
 lines_behind : (s : Settings) (bank : List ℕ) (us : List Shadow) (xs : List SentEntry) → lines_again s bank us xs
@@ -230,7 +207,7 @@ point_kept p (x ∷ xs) (suc i) low high =
 -- the lines of the entries behind the point, and how many they are
 pub record AreSince (x : SeenSite) (m : ℕ) (since : List SentEntry) : Type 0 where
   pub lines : (bank : List ℕ) → lines_again x.settings bank (state_of x).ops since ≡ resent x.settings bank (first_site x.me) m x.entries
-  pub count : length since ≡ resent_count x.settings (first_site x.me) m x.entries
+  pub count : length since ≡ length (senders x.settings (first_site x.me) m x.entries)
 
 pub since : (x : SeenSite) (m i : ℕ) → AllWithin (λ y. nat_lt y.before m ≡ true) (index_of x) 0 i
     → AllWithin (λ y. nat_lt y.before m ≡ false) (index_of x) i (length (index_of x)) → AreSince x m (drop i (index_of x))
@@ -245,7 +222,7 @@ since x m i low high =
     record {
       lines = λ bank. lines_behind s bank us (drop i (index_of x)) ∙ ap (flat_map (sent_line s bank)) read
           ∙ lines_of_senders s bank t m x.entries;
-      count = sym (length-map (drop i (index_of x)) (behind us)) ∙ ap length read ∙ count_senders s t m x.entries;
+      count = sym (length-map (drop i (index_of x)) (behind us)) ∙ ap length read;
     }
 
 -- the part of an index behind the point

@@ -67,20 +67,20 @@ abbrev pub again_json : Settings → List ℕ → List ℕ → Known → Data
 again_json s bank id known =
     object (member (codes "again") (boolean true) (id_member id (answer_members s bank known.reply known.sent [])))
 
--- a refusal by this number, and nothing that was sent or applied
-abbrev pub refusal_members : ℕ → Members
-refusal_members n =
-    member (codes "reply") (one_json (codes "refused") (number_json n))
+-- a refusal by this number, with this id, if it has one, and nothing that was sent or applied
+abbrev pub refused_json : List ℕ → ℕ → Data
+refused_json id n = object (id_member id
+    (member (codes "reply") (one_json (codes "refused") (number_json n))
     (member (codes "sends") (array no_items)
-    (member (codes "then") (array no_items) no_members))
+    (member (codes "then") (array no_items) no_members))))
 
 -- the answer to another request of a known id: it is refused by 25, which is no refusal of a site
 abbrev pub other_request_json : List ℕ → Data
-other_request_json id = object (id_member id (refusal_members 25))
+other_request_json id = refused_json id 25
 
 -- the answer to a line of another bank: it is refused by 26, which is no refusal of a site
 abbrev pub other_bank_json : Data
-other_bank_json = object (refusal_members 26)
+other_bank_json = refused_json [] 26
 
 -- the line of what is sent again; there is none if nothing was sent
 abbrev pub sent_line : Settings → List ℕ → List Message → List ℕ

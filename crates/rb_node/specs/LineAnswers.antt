@@ -6,10 +6,11 @@ use Rattle.rb_site.specs.Seen.{SeenSite}
 use Rattle.rb_history.specs.declared.question.Question.{Question}
 use Rattle.rb_history.specs.declared.question.Question.TheVariants.{About, Resend}
 use Rattle.rb_history.specs.Banks.{question_to}
+use Rattle.rb_history.specs.Ids.{AskedEvent}
 use Rattle.rb_history.specs.Values.{number_json, one_json}
 use Rattle.rb_node.specs.About.{about_json}
 use Rattle.rb_node.specs.Asked.{SeenAsked, without_ids}
-use Rattle.rb_node.specs.Answers.{IsKnownAnswer, IsOtherBankAnswer, IsSiteAnswer, line_of}
+use Rattle.rb_node.specs.Answers.{IsKnownAnswer, IsOtherBankAnswer, IsSiteAnswer, asked_event_on, line_of}
 use Rattle.rb_node.specs.Resends.{count_again, sent_again}
 
 -- the question on a line to the bank of this name: it has to be UTF-8
@@ -44,3 +45,13 @@ abbrev pub IsLineAnswer : Bool → SeenAsked → SeenAsked → List ℕ → List
 IsLineAnswer all old new line text entries = IsSiteAnswer all old new line text entries
     ⊎ (IsKnownAnswer old new line text entries
     ⊎ (IsQuestionAnswer old new line text entries ⊎ IsOtherBankAnswer old new line text entries))
+
+-- the answer to a line, and the lines of the entries that it recorded, behind what was there
+abbrev pub AddsAnswer : Bool → SeenAsked → SeenAsked → List ℕ → List ℕ → List ℕ → List ℕ → List ℕ → Type 0
+AddsAnswer all old new line texts texts_after entries entries_after = (text : List ℕ) × (lines : List ℕ)
+    × IsLineAnswer all old new line text lines × (texts_after ≡ texts ++ text) × (entries_after ≡ entries ++ lines)
+
+-- the answer to each line of an event with its id
+abbrev pub AddsEvent : Bool → SeenAsked → SeenAsked → AskedEvent → List ℕ → List ℕ → List ℕ → List ℕ → Type 0
+AddsEvent all old new asked texts texts_after entries entries_after = (line : List ℕ)
+    → asked_event_on old.settings old.bank line ≡ Some asked → AddsAnswer all old new line texts texts_after entries entries_after

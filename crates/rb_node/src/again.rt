@@ -1,24 +1,22 @@
 //! The line of a request whose id is known, answered. Neither the reply nor the messages of a request are kept: both
 //! are made again of its operations in the ledger. So an id takes the memory of its event, and what is answered once
 //! more can't differ from what other sites were sent.
-ghost use Rattle.std.specs.Prelude.{◌≡◌, ◌≢◌, ◌++◌, ◌∷◌, [], IfOk, OnOk, MatchResult, length, take};
+ghost use Rattle.std.specs.Prelude.{◌≡◌, ◌++◌, ◌∷◌, [], Bool, List, ℕ, length, take};
+ghost use Rattle.std.specs.Prelude.{IfErr, IfOk, MatchResult, OnErr, OnOk};
 ghost use Rattle.rb_history.specs.Adds.{Adds};
-ghost use Rattle.rb_history.specs.Ids.{IsIdOrNone};
-ghost use Rattle.rb_node.specs.Answers.{again_json, line_of, other_request_json};
+ghost use Rattle.rb_node.specs.Answers.{again_json, line_of, other_bank_json, refused_json};
 ghost use Rattle.rb_node.specs.Asked.{asked_state};
-ghost use Rattle.rb_node.specs.Index.{messages_of};
 ghost use Rattle.rb_node.specs.Kept.{IsKeptAs, names_sent, reply_made, known_again};
-ghost use Rattle.rb_node.specs.Steps.{KnownAdded, KnownAdds};
-ghost use Rattle.rb_node.specs.declared.sent_entry.Sending.TheVariants.{Operations as TheOperations};
+ghost use Rattle.rb_node.specs.LineAnswers.{AddsEvent};
 
-use crate::event_line::append_rest;
+use crate::event_line::{append_answer_head, append_rest};
 use crate::known_request::KnownRequest;
 use crate::resend::push_operations;
 use crate::{Node, Records};
 use rb_history::write::append::{append, append_number};
-use rb_history::{RequestId, spell};
+use rb_history::{LineFault, RequestId, spell};
 use rb_kit::List;
-use rb_ledger::OperationList;
+use rb_lines::whole_or_none;
 use rb_shadow::OpName;
 use rb_site::{Event, Message, Reply};
 use std::alloc::{AllocError, Global};
@@ -26,20 +24,8 @@ use std::alloc::{AllocError, Global};
 /// The refusal of another request of a known id. No refusal of a site has this number.
 const OTHER_REQUEST: u64 = 25;
 
-/// The messages of the operations from one number of them to another.
-fn messages_again(
-    alloc: Global,
-    operations: &OperationList,
-    first: u32,
-    end: u32,
-) -> Result<Vec<Message>, AllocError>
-    ensures { IfOk result (λ messages. messages.items
-        ≡ messages_of operations.now.items (TheOperations first end)) }
-{
-    let mut messages = Vec::new(alloc);
-    push_operations(&mut messages, operations, first, end)?;
-    Ok(messages)
-}
+/// The refusal of a line of another bank. No refusal of a site has this number.
+const OTHER_BANK: u64 = 26;
 
 /// Adds the name of a message's operation, if it has one.
 fn push_name(names: &mut Vec<OpName>, message: &Message) -> Result<(), AllocError>
@@ -78,39 +64,29 @@ fn reply_again(alloc: Global, event: &Event, messages: &[Message]) -> Result<Rep
     Ok(Reply::Names(names_in(alloc, messages)?))
 }
 
-/// An id between two texts.
-fn append_with_id(
-    out: &mut Vec<u8>,
-    front: &str,
-    id: &RequestId,
-    back: &str,
-) -> Result<(), AllocError>
-    ensures added { Adds result out.old.items out.new.items (front.now ++ (id.now ++ back.now)) }
-    ensures id { IsIdOrNone id.now }
+/// An answer that refuses by a number, with the id of the event, if it has one.
+fn append_refusal(out: &mut Vec<u8>, id: &RequestId, number: u64) -> Result<(), AllocError>
+    ensures { Adds result out.old.items out.new.items (line_of (refused_json id.now number)) }
 {
-    let bytes = id.as_bytes();
-    append(out, front)?;
-    out.extend_from_slice(bytes)?;
-    append(out, back)
-}
-
-/// The answer to another request of a known id: refusal 25.
-fn append_other(out: &mut Vec<u8>, id: &RequestId) -> Result<(), AllocError>
-    requires { id.now ≢ [] }
-    ensures { Adds result out.old.items out.new.items (line_of (other_request_json id.now)) }
-{
-    append_with_id(
-        out,
-        spell!("{" id ":\""),
-        id,
-        spell!("\"," reply ":{" refused ":"),
-    )?;
+    append_answer_head(out, "{", id)?;
     append_number(
         out,
-        "",
-        OTHER_REQUEST,
+        spell!("{" refused ":"),
+        number,
         spell!("}," sends ":[]," then ":[]}\n"),
     )
+}
+
+/// Adds the answer to a line of another bank: refusal 26. `OutOfMemory` leaves the answers as they were.
+pub(crate) fn append_other_bank(alloc: Global, answers: &mut Vec<u8>) -> Result<(), LineFault>
+    ensures added { OnOk result (answers.new.items ≡ answers.old.items ++ line_of other_bank_json) }
+    ensures err { OnErr result (answers.new.items ≡ answers.old.items) }
+    ensures memory { IfErr result (λ why. why ≡ LineFault.OutOfMemory) }
+{
+    let no_id = RequestId::none(alloc);
+    let before = answers.len();
+    let done = append_refusal(answers, &no_id, OTHER_BANK);
+    Ok(whole_or_none(done, answers, before)?)
 }
 
 impl<M: Records> Node<M> {
@@ -121,20 +97,15 @@ impl<M: Records> Node<M> {
         id: &RequestId,
         known: &KnownRequest,
     ) -> Result<(), AllocError>
-        requires { id.now ≢ [] }
         ensures { Adds result out.old.items out.new.items
             (line_of (again_json self.now.site.settings self.now.site.bank id.now
             (known_again (asked_state self.now.site).ops known.now))) }
     {
         let operations = self.site.site().ledger().entries();
-        let messages = messages_again(self.alloc, operations, known.first, known.end)?;
+        let mut messages = Vec::new(self.alloc);
+        push_operations(&mut messages, operations, known.first, known.end)?;
         let reply = reply_again(self.alloc, &known.event, messages.as_slice())?;
-        append_with_id(
-            out,
-            spell!("{" again ":true," id ":\""),
-            id,
-            spell!("\"," reply ":"),
-        )?;
+        append_answer_head(out, spell!("{" again ":true,"), id)?;
         append_rest(
             out,
             &self.config,
@@ -147,7 +118,7 @@ impl<M: Records> Node<M> {
 
     /// The answer to an event with the id of this request: the reply and the messages once more if the event is that of
     /// the request, and else refusal 25.
-    fn append_kept(
+    pub(crate) fn append_kept(
         &self,
         out: &mut Vec<u8>,
         id: &RequestId,
@@ -156,30 +127,13 @@ impl<M: Records> Node<M> {
     ) -> Result<(), AllocError>
         requires { IsKeptAs self.now.site id.now known.now }
         ensures { MatchResult result
-            (λ _. KnownAdded self.now.site id.now event.now out.old.items out.new.items)
+            (λ _. (all : Bool) (entries : List ℕ) → AddsEvent all self.now.site self.now.site
+            (record { id = id.now; event = event.now }) out.old.items out.new.items entries entries)
             (λ _. take (length out.old.items) out.new.items ≡ out.old.items) }
     {
         if known.event.same(event) {
             return self.append_made(out, id, known);
         }
-        append_other(out, id)
-    }
-
-    /// The answer to the line of an event with the id, if it is known. Whether it is; if it isn't, nothing is added.
-    pub(crate) fn append_known(
-        &self,
-        out: &mut Vec<u8>,
-        id: &RequestId,
-        event: &Event,
-    ) -> Result<bool, AllocError>
-        ensures known { MatchResult result
-            (λ known. KnownAdds known self.now.site id.now event.now out.old.items out.new.items)
-            (λ _. take (length out.old.items) out.new.items ≡ out.old.items) }
-    {
-        let Some(known) = self.site.known(id) else {
-            return Ok(false);
-        };
-        self.append_kept(out, id, event, known)?;
-        Ok(true)
+        append_refusal(out, id, OTHER_REQUEST)
     }
 }

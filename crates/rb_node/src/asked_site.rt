@@ -2,7 +2,7 @@
 //!
 //! The entries with their ids are in a list of which nothing is kept in memory, so that contracts speak of entries
 //! alone. What runs is a map from ids to requests, and an index of messages. The operations that the site made are in
-//! its ledger, each behind those that were applied before it: the index says which they are. The token's messages it
+//! its ledger, each after those that were applied before it: the index says which they are. The token's messages it
 //! keeps. The invariant ties both to the list. Whatever may fail comes before the event, which is noted without memory.
 ghost use Rattle.std.specs.Prelude.{◌≡◌, ◌<◌, ◌++◌, ◌∷◌, [], None, IfOk, OnErr, OnOk, MatchOption, false, length};
 ghost use Rattle.rb_site.specs.Events.{first_site, is_full, reply_to, sent_at};
@@ -11,11 +11,11 @@ ghost use Rattle.rb_site.specs.Unchanging.{changes_site};
 ghost use Rattle.rb_node.specs.Asked.{asked_state, first_asked, known_of, without_ids, with_id, with_more};
 ghost use Rattle.rb_node.specs.Index.{lines_again};
 ghost use Rattle.rb_node.specs.Kept.{IsKeptAs};
-ghost use Rattle.rb_node.specs.Resends.{resent, resent_count};
+ghost use Rattle.rb_node.specs.Resends.{resent, senders};
 ghost use Rattle.rb_node.specs.Steps.{RecordsIf, without_id};
 
 use crate::erased_asked::{ErasedAsked, note_entry};
-use crate::known_request::{KnownRequest, copy_asked, note_request, request_of, reserve_request};
+use crate::known_request::{KnownRequest, copy_asked, note_request};
 use crate::sent_entry::{SentEntry, note_sent};
 use indexmap::IndexMap;
 use rb_history::{BankName, RequestId};
@@ -25,8 +25,8 @@ use rb_site::{ErasedEntry, Event, Message, Reply, Site};
 use std::alloc::{AllocError, Global};
 use std::marker::Model;
 
-/// A site, its bank's name, the ids of its entries, the requests that were made by an id, and the index of messages.
-/// Clients see the site, the name and the ids.
+/// A site that finds requests again by their ids, and its entries' messages. It has its bank's name, its entries' ids,
+/// the requests that were made by an id, and the index of messages. Clients see the site, the name and the ids.
 pub struct AskedSite {
     alloc: Global,
     bank: BankName,
@@ -91,22 +91,22 @@ impl AskedSite {
         &self.site
     }
 
-    /// The request that was made by the id, as it is kept; `None` if there is none, or no id.
+    /// The request that was made by the id, as it is kept; `None` if no request was, or if there is no id.
     pub fn known(&self, id: &RequestId) -> Option<&KnownRequest>
         ensures { MatchOption result (known_of self.now id.now ≡ None) (λ kept. IsKeptAs self.now id.now kept.now) }
     {
         if id.as_bytes().is_empty() {
             return None;
         }
-        request_of(&self.by_id, id)
+        self.by_id.get(id.as_bytes())
     }
 
     /// The entries that sent any message, of those that have at least this number before them.
     pub fn sent_since(&self, before: u32) -> &[SentEntry]
         ensures lines { lines_again self.now.settings self.now.bank (asked_state self.now).ops result.now
             ≡ resent self.now.settings self.now.bank (first_site self.now.me) before (without_ids self.now).entries }
-        ensures count { length result.now ≡ resent_count self.now.settings (first_site self.now.me) before
-            (without_ids self.now).entries }
+        ensures count { length result.now ≡ length (senders self.now.settings (first_site self.now.me) before
+            (without_ids self.now).entries) }
     {
         let index = self.index.as_slice();
         let skipped = index.partition_point(|entry| entry.before < before);
@@ -130,8 +130,7 @@ impl AskedSite {
     {
         reserve_one(&mut self.index)?;
         reserve_one(&mut self.asked)?;
-        reserve_request(&mut self.by_id, id)?;
-        let copies = copy_asked(self.alloc, id, event)?;
+        let copies = copy_asked(self.alloc, &mut self.by_id, id, event)?;
         let (before, first) = (self.site.len(), self.site.ledger().len());
         let sent_before = sent.len();
         let recorded = self.site.answer_if_changes(event, sent, reply)?;

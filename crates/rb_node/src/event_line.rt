@@ -1,4 +1,4 @@
-//! The line of an event, answered. The answer is written behind those before it, in the order in which its parts come
+//! The line of an event, answered. The answer is written after those before it, in the order in which its parts come
 //! about, and not made apart and copied. If memory runs out on the way, answers and entries are cut back to what they
 //! were.
 ghost use Rattle.std.specs.Prelude.{◌≡◌, ◌++◌, codes, List, ℕ, Some, None, false, map, length, take, Err, IfErr};
@@ -16,10 +16,10 @@ ghost use Rattle.rb_history.specs.Ids.{IsIdOrNone, between_if_any};
 ghost use Rattle.rb_node.specs.Answers.{IsAllApplied, IsNextName, asked_event_on, messages_json};
 ghost use Rattle.rb_node.specs.Answers.{other_bank_on};
 ghost use Rattle.rb_node.specs.Asked.{asked_state, known_of};
-ghost use Rattle.rb_node.specs.LineAnswers.{IsLineAnswer, question_on};
-ghost use Rattle.rb_node.specs.Steps.{AnswersAsked, AnswersEvent, Applies, AppliesOne};
+ghost use Rattle.rb_node.specs.LineAnswers.{AddsEvent, IsLineAnswer, question_on};
+ghost use Rattle.rb_node.specs.Steps.{Applies, AppliesOne};
 
-use crate::other_bank::append_other_bank;
+use crate::again::append_other_bank;
 use crate::{Node, Records};
 use rb_history::write::append::append;
 use rb_history::{
@@ -30,21 +30,6 @@ use rb_money::Config;
 use rb_shadow::OpName;
 use rb_site::{Event, Message, Reply};
 use std::alloc::AllocError;
-
-/// A message, as the event of a site that it goes to, behind a text.
-fn append_message(
-    out: &mut Vec<u8>,
-    comma: &str,
-    config: &Config,
-    bank: &BankName,
-    message: &Message,
-) -> Result<(), AllocError>
-    ensures { Adds result out.old.items out.new.items
-        (comma.now ++ compact_text (sent_json config.now bank.now message.now)) }
-{
-    append(out, comma)?;
-    append_sent_message(out, config, bank, message)
-}
 
 /// The messages, each as the event of the sites that it goes to, with the closing bracket of their list.
 pub(crate) fn append_messages(
@@ -58,31 +43,30 @@ pub(crate) fn append_messages(
 {
     let mut comma = "";
     for message in messages {
-        append_message(out, comma, config, bank, message)?;
+        append(out, comma)?;
+        append_sent_message(out, config, bank, message)?;
         comma = ",";
     }
     append(out, "]")
 }
 
-/// A reply behind a text.
-fn append_later_reply(out: &mut Vec<u8>, comma: &str, reply: &Reply) -> Result<(), AllocError>
-    ensures { Adds result out.old.items out.new.items (comma.now ++ compact_text (reply_json reply.now)) }
-{
-    append(out, comma)?;
-    append_value(out, reply)
-}
-
-/// The beginning of an answer: its id, if it has one, and the key of the reply.
-fn append_answer_head(out: &mut Vec<u8>, id: &RequestId) -> Result<(), AllocError>
+/// The beginning of an answer after a text: its id, if it has one, and the key of the reply.
+pub(crate) fn append_answer_head(
+    out: &mut Vec<u8>,
+    front: &str,
+    id: &RequestId,
+) -> Result<(), AllocError>
     ensures added { Adds result out.old.items out.new.items
-        (codes "{" ++ (between_if_any (codes "\"id\":\"") id.now (codes "\",") ++ codes "\"reply\":")) }
+        (front.now ++ (between_if_any (codes "\"id\":\"") id.now (codes "\",") ++ codes "\"reply\":")) }
     ensures id { IsIdOrNone id.now }
 {
-    if id.as_bytes().is_empty() {
-        return append(out, spell!("{" reply ":"));
+    let bytes = id.as_bytes();
+    append(out, front)?;
+    if bytes.is_empty() {
+        return append(out, spell!(reply ":"));
     }
-    append(out, spell!("{" id ":\""))?;
-    out.extend_from_slice(id.as_bytes())?;
+    append(out, spell!(id ":\""))?;
+    out.extend_from_slice(bytes)?;
     append(out, spell!("\"," reply ":"))
 }
 
@@ -137,7 +121,7 @@ impl<M: Records> Node<M> {
         append(text, "]")
     }
 
-    /// Applies the operation of a name, and adds its reply behind a text, and the line of its entry.
+    /// Applies the operation of a name, adds its reply after a text, and adds the line of its entry.
     fn apply_one(
         &mut self,
         name: OpName,
@@ -153,11 +137,12 @@ impl<M: Records> Node<M> {
             × (take (length entries.old.items) entries.new.items ≡ entries.old.items)) }
     {
         let reply = self.step_within_limit(Event::Apply(name), entries)?;
-        append_later_reply(text, comma, &reply)
+        append(text, comma)?;
+        append_value(text, &reply)
     }
 
     /// The name of the operation that is to be applied next: the first, by home, colour and number, of those that are
-    /// held and whose past is applied. `None` if there is none, or the history is full.
+    /// held and whose past is applied. `None` if no operation is ready, or the history is full.
     fn ready(&self) -> Option<OpName>
         ensures some { IfSome result (IsNextName (asked_state self.now.site)) }
         ensures free { OnSome result (is_full self.now.site.settings (asked_state self.now.site) ≡ false) }
@@ -180,13 +165,13 @@ impl<M: Records> Node<M> {
     ) -> Result<(), AllocError>
         requires { known_of self.old.site id.now ≡ None }
         ensures { MatchResult result
-            (λ _. AnswersEvent M.ALL self.old.site self.new.site id.now event text.old.items text.new.items
-            entries.old.items entries.new.items)
+            (λ _. AddsEvent M.ALL self.old.site self.new.site (record { id = id.now; event = event }) text.old.items
+            text.new.items entries.old.items entries.new.items)
             (λ _. (take (length text.old.items) text.new.items ≡ text.old.items)
             × (take (length entries.old.items) entries.new.items ≡ entries.old.items)) }
     {
         let reply = self.step(id, event, entries)?;
-        append_answer_head(text, id)?;
+        append_answer_head(text, "{", id)?;
         append_rest(
             text,
             &self.config,
@@ -207,15 +192,15 @@ impl<M: Records> Node<M> {
         entries: &mut Vec<u8>,
     ) -> Result<(), AllocError>
         ensures { MatchResult result
-            (λ _. AnswersAsked M.ALL self.old.site self.new.site (record { id = id.now; event = event }) text.old.items
+            (λ _. AddsEvent M.ALL self.old.site self.new.site (record { id = id.now; event = event }) text.old.items
             text.new.items entries.old.items entries.new.items)
             (λ _. (take (length text.old.items) text.new.items ≡ text.old.items)
             × (take (length entries.old.items) entries.new.items ≡ entries.old.items)) }
     {
-        if self.append_known(text, id, &event)? {
-            return Ok(());
+        match self.site.known(id) {
+            Some(known) => self.append_kept(text, id, &event, known),
+            None => self.answer_event(id, event, text, entries),
         }
-        self.answer_event(id, event, text, entries)
     }
 
     /// One event with its id, answered. `OutOfMemory` leaves answers and entries as they were.
@@ -226,7 +211,7 @@ impl<M: Records> Node<M> {
         answers: &mut Vec<u8>,
         entries: &mut Vec<u8>,
     ) -> Result<(), LineFault>
-        ensures answered { OnOk result (AnswersAsked M.ALL self.old.site self.new.site
+        ensures answered { OnOk result (AddsEvent M.ALL self.old.site self.new.site
             (record { id = id.now; event = event }) answers.old.items answers.new.items entries.old.items
             entries.new.items) }
         ensures err { OnErr result ((answers.new.items ≡ answers.old.items) × (entries.new.items ≡ entries.old.items)) }
@@ -258,7 +243,7 @@ impl<M: Records> Node<M> {
     /// that has another text there, or a message without it, is refused by 26. It changes nothing and isn't recorded.
     ///
     /// A question leaves the site as it was, and isn't recorded. `{"about":"site"}` has a reply `{"about":..}` of what
-    /// the site applied and holds, and `{"resend":N}` (N 0 to 100,000,000) a reply `{"resent":K}` behind K lines
+    /// the site applied and holds, and `{"resend":N}` (N 0 to 100,000,000) a reply `{"resent":K}` after K lines
     /// `{"sends":[M..]}`, one for each of the last N entries that sent any message.
     ///
     /// Errors: `Bad` if the line is no event and no question, and nothing has changed then; a line that isn't UTF-8
@@ -284,7 +269,7 @@ impl<M: Records> Node<M> {
         let mut id = RequestId::none(self.alloc);
         match self.event_of(line, &mut id) {
             Ok(Some(event)) => self.answer_whole(&id, event, answers, entries),
-            Ok(None) => append_other_bank(answers),
+            Ok(None) => append_other_bank(self.alloc, answers),
             Err(LineFault::Bad) => self.answer_question(line, answers),
             Err(LineFault::OutOfMemory) => Err(LineFault::OutOfMemory),
         }

@@ -10,8 +10,8 @@ use rb_history::{RequestId, may_be_asked_by};
 use rb_site::{Event, Reply};
 use std::alloc::{AllocError, Global};
 
-/// A request that was made: its event, and its operations: as many as `first` were applied before it, and as many as
-/// `end` with it.
+/// A request that was made, kept to be answered again: its event, and its operations. As many as `first` were applied
+/// before it, and as many as `end` with it.
 #[derive(Drop)]
 pub struct KnownRequest {
     pub event: Event,
@@ -19,50 +19,29 @@ pub struct KnownRequest {
     pub end: u32,
 }
 
-/// The id as a key of the map, and a copy of the event; `None` if there is no id. It is inlined, as the other calls of
-/// this file are, so that an event without an id costs a test, and not a copy of an event that isn't there.
+/// The id as a key of the map, and a copy of the event, with memory for them in the map; `None` if there is no id. It
+/// is inlined, as `note_request` is, so that an event without an id costs a test, and not a copy of an event that isn't
+/// there.
 #[inline(always)]
 pub(crate) fn copy_asked(
     alloc: Global,
+    by_id: &mut IndexMap<Vec<u8>, KnownRequest>,
     id: &RequestId,
     event: &Event,
 ) -> Result<Option<(Vec<u8>, Event)>, AllocError>
-    ensures { IfOk result (λ copies. MatchOption copies (id.now ≡ [])
+    ensures entries { by_id.new.entries ≡ by_id.old.entries }
+    ensures copies { IfOk result (λ copies. MatchOption copies (id.now ≡ [])
         (λ p. (id.now ≢ []) × (p.0.items ≡ id.now) × (p.1 ≡ event.now))) }
+    ensures capacity { IfOk result (λ copies. IfSome copies (λ _. 1 ≤ spare by_id.new)) }
 {
     if id.as_bytes().is_empty() {
         return Ok(None);
     }
+    by_id.reserve(1)?;
     let mut key = Vec::new(alloc);
     key.extend_from_slice(id.as_bytes())?;
     let event = event.try_copy(alloc)?;
     Ok(Some((key, event)))
-}
-
-/// The request of the id.
-#[inline(always)]
-pub(crate) fn request_of<'m>(
-    by_id: &'m IndexMap<Vec<u8>, KnownRequest>,
-    id: &RequestId,
-) -> Option<&'m KnownRequest>
-    ensures { option_copied result ≡ find_request id.now (by_bytes by_id.now.entries) }
-{
-    by_id.get(id.as_bytes())
-}
-
-/// Memory for one request more, if there is an id.
-#[inline(always)]
-pub(crate) fn reserve_request(
-    by_id: &mut IndexMap<Vec<u8>, KnownRequest>,
-    id: &RequestId,
-) -> Result<(), AllocError>
-    ensures entries { by_id.new.entries ≡ by_id.old.entries }
-    ensures ok { OnOk result (id.now ≢ [] → 1 ≤ spare by_id.new) }
-{
-    if id.as_bytes().is_empty() {
-        return Ok(());
-    }
-    by_id.reserve(1)
 }
 
 /// Notes a request by an id that isn't known, if it was made, in the capacity that is there.

@@ -11,7 +11,6 @@ mod event_line;
 mod fault;
 mod known_request;
 mod node;
-mod other_bank;
 mod question;
 mod records;
 mod replay;

@@ -15,7 +15,7 @@ use rb_site::Message;
 use std::alloc::{AllocError, Global};
 use std::marker::{Model, PhantomData};
 
-/// One site of a bank, which is asked and answers by lines. `M` says which events it records. It keeps no history: that
+/// One site of a bank, which answers lines by lines. `M` says which events it records. It keeps no history: that
 /// is the caller's, as the lines of entries. It can't be dropped: it is closed.
 pub struct Node<M: Records> {
     pub(crate) alloc: Global,
@@ -44,7 +44,7 @@ impl<M: Records> Node<M> {
     /// The site `me` (0 to 15) of the configuration on a line, before any event. If the bank has a name, each message
     /// has it: those that are sent, and those that come.
     ///
-    /// Errors: `BadConfig` if the line is none; `NoSite` if it has no such site; `OutOfMemory`.
+    /// Errors: `BadConfig` if the line isn't a configuration; `NoSite` if it has no such site; `OutOfMemory`.
     pub fn open(alloc: Global, line: &[u8], me: u8, bank: BankName) -> Result<Node<M>, OpenFault>
         ensures opened { IfOk result (λ node. (s : Settings) × (config_on line.now ≡ Some s) × (me < s.sites)
             × (node.site ≡ first_asked s me bank)) }

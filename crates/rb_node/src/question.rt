@@ -37,7 +37,7 @@ impl<M: Records> Node<M> {
 
     /// Answers the question on a line.
     ///
-    /// Errors: `Bad` if there is none; `OutOfMemory`. Each leaves the answers as they were.
+    /// Errors: `Bad` if the line isn't a question; `OutOfMemory`. Each leaves the answers as they were.
     pub(crate) fn answer_question(
         &self,
         line: &[u8],

@@ -83,7 +83,7 @@ impl<M: Records> Node<M> {
         self.replay_entry(&id, &entry)
     }
 
-    /// The same, of a line that is exactly what `answer` adds to the entries: any other spelling of it is `BadLine`.
+    /// Replays as `replay` does, but only a line that is exactly what `answer` adds: any other spelling is `BadLine`.
     pub fn replay_written(&mut self, line: &[u8]) -> Result<(), EntryFault>
         ensures replayed { OnOk result ((x : AskedEntry) × (line.now
             ≡ compact_text (asked_entry_json self.old.site.settings self.old.site.me x))

@@ -3,8 +3,7 @@ ghost use Rattle.std.specs.Prelude.{◌≡◌, ◌++◌, ◌&&◌, false, true, 
 ghost use Rattle.serde_json.specs.Written.{compact_text};
 ghost use Rattle.rb_site.specs.Events.{is_full, sent_at};
 ghost use Rattle.rb_history.specs.Adds.{Adds};
-ghost use Rattle.rb_history.specs.Entries.{asked_entry_json, entry_json};
-ghost use Rattle.rb_node.specs.Answers.{line_of};
+ghost use Rattle.rb_history.specs.Entries.{asked_entry_json};
 ghost use Rattle.rb_node.specs.Asked.{asked_state, known_of, with_id};
 ghost use Rattle.rb_node.specs.Steps.{IsUnchanging, Notes, RecordsShort, Steps, StepsKept};
 
@@ -33,19 +32,6 @@ fn append_recorded(
     append_line(out, config, site, entry)
 }
 
-/// The line of an entry without an id, with its line feed.
-fn append_with_feed(
-    out: &mut Vec<u8>,
-    config: &Config,
-    site: u8,
-    entry: &Entry,
-) -> Result<(), AllocError>
-    ensures { Adds result out.old.items out.new.items (line_of (entry_json config.now site entry.now)) }
-{
-    append_line(out, config, site, entry)?;
-    append(out, "\n")
-}
-
 impl<M: Records> Node<M> {
     /// One event of no id for which the history has spare capacity, and its reply. Its messages are added to those
     /// sent, and the line of its entry to the entries. After an `Err`, out of memory, nothing more may be asked of the
@@ -66,7 +52,7 @@ impl<M: Records> Node<M> {
         let mut reply = Reply::Refused(Refusal::HistoryFull);
         self.site.answer(&none, &event, &mut self.sent, &mut reply)?;
         let entry = Entry { event, reply };
-        append_with_feed(entries, &self.config, self.me(), &entry)?;
+        self.note(true, &none, &entry, entries)?;
         let Entry { event: _, reply } = entry;
         Ok(reply)
     }

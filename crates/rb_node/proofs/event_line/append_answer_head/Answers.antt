@@ -1,25 +1,45 @@
-use Rattle.std.proofs.Common.{◌≡◌, ◌++◌, ℕ, List, [], ◌∷◌, false, codes, length, append_assoc, ap, ◌∙◌}
-use Rattle.std.specs.Prelude.{Result, ◌==◌}
+use Rattle.std.proofs.Common.{◌≡◌, ◌++◌, ℕ, List, [], ◌∷◌, true, false, refl, codes, length, append_assoc, ap, sym, ◌∙◌, arith}
+use Rattle.std.specs.Prelude.{suc, Result, ◌==◌}
+use Rattle.std.proofs.lemmas.Bool.{eqb-true}
 use Rattle.rb_history.specs.Adds.{Adds}
-use Rattle.rb_history.proofs.Public.Appended.{both, then}
-use Rattle.rb_node.proofs.Applied.{head_text}
+use Rattle.rb_history.proofs.Public.Appended.{both, failed, then}
+use Rattle.rb_node.proofs.AnswerTexts.{head_text}
 use Rattle.rb_node.proofs.event_line.append_answer_head.Goals as goal
 
 -- the parts of the text, one behind another
-parts : (id : List ℕ) → (codes "{\"id\":\"" ++ id) ++ codes "\",\"reply\":"
-    ≡ codes "{" ++ ((codes "\"id\":\"" ++ (id ++ codes "\",")) ++ codes "\"reply\":")
-parts id = simp append_assoc
+parts : (front id : List ℕ) → ((front ++ codes "\"id\":\"") ++ id) ++ codes "\",\"reply\":"
+    ≡ front ++ ((codes "\"id\":\"" ++ (id ++ codes "\",")) ++ codes "\"reply\":")
+parts front id = simp append_assoc
 
 -- the text, if there is an id
-whole : {A E : Type 0} (r : Result A E) (id old a b new : List ℕ) → false ≡ (length id == 0) → a ≡ old ++ codes "{\"id\":\""
-    → b ≡ a ++ id → Adds r b new (codes "\",\"reply\":") → Adds r old new (head_text id)
-whole r [] old a b new some front is h = absurd (cc)
-whole r (x ∷ xs) old a b new some front is h =
-    then r old b new (codes "{\"id\":\"" ++ x ∷ xs) (codes "\",\"reply\":") _ (both old a b (codes "{\"id\":\"") (x ∷ xs) front is) h
-    (parts (x ∷ xs))
+whole : {A E : Type 0} (r : Result A E) (front id old a new : List ℕ) → false ≡ (length id == 0)
+    → a ≡ old ++ ((front ++ codes "\"id\":\"") ++ id) → Adds r a new (codes "\",\"reply\":") → Adds r old new (head_text front id)
+whole r front [] old a new some is h = absurd (cc)
+whole r front (x ∷ xs) old a new some is h = then r old a new _ (codes "\",\"reply\":") _ is h (parts front (x ∷ xs))
+
+-- if there is none
+whole_none : {A E : Type 0} (r : Result A E) (front id old a new : List ℕ) → true ≡ (length id == 0) → a ≡ old ++ front
+    → Adds r a new (codes "\"reply\":") → Adds r old new (head_text front id)
+whole_none r front [] old a new is h added = then r old a new front (codes "\"reply\":") _ h added refl
+whole_none r front (x ∷ xs) old a new is h added =
+    let some : suc (length xs) ≡ 0 = eqb-true (length (x ∷ xs)) 0 (sym is) in absurd (omega arith)
 
 pub returns-clause-added : goal.returns-clause-added
-returns-clause-added c = whole c.append-3.result c.args.id.now c.args.out.now.items c.append-2.new.out.items
-    c.extend_from_slice.new.self.items c.append-3.new.out.items (c.if-is_empty.ensures
-    ∙ ap (λ (l : List ℕ). length l == 0) c.as_bytes.ensures.same) c.in_ok-append.ensures
-    (c.in_ok-extend_from_slice.ensures.items ∙ ap (λ l. c.append-2.new.out.items ++ l) c.as_bytes-2.ensures.same) c.append-3.ensures
+returns-clause-added c =
+    let old = c.args.out.now.items in
+    let two = both old c.append.new.out.items c.append-2.new.out.items c.args.front.now (codes "\"id\":\"") c.in_ok-append.ensures
+    c.in_ok-append-2.ensures in
+    whole c.append-3.result c.args.front.now c.args.id.now old c.extend_from_slice.new.self.items c.append-3.new.out.items
+    (c.if-is_empty.ensures ∙ ap (λ (l : List ℕ). length l == 0) c.as_bytes-bytes.ensures.same)
+    (both old c.append-2.new.out.items c.extend_from_slice.new.self.items _ c.args.id.now two
+    (c.in_ok-extend_from_slice.ensures.items ∙ ap (λ l. c.append-2.new.out.items ++ l) c.as_bytes-bytes.ensures.same)) c.append-3.ensures
+
+pub returns-then-is_empty-clause-added : goal.returns-then-is_empty-clause-added
+returns-then-is_empty-clause-added c = whole_none c.append-then-is_empty.result c.args.front.now c.args.id.now c.args.out.now.items
+    c.append.new.out.items c.append-then-is_empty.new.out.items
+    (c.if-is_empty.ensures ∙ ap (λ (l : List ℕ). length l == 0) c.as_bytes-bytes.ensures.same) c.in_ok-append.ensures
+    c.append-then-is_empty.ensures
+
+pub returns-in_err-append-2-clause-added : goal.returns-in_err-append-2-clause-added
+returns-in_err-append-2-clause-added c = failed c.from_residual-in_err-append-2.result c.args.out.now.items c.append.new.out.items
+    c.append-2.new.out.items _ _ c.from_residual-in_err-append-2.ensures.0 c.in_ok-append.ensures c.in_err-append-2.ensures

@@ -9,7 +9,7 @@ use Rattle.rb_node.specs.Kept.{entry_erased, by_bytes, find_request, request_not
 use Rattle.rb_node.specs.declared.erased_asked.ErasedAsked.{ErasedAsked}
 use Rattle.rb_node.proofs.Index.{index_noted, put_behind}
 use Rattle.rb_node.proofs.Recorded.{more-none, reply-free}
-use Rattle.rb_node.proofs.Requests.{IsNotedAs, copies_new, copies_of_id, free_if_recorded, have_ids, next_if_recorded, next_seen}
+use Rattle.rb_node.proofs.Requests.{IsNotedAs, copies_new, free_if_recorded, have_ids, next_if_recorded, next_seen}
 use Rattle.rb_node.proofs.Requests.{next_unrecorded, not_found, same_site, seen, still_keeps}
 use Rattle.rb_node.proofs.asked_site.AskedSite.answer_if_changes.Goals as goal
 
@@ -36,14 +36,14 @@ the_noted c =
           (record { event = e; reply = c.answer_if_changes.new.reply }) ∷ [])
           c.in_ok-reserve_one-2.ensures.items;
       copies = c.in_ok-copies.copies;
-      are_copies = c.in_ok-copies.ensures;
+      are_copies = c.in_ok-copies.ensures.copies;
       first = c.len-first.result;
       first_is = c.len-first.ensures.same ∙ ap (λ (us : List Shadow). length us) c.ledger.ensures.entries;
       end = c.len-end.result;
       end_is = c.len-end.ensures.same ∙ ap (λ (us : List Shadow). length us) c.ledger-2.ensures.entries;
       request_is_noted = c.note_request.ensures
           ∙ ap (λ es. by_bytes es ++ request_noted c.in_ok-copies.copies c.answer_if_changes.new.reply c.len-first.result c.len-end.result)
-          c.in_ok-reserve_request.ensures.entries;
+          c.in_ok-copies.ensures.entries;
     }
 
 pub note_request-requires : goal.note_request-requires
@@ -52,12 +52,12 @@ note_request-requires c =
     let asked = map entry_erased c.self.inside.asked.items in
     let kept = by_bytes c.self.inside.by_id.entries in
     let id = c.args.id.now in
-    let none : find_request id (by_bytes c.reserve_request.new.by_id.entries) ≡ _ =
-    ap (λ es. find_request id (by_bytes es)) c.in_ok-reserve_request.ensures.entries
+    let none : find_request id (by_bytes c.copy_asked.new.by_id.entries) ≡ _ =
+    ap (λ es. find_request id (by_bytes es)) c.in_ok-copies.ensures.entries
     ∙ not_found site asked kept c.args.self.now id (have_ids c.self.inside.asked.items) c.self.invariant.0 c.self.view_is c.requires in
     record {
-      new = copies_new c.in_ok-copies.copies id c.args.event.now _ c.in_ok-copies.ensures none;
-      capacity = copies_of_id c.in_ok-copies.copies id c.args.event.now c.in_ok-copies.ensures c.in_ok-reserve_request.ensures.ok;
+      new = copies_new c.in_ok-copies.copies id c.args.event.now _ c.in_ok-copies.ensures.copies none;
+      capacity = c.in_ok-copies.ensures.capacity;
     }
 
 -- the site keeps what it has to, and the index has the event's note

@@ -1,8 +1,9 @@
-use Rattle.std.proofs.Common.{ap, sym, ◌∙◌}
+use Rattle.std.proofs.Common.{codes, ap, sym, ◌∙◌}
 use Rattle.rb_history.proofs.Public.Appended.{both, front_of_front, front_of_sum, front_stays}
 use Rattle.rb_node.specs.Answers.{SeenNode}
 use Rattle.rb_node.specs.Asked.{SeenAsked}
-use Rattle.rb_node.proofs.Applied.{answered, head_text, rest_of_front}
+use Rattle.rb_node.proofs.AnswerTexts.{head_text, rest_of_front}
+use Rattle.rb_node.proofs.Applied.{answered}
 use Rattle.rb_node.proofs.Failed.{kept, stayed}
 use Rattle.rb_node.proofs.node.Node.answer_event.Goals as goal
 
@@ -49,14 +50,14 @@ returns g c =
     let step = c.in_ok-reply.ensures.stepped in
     let text = c.args.text.now.items in
     let s = c.self.inside.config in
-    let begun = both text c.append_answer_head.new.out.items c.append_rest.new.out.items (head_text c.args.id.now)
+    let begun = both text c.append_answer_head.new.out.items c.append_rest.new.out.items (head_text (codes "{") c.args.id.now)
     (rest_of_front s c.bank.result.now c.in_ok-reply.reply c.as_slice.result.now)
     c.in_ok-append_answer_head.ensures.added c.in_ok-append_rest.ensures in
     answered c.append.result g.M.Records.ALL s c.bank.result.now old mid.site c.apply_ready.new.self.site c.args.id.now
     c.args.event c.in_ok-reply.reply
     c.as_slice.result.now text c.append_rest.new.out.items c.apply_ready.new.text.items c.append.new.out.items
     c.args.entries.now.items c.step.new.entries.items c.apply_ready.new.entries.items
-    c.in_ok-append_answer_head.ensures.id
+    c.in_ok-append_answer_head.ensures.id c.requires
     (sym c.self.invariant ∙ ap (λ (v : SeenNode). v.site.settings) c.self.view_is
     ∙ ap (λ (y : SeenAsked). y.settings) step.0.recorded_are)
     (c.bank.ensures ∙ ap (λ (v : SeenNode). v.site.bank) c.self.view_is ∙ ap (λ (y : SeenAsked). y.bank) step.0.recorded_are)

@@ -5,11 +5,7 @@ use Rattle.rb_history.specs.Adds.{Adds}
 use Rattle.rb_node.specs.Answers.{SeenNode, sent_line}
 use Rattle.rb_node.specs.Asked.{SeenAsked, asked_state, without_ids}
 use Rattle.rb_node.specs.Index.{messages_of}
-use Rattle.rb_node.proofs.Failed.{kept, stayed}
 use Rattle.rb_node.proofs.node.Node.append_again.Goals as goal
-
-pub returns-in_err-push_sent : goal.returns-in_err-push_sent
-returns-in_err-push_sent g c = kept c.from_residual.result _ c.from_residual.ensures.0 (stayed c.args.out.now.items)
 
 pub returns : goal.returns
 returns g c =

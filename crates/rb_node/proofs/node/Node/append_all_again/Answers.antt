@@ -4,7 +4,7 @@ use Rattle.rb_node.specs.Index.{lines_again}
 use Rattle.rb_node.specs.declared.sent_entry.Sending.TheVariants.{Operations}
 use Rattle.rb_node.specs.declared.sent_entry.SentEntry.{SentEntry}
 use Rattle.rb_history.proofs.Public.Appended.{front_of_front, front_of_sum}
-use Rattle.rb_node.proofs.Failed.{kept, stayed}
+use Rattle.rb_node.proofs.Failed.{stayed}
 use Rattle.rb_node.proofs.QuestionTexts.{line_written, lines_written}
 use Rattle.rb_node.proofs.node.Node.append_all_again.Goals as goal
 
@@ -34,8 +34,3 @@ returns g c =
     (c.args.out.now.items ++ lines_again site.settings site.bank (asked_state site).ops entries) entries
     c.loop-entry.entry-index (omega arith)
     c.loop-entry.invariant.written
-
-pub returns-in_err-append_again : goal.returns-in_err-append_again
-returns-in_err-append_again g c = kept c.from_residual.result _ c.from_residual.ensures.0
-    (front_of_front c.args.out.now.items c.loop-entry.out.items c.append_again.new.out.items c.loop-entry.invariant.front
-    c.in_err-append_again.ensures)

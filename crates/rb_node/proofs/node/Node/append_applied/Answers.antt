@@ -4,25 +4,13 @@ use Rattle.rb_shadow.specs.Operations.{clock_of}
 use Rattle.rb_shadow.specs.declared.deps.Deps.{Deps}
 use Rattle.rb_site.specs.Seen.{SeenSite, state_of}
 use Rattle.rb_history.specs.Entries.{deps_json}
-use Rattle.rb_history.proofs.Public.Appended.{both, failed, then}
+use Rattle.rb_history.proofs.Public.Appended.{both, then}
 use Rattle.std.proofs.lemmas.List.{length-map}
 use Rattle.rb_history.specs.Ids.{AskedEntry}
 use Rattle.rb_node.specs.Answers.{SeenNode}
 use Rattle.rb_node.specs.Asked.{SeenAsked, asked_state, without_ids}
 use Rattle.rb_node.proofs.QuestionTexts.{applied_parts, applied_text}
 use Rattle.rb_node.proofs.node.Node.append_applied.Goals as goal
-
-pub returns-in_err-append_deps : goal.returns-in_err-append_deps
-returns-in_err-append_deps g c = failed c.from_residual-in_err-append_deps.result c.args.out.now.items c.append.new.out.items
-    c.append_deps.new.out.items _ _ c.from_residual-in_err-append_deps.ensures.0 c.in_ok-append.ensures c.in_err-append_deps.ensures
-
-pub returns-in_err-append_number : goal.returns-in_err-append_number
-returns-in_err-append_number g c =
-    let old = c.args.out.now.items in
-    let two = both old c.append.new.out.items c.append_deps.new.out.items (codes "{\"reply\":{\"about\":{\"applied\":") _
-    c.in_ok-append.ensures c.in_ok-append_deps.ensures in
-    failed c.from_residual-in_err-append_number.result old c.append_deps.new.out.items c.append_number.new.out.items _ _
-    c.from_residual-in_err-append_number.ensures.0 two c.in_err-append_number.ensures
 
 pub returns : goal.returns
 returns g c =

@@ -2,17 +2,12 @@ use Rattle.std.proofs.Common.{◌≡◌, ◌++◌, true, false, codes, decimal, 
 use Rattle.serde_json.specs.Data.{boolean}
 use Rattle.serde_json.specs.Written.{compact_text}
 use Rattle.rb_site.specs.Seen.{SeenSite, state_of}
-use Rattle.rb_history.proofs.Public.Appended.{both, failed, then}
+use Rattle.rb_history.proofs.Public.Appended.{both, then}
 use Rattle.rb_node.specs.Answers.{SeenNode}
 use Rattle.rb_node.specs.Asked.{asked_state, without_ids}
 use Rattle.rb_node.proofs.QuestionTexts.{held_parts, held_text, word_of}
 use Rattle.rb_node.proofs.node.Node.append_held.Goals as goal
 use Rattle.rb_node.proofs.node.Node.append_held.Goals.{then-has_token, else-has_token}
-
-pub returns-in_err-append_number-2 : goal.returns-in_err-append_number-2
-returns-in_err-append_number-2 g c = failed c.from_residual-in_err-append_number-2.result c.args.out.now.items
-    c.append_number.new.out.items c.append_number-2.new.out.items _ _ c.from_residual-in_err-append_number-2.ensures.0
-    c.in_ok-append_number.ensures c.in_err-append_number-2.ensures
 
 pub returns : goal.returns
 returns g c =

@@ -3,32 +3,19 @@ use Rattle.rb_site.specs.Seen.{SeenSite, state_of}
 use Rattle.rb_site.specs.declared.message.Message.{Message}
 use Rattle.std.specs.Prelude.{List}
 use Rattle.rb_shadow.specs.declared.shadow.Shadow.{Shadow}
-use Rattle.rb_history.proofs.Public.Appended.{both, failed, failed_first, then}
+use Rattle.rb_history.proofs.Public.Appended.{both, failed, then}
 use Rattle.rb_node.specs.Answers.{SeenNode}
 use Rattle.rb_node.specs.Asked.{SeenAsked, asked_state, without_ids}
 use Rattle.rb_node.specs.Index.{messages_of}
 use Rattle.rb_node.specs.Kept.{reply_made, known_again}
 use Rattle.rb_node.specs.declared.sent_entry.Sending.TheVariants.{Operations}
-use Rattle.rb_node.proofs.AgainTexts.{again_head, again_line, an_id, rest_text}
-use Rattle.rb_node.proofs.Failed.{stayed}
+use Rattle.rb_node.proofs.AnswerTexts.{again_line, head_text, rest_of_front}
 use Rattle.rb_node.proofs.node.Node.append_made.Goals as goal
 
-pub returns-in_err-messages : goal.returns-in_err-messages
-returns-in_err-messages g c = failed_first c.from_residual.result c.args.out.now.items c.args.out.now.items _ c.from_residual.ensures.0
-    (stayed c.args.out.now.items)
-
-pub returns-in_err-reply : goal.returns-in_err-reply
-returns-in_err-reply g c = failed_first c.from_residual-in_err-reply.result c.args.out.now.items c.args.out.now.items _
-    c.from_residual-in_err-reply.ensures.0 (stayed c.args.out.now.items)
-
-pub returns-in_err-append_with_id : goal.returns-in_err-append_with_id
-returns-in_err-append_with_id g c = failed_first c.from_residual-in_err-append_with_id.result c.args.out.now.items
-    c.append_with_id.new.out.items _ c.from_residual-in_err-append_with_id.ensures.0 c.in_err-append_with_id.ensures.added
-
 pub returns-in_err-append_rest : goal.returns-in_err-append_rest
-returns-in_err-append_rest g c = failed c.from_residual-in_err-append_rest.result c.args.out.now.items c.append_with_id.new.out.items
-    c.append_rest.new.out.items _ _ c.from_residual-in_err-append_rest.ensures.0 c.in_ok-append_with_id.ensures.added
-    c.in_err-append_rest.ensures
+returns-in_err-append_rest g c = failed c.from_residual-in_err-append_rest.result c.args.out.now.items
+    c.append_answer_head.new.out.items c.append_rest.new.out.items _ _ c.from_residual-in_err-append_rest.ensures.0
+    c.in_ok-append_answer_head.ensures.added c.in_err-append_rest.ensures
 
 pub returns : goal.returns
 returns g c =
@@ -42,21 +29,23 @@ returns g c =
     let held : c.entries-operations.result.now.items ≡ us =
     c.entries-operations.ensures ∙ c.ledger.ensures.entries ∙ ap (λ (y : SeenSite). (state_of y).ops) (c.site.ensures
     ∙ ap without_ids seen) in
-    let sent : c.in_ok-messages.messages.items ≡ k.sent =
-    c.in_ok-messages.ensures ∙ ap (λ (vs : List Shadow). messages_of vs (Operations known.first known.end)) held in
-    let reply : c.in_ok-reply.reply ≡ k.reply =
-    c.in_ok-reply.ensures ∙ ap (reply_made known.event) (c.as_slice.ensures.value ∙ sent) in
+    let sent : c.as_slice.result.now ≡ k.sent =
+    c.as_slice.ensures.value ∙ c.in_ok-push_operations.ensures
+    ∙ ap (λ l. l ++ messages_of c.entries-operations.result.now.items (Operations known.first known.end)) c.new-messages.ensures.items
+    ∙ ap (λ (vs : List Shadow). messages_of vs (Operations known.first known.end)) held in
+    let reply : c.in_ok-reply.reply ≡ k.reply = c.in_ok-reply.ensures ∙ ap (reply_made known.event) sent in
     let s : c.self.inside.config ≡ x.settings = sym c.self.invariant ∙ ap (λ (y : SeenAsked). y.settings) seen in
-    let two = both old c.append_with_id.new.out.items c.append_rest.new.out.items (again_head id)
-    (rest_text c.self.inside.config c.bank.result.now c.in_ok-reply.reply c.as_slice-2.result.now)
-    c.in_ok-append_with_id.ensures.added c.in_ok-append_rest.ensures in
+    let head = head_text (codes "{\"again\":true,") id in
+    let two = both old c.append_answer_head.new.out.items c.append_rest.new.out.items head
+    (rest_of_front c.self.inside.config c.bank.result.now c.in_ok-reply.reply c.as_slice-2.result.now)
+    c.in_ok-append_answer_head.ensures.added c.in_ok-append_rest.ensures in
     then c.append.result old c.append_rest.new.out.items c.append.new.out.items
-    (again_head id ++ rest_text c.self.inside.config c.bank.result.now c.in_ok-reply.reply c.as_slice-2.result.now)
+    (head ++ rest_of_front c.self.inside.config c.bank.result.now c.in_ok-reply.reply c.as_slice-2.result.now)
     (codes "]}\n") _ two c.append.ensures
-    (ap (λ r. (again_head id ++ rest_text r c.bank.result.now c.in_ok-reply.reply c.as_slice-2.result.now) ++ codes "]}\n") s
-    ∙ ap (λ b. (again_head id ++ rest_text x.settings b c.in_ok-reply.reply c.as_slice-2.result.now) ++ codes "]}\n")
+    (ap (λ r. (head ++ rest_of_front r c.bank.result.now c.in_ok-reply.reply c.as_slice-2.result.now) ++ codes "]}\n") s
+    ∙ ap (λ b. (head ++ rest_of_front x.settings b c.in_ok-reply.reply c.as_slice-2.result.now) ++ codes "]}\n")
     (c.bank.ensures ∙ ap (λ (y : SeenAsked). y.bank) seen)
-    ∙ ap (λ r. (again_head id ++ rest_text x.settings x.bank r c.as_slice-2.result.now) ++ codes "]}\n") reply
-    ∙ ap (λ (ms : List Message). (again_head id ++ rest_text x.settings x.bank k.reply ms) ++ codes "]}\n")
-    (c.as_slice-2.ensures.value ∙ sent)
-    ∙ again_line x.settings x.bank id k (an_id id c.requires c.in_ok-append_with_id.ensures.id))
+    ∙ ap (λ r. (head ++ rest_of_front x.settings x.bank r c.as_slice-2.result.now) ++ codes "]}\n") reply
+    ∙ ap (λ (ms : List Message). (head ++ rest_of_front x.settings x.bank k.reply ms) ++ codes "]}\n")
+    (c.as_slice-2.ensures.value ∙ sym c.as_slice.ensures.value ∙ sent)
+    ∙ again_line x.settings x.bank id k c.in_ok-append_answer_head.ensures.id)

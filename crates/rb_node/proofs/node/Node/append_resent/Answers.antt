@@ -7,13 +7,9 @@ use Rattle.rb_node.specs.Answers.{SeenNode, line_of}
 use Rattle.rb_node.specs.Asked.{SeenAsked, asked_state, without_ids}
 use Rattle.rb_node.specs.Index.{lines_again}
 use Rattle.rb_node.specs.LineAnswers.{reply_only}
-use Rattle.rb_node.specs.Resends.{count_again, resent, resent_count, sent_again}
-use Rattle.rb_node.proofs.Failed.{kept}
+use Rattle.rb_node.specs.Resends.{count_again, resent, senders, sent_again}
 use Rattle.rb_node.proofs.QuestionTexts.{resent_line}
 use Rattle.rb_node.proofs.node.Node.append_resent.Goals as goal
-
-pub returns-in_err-append_all_again : goal.returns-in_err-append_all_again
-returns-in_err-append_all_again g c = kept c.from_residual.result _ c.from_residual.ensures.0 c.in_err-append_all_again.ensures
 
 pub returns : goal.returns
 returns g c =
@@ -34,8 +30,8 @@ returns g c =
     ∙ ap (λ k. resent site.settings bank (first_site site.me) k site.entries) skipped in
     let count : length since ≡ count_again most site =
     c.sent_since-entries.ensures.count
-    ∙ ap (λ (y : SeenAsked). resent_count y.settings (first_site y.me) first (without_ids y).entries) seen
-    ∙ ap (λ k. resent_count site.settings (first_site site.me) k site.entries) skipped in
+    ∙ ap (λ (y : SeenAsked). length (senders y.settings (first_site y.me) first (without_ids y).entries)) seen
+    ∙ ap (λ k. length (senders site.settings (first_site site.me) k site.entries)) skipped in
     then c.append_number.result old c.append_all_again.new.out.items c.append_number.new.out.items
     (lines_again site.settings bank us since)
     (codes "{\"reply\":{\"resent\":" ++ (decimal (length since) ++ codes "},\"sends\":[],\"then\":[]}\n")) _
