@@ -1,16 +1,7 @@
 -- An event that is read fits, and its id is one, on an event that may have it, or none.
-use Rattle.std.proofs.Common.{◌≡◌, ◌==◌, List, ℕ, true, [], Some, codes, refl, inl, inr}
-use Rattle.std.specs.Prelude.{◌⊎◌, IfSome}
-use Rattle.serde_json.specs.Data.{Data}
-use Rattle.serde_json.specs.Find.{as_str}
-use Rattle.serde_json.specs.Read.{read}
-use Rattle.rb_money.specs.Settings.{Settings}
-use Rattle.rb_history.specs.Entries.{asked_event_at, asked_event_of_line, event_with_id}
-use Rattle.rb_history.specs.Fields.{field}
-use Rattle.rb_history.specs.Fits.{IsEvent}
-use Rattle.rb_history.specs.Ids.{AskedEvent, id_at, is_id, may_have_id}
-use Rattle.rb_history.specs.Recorded.{event_at, recorded_of}
-use Rattle.rb_history.specs.Values.{size_of}
+use Rattle.rb_history.proofs.Words.{◌≡◌, ◌==◌, List, ℕ, true, [], Some, codes, refl, inl, inr, ◌⊎◌, IfSome, Data, as_str, read, Settings}
+use Rattle.rb_history.proofs.Words.{asked_event_at, asked_event_of_line, event_with_id, field, IsEvent, AskedEvent, id_at, is_id}
+use Rattle.rb_history.proofs.Words.{may_have_id, event_at, recorded_of, size_of}
 use Rattle.rb_history.proofs.FitsLaws.{fits_choice, fits_field, fits_if, fits_map, fits_next, fits_some, fits_then}
 use Rattle.rb_history.proofs.ReceiptsFit.{event, recorded}
 

@@ -1,13 +1,7 @@
 -- The line of an entry with its id, part by part.
-use Rattle.std.proofs.Common.{◌≡◌, ℕ, List, [], ◌∷◌, ◌++◌, true, codes, inl, inr, refl, sym, ap, ◌∙◌, append_assoc}
-use Rattle.std.specs.Prelude.{◌⊎◌}
-use Rattle.json.specs.Print.{escape_byte}
-use Rattle.serde_json.specs.Written.{compact_text}
-use Rattle.rb_money.specs.Settings.{Settings}
-use Rattle.rb_site.specs.declared.entry.Entry.{Entry}
-use Rattle.rb_history.specs.Beginnings.{BeginsWithId}
-use Rattle.rb_history.specs.Entries.{asked_entry_json, event_json}
-use Rattle.rb_history.specs.Ids.{AskedEntry, IsAsked, IsIdOrNone, between_if_any, may_be_asked}
+use Rattle.rb_history.proofs.Words.{◌≡◌, ℕ, List, [], ◌∷◌, ◌++◌, true, codes, inl, inr, refl, sym, ap, ◌∙◌, append_assoc, ◌⊎◌, escape_byte}
+use Rattle.rb_history.proofs.Words.{compact_text, Settings, Entry, BeginsWithId, asked_entry_json, event_json, AskedEntry, IsAsked}
+use Rattle.rb_history.proofs.Words.{IsIdOrNone, between_if_any, may_be_asked}
 use Rattle.rb_history.proofs.Public.IdText.{id_quoted}
 use Rattle.rb_history.proofs.Receipts.{end_text}
 

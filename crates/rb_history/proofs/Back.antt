@@ -1,13 +1,6 @@
 -- A command's own JSON object is read as the command.
-use Rattle.std.proofs.Common.{◌≡◌, ◌^◌, List, [], ◌∷◌, Some, refl}
-use Rattle.std.specs.Prelude.{map}
-use Rattle.serde_json.specs.Data.{Data}
-use Rattle.serde_json.specs.View.{items_of}
-use Rattle.rb_money.specs.Settings.{Settings}
-use Rattle.rb_scratch.specs.declared.request.Request.{Request}
-use Rattle.rb_history.specs.Commands.{ReadsCommands}
-use Rattle.rb_history.specs.Requests.{ReadsRequests, request_alone, requests_in}
-use Rattle.rb_money.proofs.Public.Tests.{is_below as below}
+use Rattle.rb_history.proofs.Words.{◌≡◌, ◌^◌, List, [], ◌∷◌, Some, refl, map, Data, items_of, Settings, Request, ReadsCommands}
+use Rattle.rb_history.proofs.Words.{ReadsRequests, request_alone, requests_in, below}
 use Rattle.rb_history.proofs.Reading.{back}
 
 reads_requests : (s : Settings) → ReadsRequests s

@@ -1,16 +1,7 @@
 -- The line of a message to the sites of a bank: the bank's name, and then what the line of a receipt has.
-use Rattle.std.proofs.Common.{◌≡◌, List, ℕ, [], ◌∷◌, ◌++◌, length, codes, true, false, refl, sym, ap, ◌∙◌, append_assoc}
-use Rattle.std.proofs.Common.{slice_set, inl, inr}
-use Rattle.std.proofs.Math.Seq.{set-append_seam}
-use Rattle.json.specs.Print.{escape_byte}
-use Rattle.serde_json.specs.Written.{compact_text, members_text}
-use Rattle.rb_money.specs.Settings.{Settings}
-use Rattle.rb_site.specs.declared.event.Event.TheVariants.{Receive}
-use Rattle.rb_site.specs.declared.message.Message.{Message}
-use Rattle.rb_site.specs.declared.message.Message.TheVariants.{Shadow as ShadowMessage, Token as TokenOnItsWay}
-use Rattle.rb_history.specs.Banks.{receipt_member, sent_json}
-use Rattle.rb_history.specs.Entries.{event_json}
-use Rattle.rb_history.specs.Ids.{IsIdOrNone, between_if_any}
+use Rattle.rb_history.proofs.Words.{◌≡◌, List, ℕ, [], ◌∷◌, ◌++◌, length, codes, true, false, refl, sym, ap, ◌∙◌, append_assoc, slice_set}
+use Rattle.rb_history.proofs.Words.{inl, inr, set-append_seam, escape_byte, compact_text, members_text, Settings, Receive, Message}
+use Rattle.rb_history.proofs.Words.{ShadowMessage, TokenOnItsWay, receipt_member, sent_json, event_json, IsIdOrNone, between_if_any}
 use Rattle.rb_history.proofs.Public.IdText.{id_quoted}
 
 -- the line of a receipt is a brace and its member

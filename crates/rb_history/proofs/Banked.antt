@@ -1,17 +1,9 @@
 -- Lines as events to a bank, with a name or without.
-use Rattle.std.proofs.Common.{◌≡◌, ◌==◌, List, ℕ, Option, None, Some, Bool, true, false, [], ◌∷◌, length, refl, sym, ap}
-use Rattle.std.proofs.Common.{◌∙◌, subst, inl, inr}
-use Rattle.std.specs.Prelude.{◌⊎◌, MatchOption, MatchResult, Result, if◌then◌else◌, option_and_then, option_map, unwrap_or}
-use Rattle.serde_json.specs.Data.{Data}
-use Rattle.serde_json.specs.Read.{read}
-use Rattle.rb_site.specs.declared.event.Event.{Event}
-use Rattle.rb_money.specs.Settings.{Settings}
-use Rattle.rb_history.specs.Banks.{event_beside, event_named, event_or, event_to, has_bank, has_other_bank, is_of_other}
-use Rattle.rb_history.specs.Banks.{is_other_named, is_receipt}
-use Rattle.rb_history.specs.Entries.{asked_event_at, asked_event_of_line}
-use Rattle.rb_history.specs.Ids.{AskedEvent}
-use Rattle.rb_history.specs.declared.fault.LineFault.{LineFault}
-use Rattle.rb_history.specs.declared.fault.LineFault.TheVariants.{Bad}
+use Rattle.rb_history.proofs.Words.{◌≡◌, ◌==◌, List, ℕ, Option, None, Some, Bool, true, false, [], ◌∷◌, length, refl, sym, ap, ◌∙◌, subst}
+use Rattle.rb_history.proofs.Words.{inl, inr, ◌⊎◌, MatchOption, MatchResult, Result, if◌then◌else◌, option_and_then, option_map, unwrap_or}
+use Rattle.rb_history.proofs.Words.{Data, read, Event, Settings, event_beside, event_named, event_or, event_to, has_bank, has_other_bank}
+use Rattle.rb_history.proofs.Words.{is_of_other, is_other_named, is_receipt, asked_event_at, asked_event_of_line, AskedEvent, LineFault}
+use Rattle.rb_history.proofs.Words.{Bad}
 
 -- a name that has bytes is one
 pub some_name : (bank bytes : List ℕ) → bytes ≡ bank → (length bytes == 0) ≡ false → bank ≡ [] → ⊥

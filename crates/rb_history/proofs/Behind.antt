@@ -1,8 +1,5 @@
 -- The bytes that a failed call leaves in place, after others wrote.
-use Rattle.std.proofs.Common.{◌≡◌, ℕ, List, length, take}
-use Rattle.std.specs.Prelude.{Result, Ok, Err}
-use Rattle.std.specs.Result.{IsErr}
-use Rattle.rb_history.specs.Adds.{Adds}
+use Rattle.rb_history.proofs.Words.{◌≡◌, ℕ, List, length, take, Result, Ok, Err, IsErr, Adds}
 use Rattle.rb_history.proofs.Public.Appended.{front_of_front}
 
 -- what was there first is there after a call that failed

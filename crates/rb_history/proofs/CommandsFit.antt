@@ -1,20 +1,9 @@
 -- Each command that is read from a line is an event of a site's own that fits, or a delivery.
-use Rattle.std.proofs.Common.{◌^◌, codes, Option, Some, None}
-use Rattle.std.specs.Prelude.{◌==◌, IfSome}
-use Rattle.std.specs.Str.{is_utf8}
-use Rattle.serde_json.specs.Data.{Data}
-use Rattle.serde_json.specs.Find.{get}
-use Rattle.serde_json.specs.Read.{read}
-use Rattle.rb_money.specs.Settings.{Settings}
-use Rattle.rb_site.specs.declared.event.Event.TheVariants.{Submit, Batch, Apply, Pass, Balance, AsOf, Statement}
-use Rattle.rb_site.specs.declared.world_event.WorldEvent.TheVariants.{At, Deliver}
-use Rattle.rb_site.specs.Worlds.{IsOwn}
-use Rattle.rb_history.specs.Commands.{command_at, command_for, command_of, event_of, teller_event_of}
-use Rattle.rb_history.specs.Fits.{IsEvent}
+use Rattle.rb_history.proofs.Words.{◌^◌, codes, Option, Some, None, ◌==◌, IfSome, is_utf8, Data, get, read, Settings, Submit, Batch, Apply}
+use Rattle.rb_history.proofs.Words.{Pass, Balance, AsOf, Statement, At, Deliver, IsOwn, command_at, command_for, command_of, event_of}
+use Rattle.rb_history.proofs.Words.{teller_event_of, IsEvent, place_at, request_of, requests_at, IsFittingCommand, ReadCommandsFit, name_at}
+use Rattle.rb_history.proofs.Words.{number_below, size_of}
 use Rattle.rb_history.specs.OnLines.{command_on}
-use Rattle.rb_history.specs.Requests.{place_at, request_of, requests_at}
-use Rattle.rb_history.specs.Sites.{IsFittingCommand, ReadCommandsFit}
-use Rattle.rb_history.specs.Values.{name_at, number_below, size_of}
 use Rattle.rb_history.proofs.EventsFit.{command as event_fits}
 use Rattle.rb_history.proofs.FitsLaws.{fits_either, fits_if, fits_made, fits_map, fits_next, fits_some}
 use Rattle.rb_history.proofs.PartsFit.{asked}

@@ -1,22 +1,10 @@
 -- The line of a configuration is read as the configuration.
-use Rattle.std.proofs.Common.{◌≡◌, ◌<◌, ◌≤◌, ◌+◌, ◌^◌, ℕ, suc, List, [], ◌∷◌, ◌++◌, length, Some, None, true, false, refl, sym, ap, ◌∙◌}
-use Rattle.std.proofs.Common.{inl, inr, arith}
-use Rattle.std.specs.Prelude.{◌==◌, ◌&&◌, map, nat_le, nat_lt, bytes_eq, slice_get, option_and_then}
-use Rattle.std.proofs.lemmas.Bool.{le-leb, or_parts, or_right}
-use Rattle.std.proofs.lemmas.Bool.Decides.{nat_tests}
-use Rattle.std.proofs.lemmas.Slice.Eq.{bytes_eq-Decides}
-use Rattle.serde_json.specs.Read.{read}
-use Rattle.serde_json.specs.View.{items_of}
-use Rattle.serde_json.specs.Written.{compact_text}
-use Rattle.rb_money.specs.declared.cents.TheConstants.{MOST_CENTS}
-use Rattle.rb_money.specs.Faults.{Account, account_fault, config_fault, is_among}
-use Rattle.rb_money.specs.Settings.{IsConfigured, IsVersion, Settings, is_account_name}
-use Rattle.rb_money.specs.declared.limits.TheConstants.{MOST_SITES, MOST_SITES_OF_VERSION_1, MOST_ACCOUNTS, MOST_BLUE, MOST_RED, MOST_INBOX}
-use Rattle.rb_money.specs.declared.limits.TheConstants.{MOST_HISTORY, MOST_EPOCH}
-use Rattle.rb_history.specs.Configurations.{accounts_in, config_at, config_of, is_version}
-use Rattle.rb_history.specs.ConfigLines.{accounts_of, config_json, start_json}
-use Rattle.rb_history.specs.Fits.{Each}
-use Rattle.rb_money.proofs.Public.Tests.{is_below as below}
+use Rattle.rb_history.proofs.Words.{◌≡◌, ◌<◌, ◌≤◌, ◌+◌, ◌^◌, ℕ, suc, List, [], ◌∷◌, ◌++◌, length, Some, None, true, false, refl, sym, ap}
+use Rattle.rb_history.proofs.Words.{◌∙◌, inl, inr, arith, ◌==◌, ◌&&◌, map, nat_le, nat_lt, bytes_eq, slice_get, option_and_then, le-leb}
+use Rattle.rb_history.proofs.Words.{or_parts, or_right, nat_tests, bytes_eq-Decides, read, items_of, compact_text, MOST_CENTS, Account}
+use Rattle.rb_history.proofs.Words.{account_fault, config_fault, is_among, IsConfigured, IsVersion, Settings, is_account_name, MOST_SITES}
+use Rattle.rb_history.proofs.Words.{MOST_SITES_OF_VERSION_1, MOST_ACCOUNTS, MOST_BLUE, MOST_RED, MOST_INBOX, MOST_HISTORY, MOST_EPOCH}
+use Rattle.rb_history.proofs.Words.{accounts_in, config_at, config_of, is_version, accounts_of, config_json, start_json, Each, below}
 use Rattle.rb_history.proofs.Reading.{compact_read}
 use Rattle.rb_history.proofs.EntryText.{list_text, number_text, pair_text, string_text}
 use Rattle.rb_history.proofs.KnownPlaces.{fails}

@@ -1,28 +1,12 @@
 -- A line that is read gives a configuration.
-use Rattle.std.proofs.Common.{◌≡◌, ℕ, Bool, true, false, List, Option, Some, None, refl, subst, inl, inr}
-use Rattle.std.specs.Prelude.{IfSome, ◌==◌, ◌&&◌, ◌||◌, if◌then◌else◌, is_none, nat_le, option_and_then, codes, ◌^◌}
-use Rattle.std.proofs.lemmas.Bool.{and_parts, eqb-true, leb-true}
-use Rattle.serde_json.specs.Data.{Data}
-use Rattle.serde_json.specs.Find.{get}
-use Rattle.serde_json.specs.Read.{read}
-use Rattle.rb_money.specs.Faults.{Account, config_fault, settings_of}
-use Rattle.rb_money.specs.Settings.{IsConfigured, IsVersion, Settings}
-use Rattle.rb_money.specs.declared.limits.Limits.{Limits}
-use Rattle.rb_money.specs.declared.limits.TheConstants.{MOST_SITES_OF_VERSION_1}
+use Rattle.rb_history.proofs.Words.{◌≡◌, ℕ, Bool, true, false, List, Option, Some, None, refl, subst, inl, inr, IfSome, ◌==◌, ◌&&◌, ◌||◌}
+use Rattle.rb_history.proofs.Words.{is_none, nat_le, option_and_then, codes, ◌^◌, and_parts, eqb-true, leb-true, Data, get, read, Account}
+use Rattle.rb_history.proofs.Words.{config_fault, settings_of, IsConfigured, IsVersion, Settings, Limits, MOST_SITES_OF_VERSION_1}
+use Rattle.rb_history.proofs.Words.{accounts_at, config_from, config_in, config_of, has_known_keys, is_version, limits_of, version_at}
+use Rattle.rb_history.proofs.Words.{number_below}
 use Rattle.rb_money.proofs.Public.Configured.{parts_configured}
-use Rattle.rb_history.specs.Configurations.{accounts_at, config_from, config_in, config_of, has_known_keys, is_version, limits_of}
-use Rattle.rb_history.specs.Configurations.{version_at}
 use Rattle.rb_history.specs.Laws.{ReadConfigsAreConfigured}
-use Rattle.rb_history.specs.Values.{number_below}
-
--- if each value that may follow is such
-after_any : {A B : Type 0} (Q : B → Type 0) (f : A → Option B) (o : Option A) → ((x : A) → IfSome (f x) Q) → IfSome (option_and_then f o) Q
-after_any Q f None h = tt
-after_any Q f (Some x) h = h x
-
-where_true : {A : Type 0} (Q : A → Type 0) (b : Bool) (o : Option A) → (b ≡ true → IfSome o Q) → IfSome (if b then o else None) Q
-where_true Q true o h = h refl
-where_true Q false o h = tt
+use Rattle.rb_history.proofs.FitsLaws.{fits_if, fits_next}
 
 nothing : {A : Type 0} (o : Option A) → is_none o ≡ true → o ≡ None
 nothing None e = refl
@@ -62,21 +46,21 @@ in_version s version c may = record {
 of_parts : (version sites : ℕ) (limits : Limits) (accounts : List Account) → IfSome (config_from version sites limits accounts) IsConfigured
 of_parts version sites limits accounts =
     let fault = config_fault sites accounts limits in
-    where_true IsConfigured (is_version version sites && is_none fault) _ (λ e.
+    fits_if IsConfigured (is_version version sites && is_none fault) _ (λ e.
     let p = and_parts (is_version version sites) (is_none fault) e in
     in_version (settings_of sites accounts limits) version (parts_configured sites accounts limits (nothing fault p.1))
     (may_be version sites p.0))
 
 of_values : (d : Data) → IfSome (config_in d) IsConfigured
 of_values d =
-    after_any IsConfigured _ (version_at d) (λ version.
-    after_any IsConfigured _ (option_and_then (number_below (2 ^ 8)) (get (codes "sites") d)) (λ sites.
-    after_any IsConfigured _ (limits_of d) (λ limits.
-    after_any IsConfigured (config_from version sites limits) (option_and_then accounts_at (get (codes "accounts") d))
+    fits_next IsConfigured _ (version_at d) (λ version.
+    fits_next IsConfigured _ (option_and_then (number_below (2 ^ 8)) (get (codes "sites") d)) (λ sites.
+    fits_next IsConfigured _ (limits_of d) (λ limits.
+    fits_next IsConfigured (config_from version sites limits) (option_and_then accounts_at (get (codes "accounts") d))
     (of_parts version sites limits))))
 
 of_line : (line : List ℕ) → IfSome (option_and_then config_of (read line)) IsConfigured
-of_line line = after_any IsConfigured config_of (read line) (λ d. where_true IsConfigured (has_known_keys d) (config_in d)
+of_line line = fits_next IsConfigured config_of (read line) (λ d. fits_if IsConfigured (has_known_keys d) (config_in d)
     (λ known. of_values d))
 
 -- whatever line is read as settings, they are a configuration's

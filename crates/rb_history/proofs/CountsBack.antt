@@ -1,27 +1,16 @@
 -- The text that is written for the counts of all sites is read as them.
-use Rattle.std.proofs.Common.{◌≡◌, ◌<◌, ◌^◌, ℕ, zero, suc, List, [], ◌∷◌, ◌++◌, ◌-◌, length, take, drop, Some, refl, sym, ap, subst, ◌∙◌}
-use Rattle.std.proofs.Common.{inl, inr, arith, length-append}
-use Rattle.std.specs.Prelude.{map, option_map, replicate}
-use Rattle.std.proofs.lemmas.List.{drop_at, length-drop, length-replicate, length-take-le, take-append-drop, take_at}
-use Rattle.serde_json.specs.View.{items_of}
-use Rattle.rb_money.specs.Settings.{IsVersion}
-use Rattle.rb_money.specs.declared.limits.TheConstants.{MOST_SITES, MOST_SITES_OF_VERSION_1}
-use Rattle.rb_history.specs.Values.{list_json, number_json}
-use Rattle.rb_money.proofs.Public.Tests.{equal, is_below as below}
-use Rattle.rb_history.specs.Counts.{blue_at, blue_json, counts_at, counts_in, widened}
-use Rattle.rb_history.specs.Fits.{Each}
+use Rattle.rb_history.proofs.Words.{◌≡◌, ◌<◌, ◌^◌, ℕ, zero, suc, List, [], ◌∷◌, ◌++◌, ◌-◌, length, take, drop, Some, refl, sym, ap, subst}
+use Rattle.rb_history.proofs.Words.{◌∙◌, inl, inr, arith, length-append, map, option_map, replicate, drop_at, length-drop, length-replicate}
+use Rattle.rb_history.proofs.Words.{length-take-le, take-append-drop, take_at, items_of, IsVersion, MOST_SITES, MOST_SITES_OF_VERSION_1}
+use Rattle.rb_history.proofs.Words.{list_json, number_json, equal, below, blue_at, blue_json, counts_at, counts_in, widened, Each}
 use Rattle.rb_history.proofs.Numbered.{numbered_back}
+use Rattle.rb_history.proofs.Public.Each.{each_both}
 
 -- what holds of each item holds of each of the first ones
 pub each_take : {A : Type 0} (P : A → Type 0) (k : ℕ) (xs : List A) → Each P xs → Each P (take k xs)
 each_take P zero xs h = tt
 each_take P (suc k) [] h = tt
 each_take P (suc k) (x ∷ xs) h = (h.0, each_take P k xs h.1)
-
--- what holds of the items of two lists holds of both as one
-pub each_append : {A : Type 0} (P : A → Type 0) (xs ys : List A) → Each P xs → Each P ys → Each P (xs ++ ys)
-each_append P [] ys h k = k
-each_append P (x ∷ xs) ys h k = (h.0, each_append P xs ys h.1 k)
 
 -- what holds of an item holds of each of its copies
 pub each_replicate : {A : Type 0} (P : A → Type 0) (many : ℕ) (x : A) → P x → Each P (replicate many x)
@@ -74,7 +63,7 @@ widened_length ns few = length-append ns (replicate further 0) ∙ (let e = leng
 
 -- and each fits if each of the first does
 pub widened_fits : (ns : List ℕ) → Each (λ n. n < 2 ^ 32) ns → Each (λ n. n < 2 ^ 32) (widened ns)
-widened_fits ns h = each_append (λ n. n < 2 ^ 32) ns (replicate further 0) h (each_replicate (λ n. n < 2 ^ 32) further 0 (omega arith))
+widened_fits ns h = each_both (λ n. n < 2 ^ 32) ns (replicate further 0) h (each_replicate (λ n. n < 2 ^ 32) further 0 (omega arith))
 
 -- and each of a further site is 0
 pub widened_further : (ns : List ℕ) → length ns ≡ MOST_SITES_OF_VERSION_1 → Each (λ n. n ≡ 0) (drop MOST_SITES_OF_VERSION_1 (widened ns))

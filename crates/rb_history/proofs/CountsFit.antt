@@ -1,16 +1,11 @@
 -- The counts of all sites that are read, in either version of the format, fit.
-use Rattle.std.proofs.Common.{◌≡◌, ◌<◌, ◌≤◌, ◌+◌, ◌-◌, ◌^◌, ℕ, List, ◌∷◌, ◌++◌, length, Bool, true, false, Option, Some, None, refl, ◌∙◌}
-use Rattle.std.proofs.Common.{arith, length-append}
-use Rattle.std.specs.Prelude.{◌==◌, ◌&&◌, IfSome, drop, if◌then◌else◌, nat_le, nat_lt, option_and_then, option_map, replicate}
-use Rattle.std.proofs.lemmas.Bool.{and_parts, eqb-false, eqb-true, leb-true, ltb-true}
-use Rattle.std.proofs.lemmas.List.{length-replicate}
-use Rattle.serde_json.specs.Data.{Data, Items, no_items, item}
-use Rattle.serde_json.specs.Find.{as_array}
-use Rattle.rb_money.specs.declared.limits.TheConstants.{MOST_SITES, MOST_SITES_OF_VERSION_1}
-use Rattle.rb_history.specs.Values.{number_below, pair_of}
-use Rattle.rb_history.specs.Counts.{blue_at, counts_at, counts_in, numbered_at, numbered_in, widened}
-use Rattle.rb_history.specs.Fits.{Each}
-use Rattle.rb_history.proofs.CountsBack.{each_append, each_replicate, widened_fits, widened_further, widened_length}
+use Rattle.rb_history.proofs.Words.{◌≡◌, ◌<◌, ◌≤◌, ◌+◌, ◌-◌, ◌^◌, ℕ, List, ◌∷◌, ◌++◌, length, Bool, true, false, Option, Some, None, refl}
+use Rattle.rb_history.proofs.Words.{◌∙◌, arith, length-append, ◌==◌, ◌&&◌, IfSome, drop, if◌then◌else◌, nat_le, nat_lt, option_and_then}
+use Rattle.rb_history.proofs.Words.{option_map, replicate, and_parts, eqb-false, eqb-true, leb-true, ltb-true, length-replicate, Data}
+use Rattle.rb_history.proofs.Words.{Items, no_items, item, as_array, MOST_SITES, MOST_SITES_OF_VERSION_1, number_below, pair_of, blue_at}
+use Rattle.rb_history.proofs.Words.{counts_at, counts_in, numbered_at, numbered_in, widened, Each}
+use Rattle.rb_history.proofs.CountsBack.{each_replicate, widened_fits, widened_further, widened_length}
+use Rattle.rb_history.proofs.Public.Each.{each_both}
 use Rattle.rb_history.proofs.FitsLaws.{IsWord, fits_cons, fits_if, fits_map, fits_next, fits_then}
 use Rattle.rb_history.proofs.PartsFit.{number}
 
@@ -61,7 +56,7 @@ more i p h later k =
     let rest : length later ≡ MOST_SITES - (p.0 + 1) = k.0 in (
       length-append zeros (p.1 ∷ later)
           ∙ (omega (arith, before, rest, h)),
-      each_append IsWord zeros (p.1 ∷ later) (zeros_fit (p.0 - i)) (h.2, k.1),
+      each_both IsWord zeros (p.1 ∷ later) (zeros_fit (p.0 - i)) (h.2, k.1),
     )
 
 numbered : (i : ℕ) (ds : Items) → IfSome (numbered_in i ds) (AreCounts i)

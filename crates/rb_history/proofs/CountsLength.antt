@@ -1,11 +1,6 @@
 -- How many counts a list gives.
-use Rattle.std.proofs.Common.{◌≡◌, ◌^◌, ℕ, suc, List, [], ◌∷◌, length, Option, Some, None, refl, sym, ap, ◌∙◌}
-use Rattle.std.specs.Prelude.{◌==◌, if◌then◌else◌, option_and_then, option_map}
-use Rattle.std.proofs.lemmas.Bool.{ne_eqb}
-use Rattle.serde_json.specs.View.{items_view, view}
-use Rattle.serde_json.specs.declared.value.Value.{Value}
-use Rattle.rb_history.specs.Counts.{counts_in}
-use Rattle.rb_history.specs.Values.{number_below}
+use Rattle.rb_history.proofs.Words.{◌≡◌, ◌^◌, ℕ, suc, List, [], ◌∷◌, length, Option, Some, None, refl, sym, ap, ◌∙◌, ◌==◌, if◌then◌else◌}
+use Rattle.rb_history.proofs.Words.{option_and_then, option_map, ne_eqb, items_view, view, Value, counts_in, number_below}
 
 -- the list of counts, if there is one, is as long as the list
 counts_length : (vs : List Value) (ns : List ℕ) → counts_in (items_view vs) ≡ Some ns → length ns ≡ length vs

@@ -1,13 +1,9 @@
 -- The counts above 0, each behind its site's number, read one by one from a text.
-use Rattle.std.proofs.Common.{◌≡◌, ◌<◌, ◌≤◌, ◌+◌, ◌-◌, ℕ, zero, suc, List, [], ◌∷◌, ◌++◌, length, take, drop, set, Bool, true, false, refl}
-use Rattle.std.proofs.Common.{sym, ap, ap₂, subst, ◌∙◌, arith, append-nil, length-append}
-use Rattle.std.specs.Prelude.{◌==◌, replicate, if◌then◌else◌}
-use Rattle.std.proofs.lemmas.Bool.Decides.{nat_tests}
-use Rattle.std.proofs.lemmas.List.{length-replicate, length-take-le}
-use Rattle.rb_money.specs.declared.limits.TheConstants.{MOST_SITES}
-use Rattle.rb_history.specs.Counts.{numbered_from}
-use Rattle.rb_history.specs.Fits.{Each}
-use Rattle.rb_history.proofs.CountsBack.{each_append, each_replicate}
+use Rattle.rb_history.proofs.Words.{◌≡◌, ◌<◌, ◌≤◌, ◌+◌, ◌-◌, ℕ, zero, suc, List, [], ◌∷◌, ◌++◌, length, take, drop, set, Bool, true, false}
+use Rattle.rb_history.proofs.Words.{refl, sym, ap, ap₂, subst, ◌∙◌, arith, append-nil, length-append, ◌==◌, replicate, if◌then◌else◌}
+use Rattle.rb_history.proofs.Words.{nat_tests, length-replicate, length-take-le, MOST_SITES, numbered_from, Each}
+use Rattle.rb_history.proofs.CountsBack.{each_replicate}
+use Rattle.rb_history.proofs.Public.Each.{each_both}
 use Rattle.rb_history.proofs.ListRead.{each_more}
 use Rattle.rb_history.proofs.Numbered.{all_read, one_further}
 
@@ -66,10 +62,10 @@ pub fit_more : (P : ℕ → Type 0) (counts : List ℕ) (least site n : ℕ) →
 fit_more P counts least site n long low near none o p h =
     subst (Each P) (sym (one_further counts least site n long low near none))
     (each_more P (take least counts ++ replicate (site - least) 0) n
-    (each_append P (take least counts) (replicate (site - least) 0) h (each_replicate P (site - least) 0 o)) p)
+    (each_both P (take least counts) (replicate (site - least) 0) h (each_replicate P (site - least) 0 o)) p)
 
 -- what holds of 0 and of the counts so far holds of all, if all others are 0
 pub fit_all : (P : ℕ → Type 0) (counts : List ℕ) (least : ℕ) → drop least counts ≡ replicate (MOST_SITES - least) 0 → P 0
     → Each P (take least counts) → Each P counts
 fit_all P counts least none o h = subst (Each P) (all_read counts least none)
-    (each_append P (take least counts) (replicate (MOST_SITES - least) 0) h (each_replicate P (MOST_SITES - least) 0 o))
+    (each_both P (take least counts) (replicate (MOST_SITES - least) 0) h (each_replicate P (MOST_SITES - least) 0 o))

@@ -1,21 +1,8 @@
 -- An entry that is read from a history's line fits a line, and its id is one.
-use Rattle.std.proofs.Common.{◌≡◌, ◌<◌, ◌==◌, ℕ, List, codes, true, inl, inr, refl, ap, ◌∙◌, Some, None, Result}
-use Rattle.std.proofs.Common.{Ok, Err}
-use Rattle.std.specs.Prelude.{IfOk, IfSome, MatchResult, option_and_then}
-use Rattle.serde_json.specs.Data.{Data}
-use Rattle.serde_json.specs.Find.{get}
-use Rattle.serde_json.specs.Read.{read}
-use Rattle.rb_money.specs.Settings.{Settings}
-use Rattle.rb_site.specs.declared.entry.Entry.{Entry}
-use Rattle.rb_history.specs.Values.{number_below, size_of}
-use Rattle.rb_history.specs.Entries.{asked_entry_of_line, asked_entry_of_object, entry_in, entry_with_id}
-use Rattle.rb_history.specs.Fields.{field}
-use Rattle.rb_history.specs.declared.fault.LineFault.{LineFault}
-use Rattle.rb_history.specs.declared.fault.LineFault.TheVariants.{Bad}
-use Rattle.rb_history.specs.Fits.{IsEvent, IsReply, ReadEntriesFit}
-use Rattle.rb_history.specs.Ids.{AskedEntry, IsAsked, id_at, is_id, may_be_asked}
-use Rattle.rb_history.specs.Recorded.{event_at}
-use Rattle.rb_history.specs.RepliesRead.{reply_parsed}
+use Rattle.rb_history.proofs.Words.{◌≡◌, ◌<◌, ◌==◌, ℕ, List, codes, true, inl, inr, refl, ap, ◌∙◌, Some, None, Result, Ok, Err, IfOk}
+use Rattle.rb_history.proofs.Words.{IfSome, MatchResult, option_and_then, Data, get, read, Settings, Entry, number_below, size_of}
+use Rattle.rb_history.proofs.Words.{asked_entry_of_line, asked_entry_of_object, entry_in, entry_with_id, field, LineFault, Bad, IsEvent}
+use Rattle.rb_history.proofs.Words.{IsReply, ReadEntriesFit, AskedEntry, IsAsked, id_at, is_id, may_be_asked, event_at, reply_parsed}
 use Rattle.rb_history.proofs.FitsLaws.{fits_choice, fits_field, fits_if, fits_map, fits_some, fits_then}
 use Rattle.rb_history.proofs.AskedFit.{id_fits}
 use Rattle.rb_history.proofs.NumbersFit.{Fits, fits_get, fits_read}

@@ -1,25 +1,10 @@
 -- The text that is written for an event or a line's entry is read as it.
-use Rattle.std.proofs.Common.{◌≡◌, ◌<◌, ◌^◌, ℕ, List, [], ◌∷◌, Some, inl, inr, refl, ap}
-use Rattle.std.specs.Prelude.{map, option_map}
-use Rattle.serde_json.specs.View.{items_of}
-use Rattle.rb_money.specs.Settings.{IsConfigured, Settings}
-use Rattle.rb_money.specs.declared.place.Place.{Place}
-use Rattle.rb_scratch.specs.declared.request.Request.{Request}
-use Rattle.rb_scratch.specs.declared.request.Request.TheVariants.{Deposit, Withdraw, Interest, Cancel, Transfer}
-use Rattle.rb_shadow.specs.declared.kind.Kind.{Kind}
-use Rattle.rb_shadow.specs.declared.kind.Kind.TheVariants.{Cancel as CancelKind, Transfer as TransferKind}
-use Rattle.rb_shadow.specs.declared.op_name.OpName.{OpName}
-use Rattle.rb_shadow.specs.declared.shadow.Shadow.{Shadow}
-use Rattle.rb_site.specs.declared.event.Event.{Event}
-use Rattle.rb_site.specs.declared.event.Event.TheVariants.{Submit, Batch, Receive, Apply, Pass, Balance, AsOf, Statement}
-use Rattle.rb_site.specs.declared.message.Message.TheVariants.{Shadow as ShadowMessage, Token as TokenOnItsWay}
-use Rattle.rb_history.specs.Entries.{asked_entry_json, asked_entry_of_object, entry_in, event_json, request_json}
-use Rattle.rb_history.specs.Entries.{shadow_json}
-use Rattle.rb_history.specs.Fits.{Each, IsEvent, IsKind, IsReply, IsRequest, IsShadow}
-use Rattle.rb_history.specs.Ids.{AskedEntry, IsAsked}
-use Rattle.rb_history.specs.Recorded.{event_at, kind_at, shadow_at}
-use Rattle.rb_history.specs.Requests.{request_alone, requests_in}
-use Rattle.rb_money.proofs.Public.Tests.{is_below as below}
+use Rattle.rb_history.proofs.Words.{◌≡◌, ◌<◌, ◌^◌, ℕ, List, [], ◌∷◌, Some, inl, inr, refl, ap, map, option_map, items_of, IsConfigured}
+use Rattle.rb_history.proofs.Words.{Settings, Place, Request, Deposit, Withdraw, Interest, Cancel, Transfer, Kind, CancelKind, TransferKind}
+use Rattle.rb_history.proofs.Words.{OpName, Shadow, Event, Submit, Batch, Receive, Apply, Pass, Balance, AsOf, Statement, ShadowMessage}
+use Rattle.rb_history.proofs.Words.{TokenOnItsWay, asked_entry_json, asked_entry_of_object, entry_in, event_json, request_json, shadow_json}
+use Rattle.rb_history.proofs.Words.{Each, IsEvent, IsKind, IsReply, IsRequest, IsShadow, AskedEntry, IsAsked, event_at, kind_at, shadow_at}
+use Rattle.rb_history.proofs.Words.{request_alone, requests_in, below}
 use Rattle.rb_history.proofs.Reading.{back}
 use Rattle.rb_history.proofs.CountsBack.{blue_back}
 use Rattle.rb_history.proofs.Public.IdText.{id_read}

@@ -1,8 +1,5 @@
 -- The line of an entry is read as the entry with its id.
-use Rattle.std.proofs.Common.{ap, ◌∙◌, arith}
-use Rattle.std.specs.Prelude.{option_and_then}
-use Rattle.rb_history.specs.Entries.{asked_entry_of_object}
-use Rattle.rb_history.specs.Fits.{EntriesAreRead}
+use Rattle.rb_history.proofs.Words.{ap, ◌∙◌, arith, option_and_then, asked_entry_of_object, EntriesAreRead}
 use Rattle.rb_history.proofs.EntryBack.{entry_back}
 use Rattle.rb_history.proofs.EntryText.{entry_text}
 

@@ -1,43 +1,18 @@
 -- The text of an entry is read as the entry's JSON object.
-use Rattle.std.proofs.Common.{◌≡◌, ◌<◌, ◌≤◌, ◌^◌, ℕ, suc, ℤ, pos, negsuc, List, [], ◌∷◌, length, take, Some, Bool, true, false, refl, arith}
-use Rattle.std.proofs.Common.{lit<}
-use Rattle.std.specs.Prelude.{◌==◌, map, if◌then◌else◌}
-use Rattle.json.specs.Tree.{HasNumbers, ItemsHaveNumbers}
+use Rattle.rb_history.proofs.Words.{◌≡◌, ◌<◌, ◌≤◌, ◌^◌, ℕ, suc, ℤ, pos, negsuc, List, [], ◌∷◌, length, take, Some, Bool, true, false, refl}
+use Rattle.rb_history.proofs.Words.{arith, lit<, ◌==◌, map, if◌then◌else◌, HasNumbers, ItemsHaveNumbers, IsNumber-decimal}
+use Rattle.rb_history.proofs.Words.{IsNumber-signed_decimal, Data, string, of_items, of_json, read, items_of, compact_text, items_outline}
+use Rattle.rb_history.proofs.Words.{outline, number_of-decimal, number_of-negative, Settings, MOST_SITES, MOST_SITES_OF_VERSION_1, Place}
+use Rattle.rb_history.proofs.Words.{CauseDeclined, CauseRefused, Refusal, OutOfMemory, AlreadyCancelled, RedBehind, BatchRefused}
+use Rattle.rb_history.proofs.Words.{BadMessage, number_of_refusal, Request, Deposit, Withdraw, Interest, Cancel, Transfer, IsName, Kind}
+use Rattle.rb_history.proofs.Words.{CancelKind, TransferKind, Shadow, Event, Submit, Batch, Receive, Apply, Pass, Balance, AsOf, Statement}
+use Rattle.rb_history.proofs.Words.{ShadowMessage, TokenOnItsWay, Reply, Made, Names, Held, Already, Taken, Stale, Applied, Passed}
+use Rattle.rb_history.proofs.Words.{BalanceIs, StatementIs, Refused, Row, blue_json, numbered_from, numbered_json, asked_entry_json}
+use Rattle.rb_history.proofs.Words.{asked_json, deps_json, event_json, request_json, shadow_json, Each, IsCause, IsEvent, IsMoved}
+use Rattle.rb_history.proofs.Words.{IsRefusal, IsReply, IsRequest, IsStatementRow, IsShadow, AskedEntry, cause_json, refusal_json}
+use Rattle.rb_history.proofs.Words.{reply_json, row_json, integer_json, list_json, name_json, number_json, one_json, pair_json, three_json}
 use Rattle.json.specs.Tree as tree
-use Rattle.json.proofs.Printed.Decimals.{IsNumber-decimal, IsNumber-signed_decimal}
-use Rattle.serde_json.specs.Data.{Data, string}
-use Rattle.serde_json.specs.Read.{of_items, of_json, read}
-use Rattle.serde_json.specs.View.{items_of}
-use Rattle.serde_json.specs.Written.{compact_text, items_outline, outline}
-use Rattle.serde_json.proofs.Numbers.{number_of-decimal, number_of-negative}
-use Rattle.rb_money.specs.Settings.{Settings}
-use Rattle.rb_money.specs.declared.limits.TheConstants.{MOST_SITES, MOST_SITES_OF_VERSION_1}
-use Rattle.rb_money.specs.declared.place.Place.{Place}
 use Rattle.rb_money.specs.declared.refusal.Cause.{Cause}
-use Rattle.rb_money.specs.declared.refusal.Cause.TheVariants.{Declined as CauseDeclined, Refused as CauseRefused}
-use Rattle.rb_money.specs.declared.refusal.Refusal.{Refusal}
-use Rattle.rb_money.specs.declared.refusal.Refusal.TheVariants.{OutOfMemory, AlreadyCancelled, RedBehind, BatchRefused, BadMessage}
-use Rattle.rb_money.specs.Refusals.{number_of_refusal}
-use Rattle.rb_scratch.specs.declared.request.Request.{Request}
-use Rattle.rb_scratch.specs.declared.request.Request.TheVariants.{Deposit, Withdraw, Interest, Cancel, Transfer}
-use Rattle.rb_shadow.specs.NameText.{IsName}
-use Rattle.rb_shadow.specs.declared.kind.Kind.{Kind}
-use Rattle.rb_shadow.specs.declared.kind.Kind.TheVariants.{Cancel as CancelKind, Transfer as TransferKind}
-use Rattle.rb_shadow.specs.declared.shadow.Shadow.{Shadow}
-use Rattle.rb_site.specs.declared.event.Event.{Event}
-use Rattle.rb_site.specs.declared.event.Event.TheVariants.{Submit, Batch, Receive, Apply, Pass, Balance, AsOf, Statement}
-use Rattle.rb_site.specs.declared.message.Message.TheVariants.{Shadow as ShadowMessage, Token as TokenOnItsWay}
-use Rattle.rb_site.specs.declared.reply.Reply.{Reply}
-use Rattle.rb_site.specs.declared.reply.Reply.TheVariants.{Made, Names, Held, Already, Taken, Stale, Applied, Passed, Balance as BalanceIs}
-use Rattle.rb_site.specs.declared.reply.Reply.TheVariants.{Statement as StatementIs, Refused}
-use Rattle.rb_statements.specs.declared.row.Row.{Row}
-use Rattle.rb_history.specs.Counts.{blue_json, numbered_from, numbered_json}
-use Rattle.rb_history.specs.Entries.{asked_entry_json, asked_json, deps_json, event_json, request_json, shadow_json}
-use Rattle.rb_history.specs.Fits.{Each, IsCause, IsEvent, IsMoved, IsRefusal, IsReply, IsRequest, IsStatementRow, IsShadow}
-use Rattle.rb_history.specs.Ids.{AskedEntry}
-use Rattle.rb_history.specs.Replies.{cause_json, refusal_json, reply_json}
-use Rattle.rb_history.specs.Statements.{row_json}
-use Rattle.rb_history.specs.Values.{integer_json, list_json, name_json, number_json, one_json, pair_json, three_json}
 use Rattle.rb_history.proofs.Reading.{compact_read}
 use Rattle.rb_history.proofs.CountsBack.{each_take}
 use Rattle.rb_history.proofs.Numbered.{numbered_fit}
@@ -74,30 +49,26 @@ texts : {A : Type 0} (written : A → Data) (P : A → Type 0) (most : ℕ) → 
 texts written P most each [] h = record { numbers = tt; shallow = omega arith; same = refl }
 texts written P most each (x ∷ xs) h =
     let first = each x h.0 in
-    let later = texts written P most each xs h.1 in
-    let a = first.shallow in
-    let b = later.shallow in
-    record { numbers = (first.numbers, later.numbers); shallow = omega arith; same = rw (first.same, later.same) refl }
+    let later = texts written P most each xs h.1 in record {
+      numbers = (first.numbers, later.numbers);
+      shallow = omega (arith, first.shallow, later.shallow);
+      same = rw (first.same, later.same) refl;
+    }
 
 -- a list, one deeper than its items
 pub list_text : {A : Type 0} (written : A → Data) (P : A → Type 0) (most : ℕ) → ((x : A) → P x → IsText (written x) most) → (xs : List A)
     → Each P xs → IsText (list_json written xs) (suc most)
 list_text written P most each xs h =
     let all = texts written P most each xs h in
-    let a = all.shallow in
-    record { numbers = all.numbers; shallow = omega arith; same = rw all.same refl }
+    record { numbers = all.numbers; shallow = omega (arith, all.shallow); same = rw all.same refl }
 
 one_text : (key : List ℕ) (value : Data) (most : ℕ) → IsText value most → IsText (one_json key value) (suc most)
-one_text key value most v =
-    let a = v.shallow in
-    record { numbers = (v.numbers, tt); shallow = omega arith; same = rw v.same refl }
+one_text key value most v = record { numbers = (v.numbers, tt); shallow = omega (arith, v.shallow); same = rw v.same refl }
 
 -- a pair, one deeper than its parts
 pub pair_text : (a b : Data) (most : ℕ) → IsText a most → IsText b most → IsText (pair_json a b) (suc most)
 pair_text a b most x y =
-    let d = x.shallow in
-    let e = y.shallow in
-    record { numbers = (x.numbers, (y.numbers, tt)); shallow = omega arith; same = rw (x.same, y.same) refl }
+    record { numbers = (x.numbers, (y.numbers, tt)); shallow = omega (arith, x.shallow, y.shallow); same = rw (x.same, y.same) refl }
 
 three_text : (a b c : Data) (most : ℕ) → IsText a most → IsText b most → IsText c most → IsText (three_json a b c) (suc most)
 three_text a b c most x y z =
@@ -107,9 +78,7 @@ three_text a b c most x y z =
     record { numbers = (x.numbers, (y.numbers, (z.numbers, tt))); shallow = omega arith; same = rw (x.same, y.same, z.same) refl }
 
 deeper : (d : Data) (few most : ℕ) → IsText d few → few ≤ most → IsText d most
-deeper d few most t h =
-    let a = t.shallow in
-    record { numbers = t.numbers; shallow = omega arith; same = t.same }
+deeper d few most t h = record { numbers = t.numbers; shallow = omega (arith, t.shallow); same = t.same }
 
 -- ---- events
 
@@ -158,24 +127,21 @@ shadow_text s v h = of_kind v.kind
     home = let small = h.home in number_text v.home (omega arith)
 
     of_kind : (kind : Kind) → IsText (shadow_json s (with_kind v kind)) 4
-    of_kind (CancelKind x) = let d = deps.shallow in
-        record {
-          numbers = (tt, (amount.numbers, (deps.numbers, (home.numbers, (tt, (tt, (tt, tt)))))));
-          shallow = omega arith;
-          same = rw (amount.same, deps.same, home.same) refl;
-        }
-    of_kind (TransferKind to) = let d = deps.shallow in
-        record {
-          numbers = (tt, (amount.numbers, (deps.numbers, (home.numbers, (tt, (tt, (tt, tt)))))));
-          shallow = omega arith;
-          same = rw (amount.same, deps.same, home.same) refl;
-        }
-    of_kind _ = let d = deps.shallow in
-        record {
-          numbers = (tt, (amount.numbers, (deps.numbers, (home.numbers, (tt, (tt, tt))))));
-          shallow = omega arith;
-          same = rw (amount.same, deps.same, home.same) refl;
-        }
+    of_kind (CancelKind x) = record {
+      numbers = (tt, (amount.numbers, (deps.numbers, (home.numbers, (tt, (tt, (tt, tt)))))));
+      shallow = omega (arith, deps.shallow);
+      same = rw (amount.same, deps.same, home.same) refl;
+    }
+    of_kind (TransferKind to) = record {
+      numbers = (tt, (amount.numbers, (deps.numbers, (home.numbers, (tt, (tt, (tt, tt)))))));
+      shallow = omega (arith, deps.shallow);
+      same = rw (amount.same, deps.same, home.same) refl;
+    }
+    of_kind _ = record {
+      numbers = (tt, (amount.numbers, (deps.numbers, (home.numbers, (tt, (tt, tt))))));
+      shallow = omega (arith, deps.shallow);
+      same = rw (amount.same, deps.same, home.same) refl;
+    }
 
 -- the text of an event is read as its JSON object
 pub event_text : (s : Settings) (e : Event) → IsEvent s e → IsText (event_json s e) 5
@@ -200,10 +166,9 @@ row_text r (position, name, moved, balance) =
     let a = number_text r.position (omega arith) in
     let b = integer_text r.moved moved in
     let c = number_text r.balance balance in
-    let depth = b.shallow in
     record {
       numbers = (a.numbers, (tt, (tt, (b.numbers, (tt, (c.numbers, tt))))));
-      shallow = omega arith;
+      shallow = omega (arith, b.shallow);
       same = rw (a.same, b.same, c.same) refl;
     }
 
@@ -283,14 +248,10 @@ entry_text s site x h e r = at x.id
     at : (id : List ℕ) → read (compact_text (asked_entry_json s site (record { id = id; entry = x.entry })))
         ≡ Some (asked_entry_json s site (record { id = id; entry = x.entry }))
     at [] =
-        let a = event.shallow in
-        let b = reply.shallow in
         let line = asked_entry_json s site (record { id = []; entry = x.entry }) in
-        compact_read line line (event.numbers, (reply.numbers, (number.numbers, tt))) (omega arith)
+        compact_read line line (event.numbers, (reply.numbers, (number.numbers, tt))) (omega (arith, event.shallow, reply.shallow))
         (rw (event.same, reply.same, number.same) refl)
     at (i ∷ is) =
-        let a = event.shallow in
-        let b = reply.shallow in
         let line = asked_entry_json s site (record { id = i ∷ is; entry = x.entry }) in
-        compact_read line line (event.numbers, (tt, (reply.numbers, (number.numbers, tt)))) (omega arith)
+        compact_read line line (event.numbers, (tt, (reply.numbers, (number.numbers, tt)))) (omega (arith, event.shallow, reply.shallow))
         (rw (event.same, reply.same, number.same) refl)

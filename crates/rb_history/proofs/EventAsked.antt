@@ -1,32 +1,17 @@
 -- The line of an event with an id, as its last member or its first, is read as the event with the id.
-use Rattle.std.proofs.Common.{◌≡◌, ◌≤◌, ℕ, List, [], ◌++◌, Option, Some, None, Ordering, Less, Equal, Greater}
-use Rattle.std.proofs.Common.{nat_cmp, is_eq, true, false, true≢false, codes, refl, sym, ap, subst, ◌∙◌, append-nil}
-use Rattle.std.proofs.Common.{inl, inr, arith}
-use Rattle.std.specs.Cmp.Lexicographic.{slice_cmp}
-use Rattle.std.specs.Ordering.{match_ordering}
-use Rattle.std.specs.Prelude.{if◌then◌else◌, option_and_then}
-use Rattle.json.specs.Print.{escape_byte}
-use Rattle.json.specs.Tree.{HasNumbers}
-use Rattle.json.specs.Tree as tree
-use Rattle.serde_json.specs.Data.{Data, Members, string, object, put, member, no_members}
-use Rattle.serde_json.specs.Find.{get}
-use Rattle.serde_json.specs.Read.{max_depth, of_json}
-use Rattle.serde_json.specs.Written.{compact_text, outline}
-use Rattle.serde_json.proofs.Views.{get_member-put, get_member-put_other}
-use Rattle.rb_money.specs.Settings.{IsConfigured, Settings}
-use Rattle.rb_site.specs.declared.event.Event.{Event}
-use Rattle.rb_history.specs.Beginnings.{BeginsWithEvent, BeginsWithMember, BeginsWithOwn, EndsWithId, behind_quote}
-use Rattle.rb_history.specs.Entries.{asked_event_at, asked_event_of_line, event_json}
-use Rattle.rb_history.specs.Ids.{AskedEvent, id_at, is_id, may_have_id}
-use Rattle.rb_history.specs.Recorded.{event_at, recorded_of}
-use Rattle.rb_history.specs.Values.{one_json}
+use Rattle.rb_history.proofs.Words.{◌≡◌, ℕ, List, [], ◌++◌, Option, Some, None, nat_cmp, true, codes, refl, sym, ap, subst, ◌∙◌, append-nil}
+use Rattle.rb_history.proofs.Words.{inl, inr, arith, slice_cmp, if◌then◌else◌, option_and_then, escape_byte, Data, Members, string, object}
+use Rattle.rb_history.proofs.Words.{put, member, no_members, get, compact_text, get_member-put, get_member-put_other, IsConfigured}
+use Rattle.rb_history.proofs.Words.{Settings, Event, BeginsWithEvent, BeginsWithMember, BeginsWithOwn, EndsWithId, behind_quote}
+use Rattle.rb_history.proofs.Words.{asked_event_at, asked_event_of_line, event_json, AskedEvent, id_at, is_id, may_have_id, event_at}
+use Rattle.rb_history.proofs.Words.{recorded_of, one_json}
 use Rattle.rb_history.proofs.EntryBack.{event_back}
 use Rattle.rb_history.proofs.EntryText.{IsText, event_text}
 use Rattle.rb_history.proofs.EventLine.{event_line, without_id}
 use Rattle.rb_history.proofs.Public.IdText.{id_quoted, id_read}
 use Rattle.rb_history.proofs.OneMember.{in_object, member_text}
-use Rattle.rb_history.proofs.Reading.{compact_read}
-use Rattle.rb_history.proofs.Sited.{unequal}
+use Rattle.rb_history.proofs.Reading.{line_read}
+use Rattle.rb_history.proofs.Sited.{in_order, unequal}
 
 -- the event with its id
 abbrev pub with_id : List ℕ → Event → AskedEvent
@@ -59,22 +44,6 @@ alone_first s key value id found = ap (λ o. beside s key value (option_and_then
 alone_last : (s : Settings) (key : List ℕ) (value id : Data) → ReadsAlone s key value id (id_first key value id)
 alone_last s key value id found = refl
 
--- so it is in the order of the keys, the key put to the id
-by_key : (o : Ordering) (s : Settings) (key : List ℕ) (value id : Data) → is_eq o ≡ false
-    → ReadsAlone s key value id
-    (match_ordering o (key_first key value id) (member (codes "id") value no_members) (id_first key value id))
-by_key Less s key value id other = alone_first s key value id
-by_key Equal s key value id other = absurd (true≢false other)
-by_key Greater s key value id other = alone_last s key value id
-
--- and the id put to the key
-by_id : (o : Ordering) (s : Settings) (key : List ℕ) (value id : Data) → is_eq o ≡ false
-    → ReadsAlone s key value id
-    (match_ordering o (id_first key value id) (member key id no_members) (key_first key value id))
-by_id Less s key value id other = alone_last s key value id
-by_id Equal s key value id other = absurd (true≢false other)
-by_id Greater s key value id other = alone_first s key value id
-
 -- an object of an id alone is no event
 no_id : (s : Settings) (key : List ℕ) (value : Data) (e : Event) → event_at s (one_json key value) ≡ Some e
     → key ≡ codes "id" → ⊥
@@ -99,8 +68,9 @@ put_last : (s : Settings) (key : List ℕ) (value : Data) (t : List ℕ) (e : Ev
 put_last s key value t e back is may =
     let other = no_id s key value e back in
     let found = get_member-put (codes "id") (string t) (member key value no_members) in
-    by_id (slice_cmp nat_cmp (codes "id") key) s key value (string t)
-    (unequal (codes "id") key (λ f. other (sym f))) found
+    in_order (slice_cmp nat_cmp (codes "id") key) (ReadsAlone s key value (string t)) (id_first key value (string t))
+    (member key (string t) no_members) (key_first key value (string t)) (unequal (codes "id") key (λ f. other (sym f)))
+    (alone_last s key value (string t)) (alone_first s key value (string t)) found
     ∙ found_beside s key value t e back is may
 
 -- with the member of the event put to the id
@@ -111,18 +81,12 @@ put_first s key value t e back is may =
     let other = no_id s key value e back in
     let found = get_member-put_other (codes "id") key value (member (codes "id") (string t) no_members)
     (λ f. other (sym f)) in
-    by_key (slice_cmp nat_cmp key (codes "id")) s key value (string t) (unequal key (codes "id") other) found
+    in_order (slice_cmp nat_cmp key (codes "id")) (ReadsAlone s key value (string t)) (key_first key value (string t))
+    (member (codes "id") value no_members) (id_first key value (string t)) (unequal key (codes "id") other)
+    (alone_first s key value (string t)) (alone_last s key value (string t)) found
     ∙ found_beside s key value t e back is may
 
 -- ---- the line
-
--- the text of an object, its keys in any order, is read as what the object is
-line_read : (s : Settings) (turned d : Data) (x : AskedEvent) (line : List ℕ) → line ≡ compact_text turned
-    → HasNumbers (outline turned) → tree.depth (outline turned) ≤ max_depth → of_json (outline turned) ≡ Some d
-    → asked_event_at s d ≡ Some x → asked_event_of_line s line ≡ Some x
-line_read s turned d x line text numbers shallow same is =
-    ap (asked_event_of_line s) text
-    ∙ ap (option_and_then (asked_event_at s)) (compact_read turned d numbers shallow same) ∙ is
 
 -- the line with the id behind the event
 id_behind : (s : Settings) → IsConfigured s → (t : List ℕ) (e : Event) (line text rest : List ℕ)
@@ -138,7 +102,7 @@ id_behind s c t e line text rest begun (_, fits, m) ended is may =
     let front = λ (l : List ℕ). codes "{\"" ++ (behind_quote m.key ++ (codes ":" ++ (compact_text m.value ++ l))) in
     let same : line ≡ compact_text turned = begun ∙ ap (λ l. codes "{\"" ++ l) m.written ∙ ap front ended
     ∙ ap (λ l. front (codes ",\"id\":" ++ l)) (sym (id_quoted t (codes "}") is)) in
-    line_read s turned sited (with_id t e) line same (value.numbers, (tt, tt)) (omega arith) (rw value.same refl)
+    line_read (asked_event_at s) turned sited (with_id t e) line same (value.numbers, (tt, tt)) (omega arith) (rw value.same refl)
     (put_last s m.key m.value t e back is may)
 
 -- the line with the id before the event
@@ -158,7 +122,7 @@ id_before s c t e line behind text rest begun after (_, fits, m) ended is may =
     let same : line ≡ compact_text turned = begun
     ∙ ap front (after ∙ ap (λ l. codes ",\"" ++ l) m.written ∙ ap own ended)
     ∙ ap (λ l. codes "{\"id\":" ++ l) (sym (id_quoted t (own (codes "}")) is)) in
-    line_read s turned sited (with_id t e) line same (tt, (value.numbers, tt)) (omega arith) (rw value.same refl)
+    line_read (asked_event_at s) turned sited (with_id t e) line same (tt, (value.numbers, tt)) (omega arith) (rw value.same refl)
     (put_first s m.key m.value t e back is may)
 
 -- a line that ends behind an object's member is the text of the object

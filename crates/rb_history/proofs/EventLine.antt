@@ -1,16 +1,7 @@
 -- The line of an event by itself is read as the event.
-use Rattle.std.proofs.Common.{◌≡◌, ◌==◌, [], Some, ap, ◌∙◌, refl, arith}
-use Rattle.std.proofs.lemmas.Bool.{eqb-true}
-use Rattle.std.specs.Prelude.{option_and_then, option_map}
-use Rattle.serde_json.specs.Data.{Data}
-use Rattle.rb_money.specs.Settings.{Settings}
-use Rattle.rb_site.specs.declared.event.Event.{Event}
+use Rattle.rb_history.proofs.Words.{◌≡◌, ◌==◌, [], Some, ap, ◌∙◌, refl, arith, eqb-true, option_and_then, option_map, Data, Settings, Event}
+use Rattle.rb_history.proofs.Words.{asked_event_at, event_json, EventsAreRead, AskedEvent, event_at, recorded_of, size_of}
 use Rattle.rb_history.proofs.Reading.{compact_read}
-use Rattle.rb_history.specs.Entries.{asked_event_at, event_json}
-use Rattle.rb_history.specs.Fits.{EventsAreRead}
-use Rattle.rb_history.specs.Ids.{AskedEvent}
-use Rattle.rb_history.specs.Recorded.{event_at, recorded_of}
-use Rattle.rb_history.specs.Values.{size_of}
 use Rattle.rb_history.proofs.EntryBack.{event_back}
 use Rattle.rb_history.proofs.EntryText.{event_text}
 use Rattle.rb_history.proofs.FitsLaws.{tested}

@@ -1,16 +1,8 @@
 -- A request that is read, or an event that commands have too, fits a line.
-use Rattle.std.proofs.Common.{◌^◌, codes}
-use Rattle.std.specs.Prelude.{◌==◌, IfSome}
-use Rattle.serde_json.specs.Data.{Data, Items, no_items, item}
-use Rattle.serde_json.specs.Find.{as_array, get}
-use Rattle.rb_money.specs.Settings.{Settings}
-use Rattle.rb_scratch.specs.declared.request.Request.TheVariants.{Deposit, Withdraw, Interest, Cancel, Transfer}
-use Rattle.rb_shadow.specs.NameText.{IsName}
-use Rattle.rb_site.specs.declared.event.Event.TheVariants.{Submit, Batch, Apply, Pass, Balance, AsOf, Statement}
-use Rattle.rb_history.specs.Commands.{teller_event_of, event_of}
-use Rattle.rb_history.specs.Requests.{place_at, request_alone, request_of, requests_at, requests_in, transfer_at}
-use Rattle.rb_history.specs.Values.{name_at, number_below, size_of, three_of}
-use Rattle.rb_history.specs.Fits.{Each, IsEvent, IsKnown, IsRequest}
+use Rattle.rb_history.proofs.Words.{◌^◌, codes, ◌==◌, IfSome, Data, Items, no_items, item, as_array, get, Settings, Deposit, Withdraw}
+use Rattle.rb_history.proofs.Words.{Interest, Cancel, Transfer, IsName, Submit, Batch, Apply, Pass, Balance, AsOf, Statement}
+use Rattle.rb_history.proofs.Words.{teller_event_of, event_of, place_at, request_alone, request_of, requests_at, requests_in, transfer_at}
+use Rattle.rb_history.proofs.Words.{name_at, number_below, size_of, three_of, Each, IsEvent, IsKnown, IsRequest}
 use Rattle.rb_history.proofs.FitsLaws.{IsByte, IsLong, fits_cons, fits_either, fits_if, fits_map, fits_next, fits_then}
 use Rattle.rb_history.proofs.PartsFit.{asked, name, number, place}
 

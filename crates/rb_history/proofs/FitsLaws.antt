@@ -1,11 +1,6 @@
 -- A value that may be missing fits if it is there, step by step.
-use Rattle.std.proofs.Common.{◌≡◌, ◌<◌, ◌^◌, ℕ, Bool, true, false, List, ◌∷◌, Option, Some, None, refl, subst}
-use Rattle.std.specs.Prelude.{IfSome, if◌then◌else◌, option_and_then, option_map}
-use Rattle.serde_json.specs.Data.{Data}
-use Rattle.serde_json.specs.Find.{get}
-use Rattle.rb_history.specs.Values.{either}
-use Rattle.rb_history.specs.Fields.{field}
-use Rattle.rb_history.specs.Fits.{Each}
+use Rattle.rb_history.proofs.Words.{◌≡◌, ◌<◌, ◌^◌, ℕ, Bool, true, false, List, ◌∷◌, Option, Some, None, refl, subst, IfSome, if◌then◌else◌}
+use Rattle.rb_history.proofs.Words.{option_and_then, option_map, Data, get, either, field, Each}
 
 -- numbers of 8, 32 and 64 bits
 abbrev pub IsByte : ℕ → Type 0

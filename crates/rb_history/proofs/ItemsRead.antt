@@ -1,9 +1,6 @@
 -- The items of a list, read one by one.
-use Rattle.std.proofs.Common.{◌≡◌, ◌+◌, ℕ, List, [], ◌∷◌, ◌++◌, drop, Option, Some, None, sym, ap, ◌∙◌, append_assoc}
-use Rattle.std.specs.Prelude.{option_and_then, option_map}
-use Rattle.serde_json.specs.Data.{Data, Items, item}
-use Rattle.serde_json.specs.View.{items_view, view}
-use Rattle.serde_json.specs.declared.value.Value.{Value}
+use Rattle.rb_history.proofs.Words.{◌≡◌, ◌+◌, ℕ, List, [], ◌∷◌, ◌++◌, drop, Option, Some, None, sym, ap, ◌∙◌, append_assoc, option_and_then}
+use Rattle.rb_history.proofs.Words.{option_map, Data, Items, item, items_view, view, Value}
 use Rattle.rb_history.proofs.Reading.{with_front}
 
 -- a list is read by reading its first item, and then those behind it

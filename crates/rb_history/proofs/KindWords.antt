@@ -1,19 +1,11 @@
 -- Words of kinds.
-use Rattle.std.proofs.Common.{◌≡◌, ℕ, Bool, true, false, List, refl}
-use Rattle.std.specs.Prelude.{None}
-use Rattle.std.specs.Str.{bytes_eq}
-use Rattle.std.proofs.lemmas.Slice.Eq.{bytes_eq-Decides}
-use Rattle.rb_history.specs.KindWords.{label_of_word, word_of}
-use Rattle.rb_shadow.specs.declared.label.Label.{Label}
-use Rattle.rb_shadow.specs.declared.label.Label.TheVariants.{Deposit, Withdraw, Declined, Interest, Cancel, Transfer}
+use Rattle.rb_history.proofs.Words.{◌≡◌, ℕ, false, List, refl, None, bytes_eq, bytes_eq-Decides, label_of_word, word_of, Label, Declined}
+use Rattle.rb_shadow.specs.declared.label.Label.TheVariants.{Deposit, Withdraw, Interest, Cancel, Transfer}
+use Rattle.rb_history.proofs.KnownPlaces.{fails}
 
 -- a text that is no kind's word
 pub no_word : (word : List ℕ) → ((l : Label) → word ≡ word_of l → ⊥) → label_of_word word ≡ None
 no_word word none = rw (other Deposit, other Withdraw, other Declined, other Interest, other Cancel, other Transfer) refl
   where
-    off : (b : Bool) → (b ≡ true → ⊥) → b ≡ false
-    off true f = absurd (f refl)
-    off false f = refl
-
     other : (l : Label) → bytes_eq word (word_of l) ≡ false
-    other l = off (bytes_eq word (word_of l)) (λ e. none l ((bytes_eq-Decides word (word_of l)).0 e))
+    other l = fails (bytes_eq word (word_of l)) (word ≡ word_of l) (bytes_eq-Decides word (word_of l)) (none l)

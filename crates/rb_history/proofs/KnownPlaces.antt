@@ -1,18 +1,10 @@
 -- An account's name leads back to its place.
-use Rattle.std.proofs.Common.{◌≡◌, ◌≤◌, ◌+◌, ℕ, zero, suc, List, [], ◌∷◌, length, get_or, Some, None, Option, Bool, true, false, cond, refl}
-use Rattle.std.proofs.Common.{sym, ap, ◌∙◌, inl, inr, arith}
-use Rattle.std.specs.Prelude.{codes, unwrap_or, slice_get, bytes_eq, option_map}
+use Rattle.rb_history.proofs.Words.{◌≡◌, ◌≤◌, ◌+◌, ℕ, zero, suc, List, [], ◌∷◌, length, get_or, Some, None, Option, Bool, true, false, cond}
+use Rattle.rb_history.proofs.Words.{refl, sym, ap, ◌∙◌, inl, inr, arith, codes, unwrap_or, slice_get, bytes_eq, option_map, position_from}
+use Rattle.rb_history.proofs.Words.{slice_get-get_or, slice_get_past, bytes_eq-Decides, IsConfigured, Settings, is_account_name, Place}
+use Rattle.rb_history.proofs.Words.{IsKnown, account_place, NOWHERE, MOST_ACCOUNTS}
 use Rattle.std.specs.Bool.{Decides}
-use Rattle.std.specs.List.{position_from}
 use Rattle.std.proofs.lemmas.Iterator.Adapters.{position_from-zero}
-use Rattle.std.proofs.lemmas.Option.{slice_get-get_or, slice_get_past}
-use Rattle.std.proofs.lemmas.Slice.Eq.{bytes_eq-Decides}
-use Rattle.rb_money.specs.Settings.{IsConfigured, Settings, is_account_name}
-use Rattle.rb_money.specs.declared.place.Place.{Place}
-use Rattle.rb_history.specs.Fits.{IsKnown}
-use Rattle.rb_history.specs.Requests.{account_place}
-use Rattle.rb_money.specs.declared.place.TheConstants.Place.{NOWHERE}
-use Rattle.rb_money.specs.declared.limits.TheConstants.{MOST_ACCOUNTS}
 
 passes : (b : Bool) (P : Type 0) → Decides b P → P → b ≡ true
 passes true P d p = refl

@@ -1,4 +1,5 @@
 pub mod Public
+mod Words
 mod Shapes
 mod KindWords
 mod Utf8

@@ -1,28 +1,16 @@
 -- A valid list is short, and its balances are small.
-use Rattle.std.proofs.Common.{◌≡◌, ◌<◌, ◌≤◌, ◌+◌, ◌*◌, ℕ, zero, suc, Bool, true, false, cond, ◌||◌, List, [], ◌∷◌, length, refl, ap, arith}
-use Rattle.std.proofs.Common.{inl, inr}
-use Rattle.std.specs.Prelude.{◌==◌, ◌⊎◌, count_by, slice_get, slice_index, Option, Some, None, ℤ, pos, ◌≤ℤ◌}
-use Rattle.std.proofs.lemmas.Bool.Decides.{nat_tests}
-use Rattle.std.proofs.lemmas.Int.{ints}
+use Rattle.rb_history.proofs.Words.{◌≡◌, ◌<◌, ◌≤◌, ◌+◌, ◌*◌, ℕ, zero, suc, Bool, true, false, cond, ◌||◌, List, [], ◌∷◌, length, refl, ap}
+use Rattle.rb_history.proofs.Words.{arith, inl, inr, ◌==◌, ◌⊎◌, count_by, slice_get, slice_index, Option, Some, None, ℤ, pos, ◌≤ℤ◌}
+use Rattle.rb_history.proofs.Words.{nat_tests, ints, cents, IsConfigured, Settings, start_of, MOST_CENTS, MOST_BALANCE, MOST_BLUE}
+use Rattle.rb_history.proofs.Words.{MOST_OPERATIONS, MOST_RED, MOST_SITES, Place, at_most, Among, arrived, bal, blue_count, delta}
+use Rattle.rb_history.proofs.Words.{is_blue_of, is_red, moved, receiver_of, red_count, total, IsSound, Kind, OpName, Blue, Red, Shadow}
+use Rattle.rb_history.proofs.Words.{IsValid}
 use Rattle.std.proofs.lemmas.List.Sums.{sum_by-cons}
-use Rattle.rb_money.specs.Amounts.{cents}
-use Rattle.rb_money.specs.Settings.{IsConfigured, Settings, start_of}
-use Rattle.rb_money.specs.declared.cents.TheConstants.{MOST_CENTS}
-use Rattle.rb_money.specs.declared.limits.TheConstants.{MOST_BALANCE, MOST_BLUE, MOST_OPERATIONS, MOST_RED, MOST_SITES}
-use Rattle.rb_money.specs.declared.place.Place.{Place}
-use Rattle.rb_money.proofs.Public.Tests.{at_most}
-use Rattle.rb_shadow.specs.Operations.{Among, arrived, bal, blue_count, delta, is_blue_of, is_red, moved, receiver_of, red_count, total}
-use Rattle.rb_shadow.specs.Sound.{IsSound}
-use Rattle.rb_shadow.specs.declared.kind.Kind.{Kind}
 use Rattle.rb_shadow.specs.declared.kind.Kind.TheVariants.{Withdraw, Transfer}
-use Rattle.rb_shadow.specs.declared.op_name.OpName.{OpName}
-use Rattle.rb_shadow.specs.declared.op_name.OpName.TheVariants.{Blue, Red}
-use Rattle.rb_shadow.specs.declared.shadow.Shadow.{Shadow}
 use Rattle.rb_shadow.proofs.Public.Balances
 use Rattle.rb_shadow.proofs.Public.Clocks
 use Rattle.rb_shadow.proofs.Public.Members
 use Rattle.rb_shadow.proofs.Public.SoundFacts
-use Rattle.rb_ledger.specs.Valid.{IsValid}
 use Rattle.rb_ledger.proofs.Public.Legal
 use Rattle.rb_ledger.proofs.Public.ValidClocks
 

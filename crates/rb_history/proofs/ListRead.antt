@@ -1,12 +1,7 @@
 -- A list that is read item by item.
-use Rattle.std.proofs.Common.{◌≡◌, List, [], ◌∷◌, ◌++◌, ℕ, codes, refl, sym, ap, ◌∙◌, append_assoc, append-nil, false}
-use Rattle.std.specs.Prelude.{map}
-use Rattle.std.proofs.lemmas.List.{map-append}
-use Rattle.serde_json.specs.Data.{Data}
-use Rattle.serde_json.specs.View.{items_of}
-use Rattle.serde_json.specs.Written.{compact_text, items_text}
+use Rattle.rb_history.proofs.Words.{◌≡◌, List, [], ◌∷◌, ◌++◌, ℕ, codes, refl, sym, ap, ◌∙◌, append_assoc, append-nil, false, map}
+use Rattle.rb_history.proofs.Words.{map-append, Data, items_of, compact_text, items_text, Each}
 use Rattle.rb_history.proofs.Public.Listed.{rest_text, whole_text}
-use Rattle.rb_history.specs.Fits.{Each}
 
 -- the text begins with these items, whatever items are left, this before the first of them
 abbrev pub BeginsWith : {A : Type 0} → (A → Data) → List ℕ → List ℕ → List ℕ → List A → Type 0

@@ -1,31 +1,15 @@
 -- The operations that a site makes, and the token that it passes on, fit a line.
-use Rattle.std.proofs.Common.{◌≡◌, ◌<◌, ◌≤◌, ◌-◌, ◌^◌, ℕ, zero, suc, Bool, true, false, not, List, [], ◌∷◌, length, drop}
-use Rattle.std.proofs.Common.{refl, ap, subst, ◌∙◌, inl, inr, arith}
-use Rattle.std.specs.Prelude.{◌==◌, if◌then◌else◌, nat_le, nat_lt}
-use Rattle.std.proofs.lemmas.Bool.{and_parts}
-use Rattle.std.proofs.lemmas.Bool.Decides.{nat_tests}
+use Rattle.rb_history.proofs.Words.{◌≡◌, ◌<◌, ◌≤◌, ◌-◌, ◌^◌, ℕ, zero, suc, Bool, true, false, not, List, [], ◌∷◌, length, drop, refl, ap}
+use Rattle.rb_history.proofs.Words.{subst, ◌∙◌, inl, inr, arith, ◌==◌, if◌then◌else◌, nat_le, nat_lt, and_parts, nat_tests, IsConfigured}
+use Rattle.rb_history.proofs.Words.{IsVersion, Settings, MOST_CENTS, MOST_SITES, MOST_SITES_OF_VERSION_1, IsName, blue_count, clock_of}
+use Rattle.rb_history.proofs.Words.{number_of, receiver_of, target_of, are_entries, is_foreign, is_misdirected, limit_of, Kind, OpName}
+use Rattle.rb_history.proofs.Words.{Blue, Red, Shadow, SoundFacts, sound_facts, HasTarget, IsValid, MayFollow, member_sound, Each, IsKind}
+use Rattle.rb_history.proofs.Words.{IsShadow}
 use Rattle.std.proofs.lemmas.List.FromFn.{length-map-range_with_len}
-use Rattle.rb_money.specs.Settings.{IsConfigured, IsVersion, Settings}
-use Rattle.rb_money.specs.declared.cents.TheConstants.{MOST_CENTS}
-use Rattle.rb_money.specs.declared.limits.TheConstants.{MOST_SITES, MOST_SITES_OF_VERSION_1}
-use Rattle.rb_shadow.specs.NameText.{IsName}
-use Rattle.rb_shadow.specs.Operations.{blue_count, clock_of, number_of, receiver_of, target_of}
-use Rattle.rb_shadow.specs.Sound.{are_entries, is_foreign, is_misdirected, limit_of}
-use Rattle.rb_shadow.specs.declared.kind.Kind.{Kind}
 use Rattle.rb_shadow.specs.declared.kind.Kind.TheVariants.{Cancel, Transfer}
-use Rattle.rb_shadow.specs.declared.op_name.OpName.{OpName}
-use Rattle.rb_shadow.specs.declared.op_name.OpName.TheVariants.{Blue, Red}
-use Rattle.rb_shadow.specs.declared.shadow.Shadow.{Shadow}
-use Rattle.rb_shadow.proofs.Public.SoundFacts.{SoundFacts, sound_facts}
-use Rattle.rb_ledger.specs.Valid.{HasTarget, IsValid}
-use Rattle.rb_ledger.proofs.Public.Legal.{MayFollow}
-use Rattle.rb_ledger.proofs.Public.ValidClocks.{member_sound}
-use Rattle.rb_history.specs.Fits.{Each, IsKind, IsShadow}
+use Rattle.rb_history.proofs.FitsLaws.{IsWord}
 
 -- ---- a clock's counts
-
-abbrev IsWord : ℕ → Type 0
-IsWord n = n < 2 ^ 32
 
 all_none : (sites limit : ℕ) (ns : List ℕ) → sites ≡ 0 → are_entries sites limit ns ≡ true → Each (λ n. n ≡ 0) ns
 all_none sites limit [] none h = tt

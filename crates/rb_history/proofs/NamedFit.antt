@@ -1,15 +1,7 @@
 -- An event to a bank that is read fits, and its id is one, on an event that may have it, or none.
-use Rattle.std.proofs.Common.{◌==◌, List, ℕ, Option, None, Some, [], ◌∷◌, refl, inl}
-use Rattle.std.specs.Prelude.{IfSome}
-use Rattle.serde_json.specs.Data.{Data}
-use Rattle.serde_json.specs.Read.{read}
-use Rattle.rb_money.specs.Settings.{Settings}
-use Rattle.rb_history.specs.Banks.{ReadEventsFit, event_beside, event_named, event_or, event_to, has_bank, is_receipt}
-use Rattle.rb_history.specs.Entries.{asked_event_at, event_with_id}
-use Rattle.rb_history.specs.Fits.{IsEvent}
-use Rattle.rb_history.specs.Ids.{AskedEvent}
-use Rattle.rb_history.specs.Recorded.{recorded_of}
-use Rattle.rb_history.specs.Values.{size_of}
+use Rattle.rb_history.proofs.Words.{◌==◌, List, ℕ, Option, None, Some, [], ◌∷◌, refl, inl, IfSome, Data, read, Settings, ReadEventsFit}
+use Rattle.rb_history.proofs.Words.{event_beside, event_named, event_or, event_to, has_bank, is_receipt, asked_event_at, event_with_id}
+use Rattle.rb_history.proofs.Words.{IsEvent, AskedEvent, recorded_of, size_of}
 use Rattle.rb_history.proofs.AskedFit.{FitsAsked, asked, events_fit, fits_with_id}
 use Rattle.rb_history.proofs.FitsLaws.{fits_choice, fits_if, fits_map, fits_next, fits_some}
 use Rattle.rb_history.proofs.ReceiptsFit.{recorded}

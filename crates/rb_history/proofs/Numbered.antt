@@ -1,22 +1,12 @@
 -- The counts above 0, each behind its site's number: written one by one, and read back.
-use Rattle.std.proofs.Common.{◌≡◌, ◌<◌, ◌≤◌, ◌+◌, ◌-◌, ◌^◌, ℕ, List, [], ◌∷◌, ◌++◌, length, take, drop, set, Bool, true, false, Option}
-use Rattle.std.proofs.Common.{Some, None, refl, sym, ap, ap₂, ◌∙◌, arith, append_assoc, append-nil, codes}
-use Rattle.std.specs.Prelude.{◌==◌, map, replicate, if◌then◌else◌, option_and_then, option_map}
-use Rattle.std.proofs.lemmas.Bool.{eqb-true, le-leb}
-use Rattle.std.proofs.lemmas.Bool.Decides.{nat_tests}
-use Rattle.std.proofs.lemmas.List.{drop-drop, drop-replicate, drop-set-lt, drop_all, replicate_more, take-append-drop, take-replicate}
-use Rattle.std.proofs.lemmas.List.{take_more_set}
-use Rattle.std.proofs.Math.Seq.{take-add}
-use Rattle.serde_json.specs.Data.{Data, Items, item}
-use Rattle.serde_json.specs.View.{items_of, items_view, view}
-use Rattle.serde_json.specs.Written.{compact_text}
-use Rattle.serde_json.specs.declared.value.Value.{Value}
-use Rattle.rb_money.specs.declared.limits.TheConstants.{MOST_SITES}
-use Rattle.rb_money.proofs.Public.Tests.{is_below as below}
+use Rattle.rb_history.proofs.Words.{◌≡◌, ◌<◌, ◌≤◌, ◌+◌, ◌-◌, ◌^◌, ℕ, List, [], ◌∷◌, ◌++◌, length, take, drop, set, Bool, true, false}
+use Rattle.rb_history.proofs.Words.{Option, Some, None, refl, sym, ap, ap₂, ◌∙◌, arith, append_assoc, append-nil, codes, ◌==◌, map}
+use Rattle.rb_history.proofs.Words.{replicate, if◌then◌else◌, option_and_then, option_map, eqb-true, le-leb, nat_tests, drop-drop}
+use Rattle.rb_history.proofs.Words.{drop-replicate, drop-set-lt, drop_all, replicate_more, take-append-drop, take-replicate, take_more_set}
+use Rattle.rb_history.proofs.Words.{take-add, Data, Items, item, items_of, items_view, view, compact_text, Value, MOST_SITES, below}
+use Rattle.rb_history.proofs.Words.{numbered_from, numbered_at, numbered_in, numbered_json, Each}
 use Rattle.rb_history.proofs.Reading.{with_front}
 use Rattle.rb_history.proofs.Public.Listed.{rest_text}
-use Rattle.rb_history.specs.Counts.{numbered_from, numbered_at, numbered_in, numbered_json}
-use Rattle.rb_history.specs.Fits.{Each}
 
 -- ---- written
 

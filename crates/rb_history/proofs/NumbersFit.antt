@@ -1,33 +1,26 @@
 -- Numbers with a sign in a value that a text is: each fits 64 bits.
-use Rattle.std.proofs.Common.{◌≡◌, ◌<◌, ◌≤◌, ◌^◌, ℕ, zero, suc, pos, Bool, true, false, Float, List, Option, Some, None, refl, arith}
-use Rattle.std.specs.Prelude.{◌&&◌, IfSome, if◌then◌else◌, nat_le, nat_lt, neg_ℤ, option_and_then, option_map, ⊤}
+use Rattle.rb_history.proofs.Words.{◌≡◌, ◌<◌, ◌≤◌, ◌^◌, ℕ, zero, suc, pos, Bool, true, false, Float, List, Option, Some, None, refl, arith}
+use Rattle.rb_history.proofs.Words.{◌&&◌, IfSome, if◌then◌else◌, nat_le, nat_lt, neg_ℤ, option_and_then, option_map, ⊤, match_ordering}
+use Rattle.rb_history.proofs.Words.{nat_cmp, slice_cmp, and_parts, leb-true, ltb-true, Num, unsigned, negative, float, Data, number, array}
+use Rattle.rb_history.proofs.Words.{object, Items, no_items, item, Members, no_members, member, put, as_array, as_number, get, get_member}
+use Rattle.rb_history.proofs.Words.{of_items, of_json, of_members, read, IsMoved}
 use Rattle.std.specs.declared.cmp.Ordering.{Ordering}
 use Rattle.std.specs.declared.cmp.Ordering.TheVariants.{Less, Equal, Greater}
-use Rattle.std.specs.Ordering.{match_ordering, nat_cmp}
-use Rattle.std.specs.Cmp.Lexicographic.{slice_cmp}
-use Rattle.std.proofs.lemmas.Bool.{and_parts, leb-true, ltb-true}
 use Rattle.json.specs.Json as json
-use Rattle.serde_json.specs.Data.{Num, unsigned, negative, float, Data, null, boolean, number, string, array, object, Items, no_items, item}
-use Rattle.serde_json.specs.Data.{Members, no_members, member, put}
-use Rattle.serde_json.specs.Find.{as_array, as_number, get, get_member}
-use Rattle.serde_json.specs.Read.{number_of, of_items, of_json, of_members, read}
-use Rattle.rb_history.specs.Fits.{IsMoved}
+use Rattle.serde_json.specs.Read.{number_of}
 use Rattle.rb_history.proofs.FitsLaws.{fits_map, fits_then}
 
 -- a negative number fits 64 bits
 abbrev pub FitsNumber : Num → Type 0
-FitsNumber (unsigned n) = ⊤
 FitsNumber (negative z) = IsMoved z
-FitsNumber (float x) = ⊤
+FitsNumber _ = ⊤
 
 abbrev mutual
   pub Fits : Data → Type 0
-  Fits null = ⊤
-  Fits (boolean b) = ⊤
   Fits (number n) = FitsNumber n
-  Fits (string s) = ⊤
   Fits (array ds) = FitItems ds
   Fits (object ms) = FitMembers ms
+  Fits _ = ⊤
 
   pub FitItems : Items → Type 0
   FitItems no_items = ⊤
@@ -116,33 +109,20 @@ fits_member k no_members f = tt
 fits_member k (member l e ms) f = by (fits_member k ms f.1) (slice_cmp nat_cmp k l)
   where
     by : IfSome (get_member k ms) Fits → (o : Ordering) → IfSome (match_ordering o (get_member k ms) (Some e) (get_member k ms)) Fits
-    by later Less = later
     by later Equal = f.0
-    by later Greater = later
+    by later _ = later
 
 -- and those of the value of a key
 pub fits_get : (k : List ℕ) (d : Data) → Fits d → IfSome (get k d) Fits
-fits_get k null f = tt
-fits_get k (boolean b) f = tt
-fits_get k (number n) f = tt
-fits_get k (string s) f = tt
-fits_get k (array ds) f = tt
 fits_get k (object ms) f = fits_member k ms f
+fits_get k _ f = tt
 
 -- and those of a list's items
 pub fits_array : (d : Data) → Fits d → IfSome (as_array d) FitItems
-fits_array null f = tt
-fits_array (boolean b) f = tt
-fits_array (number n) f = tt
-fits_array (string s) f = tt
 fits_array (array ds) f = f
-fits_array (object ms) f = tt
+fits_array _ f = tt
 
 -- and the number that a value is
 pub fits_signed : (d : Data) → Fits d → IfSome (as_number d) FitsNumber
-fits_signed null f = tt
-fits_signed (boolean b) f = tt
 fits_signed (number n) f = f
-fits_signed (string s) f = tt
-fits_signed (array ds) f = tt
-fits_signed (object ms) f = tt
+fits_signed _ f = tt

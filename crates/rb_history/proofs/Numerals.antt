@@ -1,8 +1,5 @@
 -- Numbers in digits, among them those that refusals hold.
-use Rattle.std.proofs.Common.{◌≡◌, ℤ, pos, negsuc, codes, decimal, refl}
-use Rattle.std.specs.Fmt.{digits, signed_decimal}
-use Rattle.serde_json.specs.Find.{of_integer}
-use Rattle.serde_json.specs.Written.{number_text}
+use Rattle.rb_history.proofs.Words.{◌≡◌, ℤ, pos, negsuc, codes, decimal, refl, digits, signed_decimal, of_integer, number_text}
 
 -- an integer as JSON is written with its sign if it is negative
 pub integer_text : (z : ℤ) → number_text (of_integer z) ≡ signed_decimal z

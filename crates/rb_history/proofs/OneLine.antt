@@ -1,21 +1,15 @@
 -- No byte of a written value is a line feed.
-use Rattle.std.proofs.Common.{◌≡◌, ◌+◌, ◌/◌, ◌%◌, ◌<◌, ◌≤◌, ◌==◌, ◌&&◌, ℕ, pos, negsuc, zero, suc, List, [], ◌∷◌, ◌++◌, Bool, true, false}
-use Rattle.std.proofs.Common.{cond, codes, decimal, refl, ap, ap₂, ◌∙◌, inl, inr, arith, rules}
-use Rattle.std.specs.Prelude.{not, nat_lt}
-use Rattle.std.specs.List.{list_all}
-use Rattle.std.specs.Fmt.{digits, digits_onto, digit_glyph}
-use Rattle.std.proofs.lemmas.Bool.{and_parts, cases_lt, cases_eq, ne_eqb}
+use Rattle.rb_history.proofs.Words.{◌≡◌, ◌+◌, ◌<◌, ◌≤◌, ◌==◌, ◌&&◌, ℕ, pos, negsuc, zero, suc, List, [], ◌∷◌, ◌++◌, Bool, true, false}
+use Rattle.rb_history.proofs.Words.{codes, decimal, refl, ap, ap₂, ◌∙◌, inl, inr, arith, rules, not, nat_lt, list_all, digit_glyph}
+use Rattle.rb_history.proofs.Words.{and_parts, cases_lt, cases_eq, ne_eqb, is_utf8-from_IsUtf8, escape_byte_plain, escape, escape_byte}
+use Rattle.rb_history.proofs.Words.{quoted, Num, unsigned, negative, float, Data, null, number, string, array, object, Items, no_items}
+use Rattle.rb_history.proofs.Words.{item, Members, no_members, member, comma_if, number_text, compact_text, items_text, members_text}
+use Rattle.rb_history.proofs.Words.{config_json, asked_entry_json}
 use Rattle.std.proofs.lemmas.List.Folds.{list_all-append}
-use Rattle.std.proofs.lemmas.Str.{is_utf8-from_IsUtf8}
-use Rattle.json.proofs.Printed.Strings.{escape_byte_plain}
-use Rattle.json.specs.Print.{escape, escape_byte, quoted}
-use Rattle.serde_json.specs.Data.{Num, unsigned, negative, float, Data, null, boolean, number, string, array, object, Items, no_items, item}
-use Rattle.serde_json.specs.Data.{Members, no_members, member}
-use Rattle.serde_json.specs.Written.{comma_if, number_text, compact_text, items_text, members_text}
+use Rattle.serde_json.specs.Data.{boolean}
 use Rattle.rb_history.specs.OneLine.{ConfigsAreLines, EntriesAreLines}
-use Rattle.rb_history.specs.ConfigLines.{config_json}
-use Rattle.rb_history.specs.Entries.{asked_entry_json}
 use Rattle.rb_history.proofs.Texts.{config_utf8, entry_utf8}
+use Rattle.rb_history.proofs.Utf8.{decimal_all}
 
 abbrev single : List ℕ → Bool
 single l = list_all (λ b. not (b == 10)) l
@@ -59,23 +53,11 @@ quoted_single s = both (34 ∷ []) (escape s ++ 34 ∷ []) refl (both (escape s)
 
 -- ---- a number
 
-either_single : (b : Bool) (xs ys : List ℕ) → single xs ≡ true → single ys ≡ true → single (cond b xs ys) ≡ true
-either_single true xs ys h k = h
-either_single false xs ys h k = k
-
 glyph_single : (d : ℕ) → d < 10 → not (digit_glyph false d == 10) ≡ true
 glyph_single d h = let low : nat_lt d 10 ≡ true = search rules in rw low (ap not (ne_eqb (48 + d) 10 (λ e. omega arith)))
 
-digits_single : (k n : ℕ) (acc : List ℕ) → single acc ≡ true → single (digits_onto k 10 false n acc) ≡ true
-digits_single zero n acc h = h
-digits_single (suc k) n acc h =
-    let d = digit_glyph false (n % 10) in
-    let more : single (d ∷ acc) ≡ true = ap₂ (λ a b. a && b) (glyph_single (n % 10) (omega arith)) h in
-    either_single (n / 10 == 0) (d ∷ acc) (digits_onto k 10 false (n / 10) (d ∷ acc)) more (digits_single k (n / 10) (d ∷ acc) more)
-
 decimal_single : (n : ℕ) → single (decimal n) ≡ true
-unfolding digits
-decimal_single n = digits_single 64 n [] refl
+decimal_single n = decimal_all (λ b. not (b == 10)) glyph_single n
 
 number_single : (n : Num) → single (number_text n) ≡ true
 number_single (unsigned n) = decimal_single n

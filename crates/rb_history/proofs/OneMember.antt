@@ -1,25 +1,9 @@
 -- The one member of an object, in its object, and beside a command's site.
-use Rattle.std.proofs.Common.{◌≡◌, ◌<◌, ◌^◌, ℕ, List, ◌++◌, Option, None, Some, codes, decimal, refl, sym, ap, subst, ◌∙◌}
-use Rattle.std.proofs.Common.{append_assoc}
-use Rattle.std.proofs.Common.{arith}
-use Rattle.std.specs.Prelude.{option_and_then, option_map}
-use Rattle.json.specs.Print.{escape_byte}
-use Rattle.serde_json.specs.Data.{Data, object, put, no_members}
-use Rattle.serde_json.specs.Read.{of_json}
-use Rattle.serde_json.specs.Written.{compact_text, outline}
-use Rattle.rb_money.specs.Settings.{IsConfigured, Settings}
-use Rattle.rb_money.proofs.Public.Tests.{is_below}
-use Rattle.rb_scratch.specs.declared.request.Request.TheVariants.{Deposit}
-use Rattle.rb_site.specs.Worlds.{IsOwn}
-use Rattle.rb_site.specs.declared.event.Event.{Event}
-use Rattle.rb_site.specs.declared.event.Event.TheVariants.{Submit, Receive}
-use Rattle.rb_site.specs.declared.world_event.WorldEvent.TheVariants.{At, Deliver}
-use Rattle.rb_history.specs.Beginnings.{BeginsWithMember, BeginsWithOwn, behind_quote}
-use Rattle.rb_history.specs.Commands.{command_at, command_for}
-use Rattle.rb_history.specs.Entries.{event_json}
-use Rattle.rb_history.specs.Recorded.{event_at}
-use Rattle.rb_history.specs.SitedLines.{EndsLine, behind_site}
-use Rattle.rb_history.specs.Values.{number_json, one_json}
+use Rattle.rb_history.proofs.Words.{◌≡◌, ◌<◌, ◌^◌, ℕ, List, ◌++◌, Option, None, Some, codes, decimal, refl, sym, ap, subst, ◌∙◌}
+use Rattle.rb_history.proofs.Words.{append_assoc, arith, option_and_then, option_map, escape_byte, Data, object, put, no_members, of_json}
+use Rattle.rb_history.proofs.Words.{compact_text, outline, IsConfigured, Settings, is_below, Deposit, IsOwn, Event, Submit, Receive, At}
+use Rattle.rb_history.proofs.Words.{Deliver, BeginsWithMember, BeginsWithOwn, behind_quote, command_at, command_for, event_json, event_at}
+use Rattle.rb_history.proofs.Words.{EndsLine, behind_site, number_json, one_json}
 use Rattle.rb_history.proofs.EntryBack.{event_back}
 use Rattle.rb_history.proofs.EntryText.{IsText, event_text, number_text}
 use Rattle.rb_history.proofs.UsualLines.{Spells, any_line}

@@ -1,21 +1,9 @@
 -- A number, a name or a place that is read fits its type.
-use Rattle.std.proofs.Common.{◌≡◌, ◌<◌, ◌^◌, ℕ, List, [], Option, Some, None, true, refl, inl, inr}
-use Rattle.std.specs.Prelude.{◌&&◌, IfSome, bytes_eq, if◌then◌else◌, nat_lt, option_and_then, option_map, unwrap_or}
-use Rattle.std.specs.List.{position}
-use Rattle.std.proofs.lemmas.Bool.{and_parts, ltb-true}
-use Rattle.std.proofs.lemmas.List.Quantifiers.{position-Some}
-use Rattle.serde_json.specs.Data.{Data}
-use Rattle.serde_json.specs.Find.{as_number, as_str, as_u64}
-use Rattle.rb_money.specs.Settings.{Settings}
-use Rattle.rb_money.specs.declared.place.Place.{Place}
-use Rattle.rb_money.specs.declared.place.TheConstants.Place.{NOWHERE}
-use Rattle.rb_shadow.specs.NameText.{IsName, candidate, is_name, name_of, name_text}
-use Rattle.rb_shadow.specs.declared.op_name.OpName.{OpName}
-use Rattle.rb_shadow.specs.declared.op_name.OpName.TheVariants.{Blue, Red}
-use Rattle.rb_history.specs.Requests.{account_place, asked_of, place_at}
-use Rattle.rb_history.specs.Values.{name_at, number_below, pair_of}
-use Rattle.rb_history.specs.Fields.{field}
-use Rattle.rb_history.specs.Fits.{IsKnown}
+use Rattle.rb_history.proofs.Words.{◌≡◌, ◌<◌, ◌^◌, ℕ, List, [], Option, Some, None, true, refl, inl, inr, ◌&&◌, IfSome, bytes_eq}
+use Rattle.rb_history.proofs.Words.{if◌then◌else◌, nat_lt, option_and_then, option_map, unwrap_or, position, and_parts, ltb-true}
+use Rattle.rb_history.proofs.Words.{position-Some, Data, as_number, as_str, as_u64, Settings, Place, NOWHERE, IsName, candidate, is_name}
+use Rattle.rb_history.proofs.Words.{name_of, name_text, OpName, Blue, Red, account_place, asked_of, place_at, name_at, number_below}
+use Rattle.rb_history.proofs.Words.{pair_of, field, IsKnown}
 use Rattle.rb_history.proofs.FitsLaws.{IsByte, IsLong, IsWord, fits_field, fits_if, fits_made, fits_map, fits_next, fits_then}
 
 -- a number below a bound

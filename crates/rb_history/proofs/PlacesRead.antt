@@ -1,13 +1,7 @@
 -- The place of an account that is read by its name has the name.
-use Rattle.std.proofs.Common.{◌≡◌, ℕ, List, [], get_or, Some, None, Option, true, refl, sym, ap, ◌∙◌, arith}
-use Rattle.std.specs.Prelude.{bytes_eq, codes, option_map, slice_get, unwrap_or}
-use Rattle.std.specs.List.{position}
-use Rattle.std.proofs.lemmas.List.Quantifiers.{position-Some}
-use Rattle.std.proofs.lemmas.Option.{slice_get-get_or, slice_get_past}
-use Rattle.std.proofs.lemmas.Slice.Eq.{bytes_eq-Decides}
-use Rattle.rb_money.specs.Settings.{IsConfigured, Settings, place_in}
-use Rattle.rb_money.specs.declared.place.Place.{Place}
-use Rattle.rb_money.specs.declared.place.TheConstants.Place.{NOWHERE}
+use Rattle.rb_history.proofs.Words.{◌≡◌, ℕ, List, [], get_or, Some, None, Option, true, refl, sym, ap, ◌∙◌, arith, bytes_eq, codes}
+use Rattle.rb_history.proofs.Words.{option_map, slice_get, unwrap_or, position, position-Some, slice_get-get_or, slice_get_past}
+use Rattle.rb_history.proofs.Words.{bytes_eq-Decides, IsConfigured, Settings, place_in, Place, NOWHERE}
 
 same : (xs ys : List ℕ) → bytes_eq xs ys ≡ true → xs ≡ ys
 same xs ys e = (bytes_eq-Decides xs ys).0 e

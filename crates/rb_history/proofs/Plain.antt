@@ -1,21 +1,10 @@
 -- Bytes that are written in a string as they are.
-use Rattle.std.proofs.Common.{◌≡◌, ◌<◌, ◌≤◌, ◌^◌, ℕ, suc, List, [], ◌∷◌, ◌++◌, length, get_or, decimal, codes, refl, sym, true, ◌∙◌}
-use Rattle.std.proofs.Common.{append_assoc, arith}
-use Rattle.std.specs.Prelude.{⊤, ◌&&◌, nat_le}
-use Rattle.std.specs.List.{list_all}
-use Rattle.std.proofs.lemmas.Bool.{and_parts}
-use Rattle.std.proofs.lemmas.Bool.Decides.{nat_tests}
-use Rattle.std.proofs.lemmas.Fmt.{digits_decimal}
+use Rattle.rb_history.proofs.Words.{◌≡◌, ◌<◌, ◌≤◌, ◌^◌, ℕ, suc, List, [], ◌∷◌, ◌++◌, length, get_or, decimal, codes, refl, sym, true, ◌∙◌}
+use Rattle.rb_history.proofs.Words.{Bool, append_assoc, arith, ⊤, ◌&&◌, nat_le, list_all, and_parts, nat_tests, digits_decimal}
+use Rattle.rb_history.proofs.Words.{escape_byte_plain, escape, escape_byte, quoted, is_account_name, is_name_byte, name_text, IsName}
+use Rattle.rb_history.proofs.Words.{OpName, Blue, Red, word_of, Label}
 use Rattle.std.proofs.lemmas.Str.Parse.{digit_at}
 use Rattle.rb_money.specs.declared.accounts.TheConstants.{LONGEST_NAME}
-use Rattle.json.proofs.Printed.Strings.{escape_byte_plain}
-use Rattle.json.specs.Print.{escape, escape_byte, quoted}
-use Rattle.rb_money.specs.Settings.{is_account_name, is_name_byte}
-use Rattle.rb_shadow.specs.NameText.{name_text, IsName}
-use Rattle.rb_shadow.specs.declared.op_name.OpName.{OpName}
-use Rattle.rb_shadow.specs.declared.op_name.OpName.TheVariants.{Blue, Red}
-use Rattle.rb_history.specs.KindWords.{word_of}
-use Rattle.rb_shadow.specs.declared.label.Label.{Label}
 use Rattle.rb_shadow.specs.declared.label.Label.TheVariants.{Deposit}
 use Rattle.rb_shadow.proofs.Public.Digits.{in_digits}
 
@@ -85,14 +74,12 @@ byte_plain : (b : ℕ) → is_name_byte b ≡ true → escape_byte b ≡ b ∷ [
 byte_plain b h = escape_byte_plain b (λ e. let f : is_name_byte 34 ≡ true = (λ j. is_name_byte (sym e j)) ∙ h in
     cc) (λ e. let f : is_name_byte 92 ≡ true = (λ j. is_name_byte (sym e j)) ∙ h in cc) (grind (arith, nat_tests))
 
-bytes_plain : (name : List ℕ) → list_all is_name_byte name ≡ true → ArePlain name
-bytes_plain [] h = tt
-bytes_plain (b ∷ bs) h = let p = and_parts (is_name_byte b) (list_all is_name_byte bs) h in (byte_plain b p.0, bytes_plain bs p.1)
-
-blue_text : (s n rest : List ℕ) → (codes "\"B" ++ (s ++ (codes "." ++ (n ++ codes "\"")))) ++ rest
-    ≡ codes "\"B" ++ (s ++ (codes "." ++ (n ++ (codes "\"" ++ rest))))
-blue_text s n rest = simp append_assoc
+-- bytes of a kind that needs no escape need none
+pub plain_all : (p : ℕ → Bool) → ((b : ℕ) → p b ≡ true → escape_byte b ≡ b ∷ []) → (bs : List ℕ) → list_all p bs ≡ true → ArePlain bs
+plain_all p each [] h = tt
+plain_all p each (b ∷ bs) h = let q = and_parts (p b) (list_all p bs) h in (each b q.0, plain_all p each bs q.1)
 
 -- an account's name is written in quotes as it is
 pub account_plain : (name : List ℕ) → is_account_name name ≡ true → escape name ≡ name
-account_plain name h = escape_plain name (bytes_plain name (and_parts (nat_le 1 (length name) && nat_le (length name) LONGEST_NAME) _ h).1)
+account_plain name h = escape_plain name (plain_all is_name_byte byte_plain name (and_parts (nat_le 1 (length name) && nat_le (length name)
+    LONGEST_NAME) _ h).1)

@@ -1,62 +1,15 @@
 -- Refusals that are written as their numbers alone.
-use Rattle.std.proofs.Common.{◌≡◌, ◌==◌, ℕ, Bool, true, false, List, [], ◌∷◌, Some, codes, refl, ap, ◌∙◌, subst, rules}
-use Rattle.std.specs.Prelude.{if◌then◌else◌}
+use Rattle.rb_history.proofs.Words.{◌≡◌, ◌==◌, ℕ, Bool, true, false, List, [], ◌∷◌, Some, codes, refl, ap, ◌∙◌, subst, rules, if◌then◌else◌}
+use Rattle.rb_history.proofs.Words.{number_of_refusal, Refusal, refusal_json, number_json, one_json, Each, IsRefusal, find_refusal}
+use Rattle.rb_history.proofs.Words.{plain_refusals}
 use Rattle.json.proofs.Found.{Some_inj}
-use Rattle.rb_money.specs.Refusals.{number_of_refusal}
-use Rattle.rb_money.specs.declared.refusal.Refusal.{Refusal}
-use Rattle.rb_history.specs.Replies.{refusal_json}
-use Rattle.rb_history.specs.Values.{number_json, one_json}
-use Rattle.rb_history.specs.Fits.{Each, IsRefusal}
-use Rattle.rb_history.specs.RepliesRead.{find_refusal, plain_refusals}
 
 -- written as its number, and fit to be written
 abbrev IsPlain : Refusal → Type 0
 IsPlain r = (refusal_json r ≡ one_json (codes "refused") (number_json (number_of_refusal r))) × IsRefusal r
 
 are_plain : Each IsPlain plain_refusals
-are_plain = (
-  (refl, tt),
-  (
-    (refl, tt),
-    (
-      (refl, tt),
-      (
-        (refl, tt),
-        (
-          (refl, tt),
-          (
-            (refl, tt),
-            (
-              (refl, tt),
-              (
-                (refl, tt),
-                (
-                  (refl, tt),
-                  (
-                    (refl, tt),
-                    (
-                      (refl, tt),
-                      (
-                        (refl, tt),
-                        (
-                          (refl, tt),
-                          (
-                            (refl, tt),
-                            ((refl, tt), ((refl, tt), ((refl, tt), ((refl, tt), ((refl, tt), ((refl, tt), tt)))))),
-                          ),
-                        ),
-                      ),
-                    ),
-                  ),
-                ),
-              ),
-            ),
-          ),
-        ),
-      ),
-    ),
-  ),
-)
+are_plain = search rules
 
 found : (n : ℕ) (rs : List Refusal) (r : Refusal) → Each IsPlain rs → find_refusal n rs ≡ Some r → IsPlain r × (number_of_refusal r ≡ n)
 found n [] r h e = absurd (cc)

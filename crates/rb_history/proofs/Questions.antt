@@ -1,28 +1,14 @@
 -- No line is both a question and an event.
-use Rattle.std.proofs.Common.{◌≡◌, ◌==◌, suc, List, ℕ, Option, None, Some, Ordering, Less, Equal, Greater, nat_cmp, is_eq, codes}
-use Rattle.std.proofs.Common.{[], true, refl, sym, ap, ◌∙◌, subst, arith}
-use Rattle.std.proofs.lemmas.Bool.{eqb-true}
-use Rattle.std.proofs.lemmas.Map.Text.{is_eq-slice_cmp}
-use Rattle.std.proofs.lemmas.Slice.Eq.{bytes_eq-Decides}
-use Rattle.std.specs.Cmp.Lexicographic.{slice_cmp}
-use Rattle.std.specs.Ordering.{match_ordering}
-use Rattle.std.specs.Prelude.{option_and_then, option_map}
-use Rattle.serde_json.specs.Data.{Data, null, boolean, number, string, array, object, no_members, member}
-use Rattle.serde_json.specs.Events.{members_len}
-use Rattle.serde_json.specs.Find.{get}
-use Rattle.serde_json.specs.Read.{read}
-use Rattle.rb_money.specs.Settings.{Settings}
-use Rattle.rb_history.specs.Entries.{asked_event_at, asked_event_of_line}
-use Rattle.rb_history.specs.Questions.{question_asked, question_of, question_of_line}
-use Rattle.rb_history.specs.Recorded.{event_at}
-use Rattle.rb_history.specs.Values.{one_json, size_of}
-use Rattle.rb_history.specs.declared.question.Question.{Question}
+use Rattle.rb_history.proofs.Words.{◌≡◌, ◌==◌, suc, List, ℕ, Option, None, Some, Ordering, Equal, nat_cmp, is_eq, codes, [], true, refl}
+use Rattle.rb_history.proofs.Words.{sym, ap, ◌∙◌, subst, arith, eqb-true, is_eq-slice_cmp, bytes_eq-Decides, slice_cmp, match_ordering}
+use Rattle.rb_history.proofs.Words.{option_and_then, option_map, Data, object, no_members, member, members_len, get, read, Settings}
+use Rattle.rb_history.proofs.Words.{asked_event_at, asked_event_of_line, question_asked, question_of, question_of_line, event_at, one_json}
+use Rattle.rb_history.proofs.Words.{size_of, Question}
 use Rattle.rb_history.proofs.FitsLaws.{tested}
 
 equal : (o : Ordering) (value v : Data) → match_ordering o None (Some value) None ≡ Some v → is_eq o ≡ true
-equal Less value v e = absurd (cc)
 equal Equal value v e = refl
-equal Greater value v e = absurd (cc)
+equal _ value v e = absurd (cc)
 
 -- the key that is found in an object of one member is the member's
 pub key_is : (k key : List ℕ) (value v : Data) → get k (one_json key value) ≡ Some v → k ≡ key
@@ -40,12 +26,6 @@ by_key s key value None None q e f asked = absurd (cc)
 
 -- a question has one member, so it is no event with an id either
 pub no_event : (s : Settings) (d : Data) (q : Question) → question_of d ≡ Some q → asked_event_at s d ≡ None
-no_event s null q e = absurd (cc)
-no_event s (boolean b) q e = absurd (cc)
-no_event s (number n) q e = absurd (cc)
-no_event s (string t) q e = absurd (cc)
-no_event s (array ds) q e = absurd (cc)
-no_event s (object no_members) q e = absurd (cc)
 no_event s (object (member key value no_members)) q e =
     let d = one_json key value in
     ap (option_map (λ made. record { id = []; event = made }))
@@ -55,6 +35,7 @@ no_event s (object (member key value (member other more ms))) q e =
     let asked = question_asked (get (codes "about") d) (get (codes "resend") d) in
     let one : suc (suc (members_len ms)) ≡ 1 = eqb-true (size_of d) 1 (tested (size_of d == 1) asked q e) in
     absurd (omega arith)
+no_event s _ q e = absurd (cc)
 
 in_line : (s : Settings) (o : Option Data) (q : Question) → option_and_then question_of o ≡ Some q
     → option_and_then (asked_event_at s) o ≡ None

@@ -1,19 +1,12 @@
 -- The value that is read is the one that was written.
-use Rattle.std.proofs.Common.{ℕ, List, ◌++◌, Option, ◌≡◌, [], ◌∷◌, Some, None, IfSome, refl, sym, ap, ◌∙◌, ◌≤◌, append-nil}
-use Rattle.std.proofs.Common.{append_assoc}
-use Rattle.std.specs.Prelude.{option_map, option_and_then}
-use Rattle.serde_json.specs.Data.{Data}
+use Rattle.rb_history.proofs.Words.{ℕ, List, ◌++◌, Option, ◌≡◌, [], ◌∷◌, Some, None, IfSome, refl, sym, ap, ◌∙◌, ◌≤◌, append-nil}
+use Rattle.rb_history.proofs.Words.{append_assoc, option_map, option_and_then, Data, IsName, candidate, name_of, name_text, OpName, tokens}
+use Rattle.rb_history.proofs.Words.{json_tokens, HasNumbers, read, of_json, max_depth, compact_text, outline}
 use Rattle.rb_shadow.proofs.Public.NameOf.{value_is, candidate_is}
-use Rattle.rb_shadow.specs.NameText.{IsName, candidate, name_of, name_text}
-use Rattle.rb_shadow.specs.declared.op_name.OpName.{OpName}
 use Rattle.json.specs.Json as json
-use Rattle.json.specs.Lex.{tokens}
-use Rattle.json.specs.Tree.{json_tokens, HasNumbers}
 use Rattle.json.specs.Tree as tree
 use Rattle.json.proofs.Printed.Tokens.{tokens-print}
 use Rattle.json.proofs.Printed.Trees.{ArePrintable-json_tokens, value-json_tokens}
-use Rattle.serde_json.specs.Read.{read, of_json, max_depth}
-use Rattle.serde_json.specs.Written.{compact_text, outline}
 use Rattle.serde_json.proofs.Texts.{print-outline}
 
 -- what is read so far, and then what is still to be read
@@ -53,6 +46,13 @@ compact_read turned d numbers shallow same =
     ∙ tokens-print (json_tokens j) (ArePrintable-json_tokens j numbers) ∙ sym (append-nil (json_tokens j)) in
     ap (λ ts. option_and_then of_json (option_and_then (λ p. json.if_last p.0 p.1) (json.value max_depth ts))) text
     ∙ ap (λ o. option_and_then of_json (option_and_then (λ p. json.if_last p.0 p.1) o)) (value-json_tokens j max_depth [] shallow) ∙ same
+
+-- so a line of it is read as what the object is
+pub line_read : {A : Type 0} (f : Data → Option A) (turned d : Data) (x : A) (line : List ℕ) → line ≡ compact_text turned
+    → HasNumbers (outline turned) → tree.depth (outline turned) ≤ max_depth → of_json (outline turned) ≡ Some d
+    → f d ≡ Some x → option_and_then f (read line) ≡ Some x
+line_read f turned d x line text numbers shallow same is =
+    ap (λ l. option_and_then f (read l)) text ∙ ap (option_and_then f) (compact_read turned d numbers shallow same) ∙ is
 
 -- what a text is read as, one of the same tokens is read as too
 pub read_alike : {A B : Type 0} (f : Data → Option A) (seen : B → A) (xs ys : List ℕ) (r : Option B) → tokens xs ≡ tokens ys

@@ -1,21 +1,8 @@
 -- A shadow that comes, cut at its counts.
-use Rattle.std.proofs.Common.{◌≡◌, ℕ, ◌<◌, ◌^◌, List, ◌++◌, true, codes, decimal, ap, ◌∙◌, append_assoc}
-use Rattle.json.specs.Print.{escape_byte}
-use Rattle.serde_json.specs.Written.{compact_text, members_text}
-use Rattle.rb_money.specs.Settings.{Settings}
-use Rattle.rb_money.specs.declared.place.Place.{Place}
-use Rattle.rb_shadow.specs.NameText.{name_text}
-use Rattle.rb_shadow.specs.Labels.{label_of}
-use Rattle.rb_history.specs.KindWords.{word_of}
-use Rattle.rb_shadow.specs.declared.shadow.Shadow.{Shadow}
-use Rattle.rb_site.specs.declared.event.Event.TheVariants.{Receive}
-use Rattle.rb_site.specs.declared.message.Message.TheVariants.{Shadow as ShadowMessage}
-use Rattle.rb_site.specs.declared.reply.Reply.{Reply}
-use Rattle.rb_history.specs.Replies.{reply_json}
-use Rattle.rb_history.specs.Counts.{blue_json}
-use Rattle.rb_history.specs.Entries.{event_json, last_members}
-use Rattle.rb_history.specs.Beginnings.{account_behind_quote, behind_quote, BeginsWithCounts}
-use Rattle.rb_history.specs.Fits.{IsKnown, IsShadow}
+use Rattle.rb_history.proofs.Words.{◌≡◌, ℕ, ◌<◌, ◌^◌, List, ◌++◌, true, codes, decimal, ap, ◌∙◌, append_assoc, escape_byte, compact_text}
+use Rattle.rb_history.proofs.Words.{members_text, Settings, Place, name_text, label_of, word_of, Shadow, Receive, ShadowMessage, Reply}
+use Rattle.rb_history.proofs.Words.{reply_json, blue_json, event_json, last_members, account_behind_quote, behind_quote, BeginsWithCounts}
+use Rattle.rb_history.proofs.Words.{IsKnown, IsShadow}
 use Rattle.rb_history.specs.Receipts.{BeginsWithBack, shadow_back, shadow_front}
 use Rattle.rb_history.specs.declared.fast.shadow.Back.{Back}
 

@@ -1,23 +1,10 @@
 -- A shadow, a token or any event that is read fits a line.
-use Rattle.std.proofs.Common.{◌^◌, ℕ, Some, codes}
-use Rattle.std.specs.Prelude.{◌==◌, IfSome, option_map}
-use Rattle.serde_json.specs.Data.{Data}
-use Rattle.serde_json.specs.Find.{get}
-use Rattle.rb_money.specs.Settings.{Settings}
-use Rattle.rb_shadow.specs.NameText.{IsName}
+use Rattle.rb_history.proofs.Words.{◌^◌, ℕ, Some, codes, ◌==◌, IfSome, option_map, Data, get, Settings, IsName, DepositKind, WithdrawKind}
+use Rattle.rb_history.proofs.Words.{DeclinedKind, InterestKind, CancelKind, TransferKind, Label, Declined, Receive, TokenOnItsWay, place_at}
+use Rattle.rb_history.proofs.Words.{name_at, number_below, pair_of, size_of, three_of, blue_at, field, label_at, IsEvent, IsKind, IsKnown}
+use Rattle.rb_history.proofs.Words.{IsShadow, deps_at, event_at, kind_at, kind_of, recorded_of, shadow_at, token_at}
 use Rattle.rb_shadow.specs.declared.deps.Deps.{Deps}
-use Rattle.rb_shadow.specs.declared.kind.Kind.TheVariants.{Deposit as DepositKind, Withdraw as WithdrawKind, Declined as DeclinedKind}
-use Rattle.rb_shadow.specs.declared.kind.Kind.TheVariants.{Interest as InterestKind, Cancel as CancelKind, Transfer as TransferKind}
-use Rattle.rb_shadow.specs.declared.label.Label.{Label}
-use Rattle.rb_shadow.specs.declared.label.Label.TheVariants.{Deposit, Withdraw, Declined, Interest, Cancel, Transfer}
-use Rattle.rb_site.specs.declared.event.Event.TheVariants.{Receive}
-use Rattle.rb_site.specs.declared.message.Message.TheVariants.{Token as TokenOnItsWay}
-use Rattle.rb_history.specs.Requests.{place_at}
-use Rattle.rb_history.specs.Values.{name_at, number_below, pair_of, size_of, three_of}
-use Rattle.rb_history.specs.Counts.{blue_at}
-use Rattle.rb_history.specs.Fields.{field, label_at}
-use Rattle.rb_history.specs.Fits.{IsEvent, IsKind, IsKnown, IsShadow}
-use Rattle.rb_history.specs.Recorded.{deps_at, event_at, kind_at, kind_of, recorded_of, shadow_at, token_at}
+use Rattle.rb_shadow.specs.declared.label.Label.TheVariants.{Deposit, Withdraw, Interest, Cancel, Transfer}
 use Rattle.rb_history.proofs.CountsFit.{AreBlue, blue}
 use Rattle.rb_history.proofs.EventsFit.{command}
 use Rattle.rb_history.proofs.FitsLaws.{IsByte, IsLong, IsWord, fits_either, fits_field, fits_if, fits_map, fits_next, fits_then}

@@ -1,15 +1,7 @@
 -- A refusal that is read fits a line.
-use Rattle.std.proofs.Common.{◌^◌, ℕ, List, [], ◌∷◌, Some, codes}
-use Rattle.std.specs.Prelude.{◌==◌, IfSome}
-use Rattle.serde_json.specs.Data.{Data}
-use Rattle.rb_money.specs.declared.refusal.Cause.TheVariants.{Declined as CauseDeclined, Refused as CauseRefused}
-use Rattle.rb_money.specs.declared.refusal.Refusal.{Refusal}
-use Rattle.rb_money.specs.declared.refusal.Refusal.TheVariants.{AlreadyCancelled, RedBehind, BatchRefused, BadMessage}
-use Rattle.rb_money.specs.Refusals.{number_of_refusal}
-use Rattle.rb_history.specs.Values.{number_below, size_of}
-use Rattle.rb_history.specs.Fields.{field}
-use Rattle.rb_history.specs.Fits.{Each, IsCause, IsRefusal}
-use Rattle.rb_history.specs.RepliesRead.{cause_at, find_refusal, plain_refusals, refusal_parsed, is_word_declined}
+use Rattle.rb_history.proofs.Words.{◌^◌, ℕ, List, [], ◌∷◌, Some, codes, ◌==◌, IfSome, Data, CauseDeclined, CauseRefused, Refusal}
+use Rattle.rb_history.proofs.Words.{AlreadyCancelled, RedBehind, BatchRefused, BadMessage, number_of_refusal, number_below, size_of, field}
+use Rattle.rb_history.proofs.Words.{Each, IsCause, IsRefusal, cause_at, find_refusal, plain_refusals, refusal_parsed, is_word_declined}
 use Rattle.rb_history.proofs.FitsLaws.{IsByte, IsWord, fits_choice, fits_field, fits_if, fits_map, fits_then}
 use Rattle.rb_history.proofs.PartsFit.{byte_at, number, word_at}
 

@@ -1,16 +1,10 @@
 -- A reply that is read fits a line.
-use Rattle.std.proofs.Common.{◌^◌, codes}
-use Rattle.std.specs.Prelude.{◌==◌, IfSome, nat_lt, option_and_then}
-use Rattle.std.proofs.lemmas.Bool.{ltb-true}
-use Rattle.serde_json.specs.Data.{Data, Num, unsigned, negative, float, Items, no_items, item}
-use Rattle.serde_json.specs.Find.{as_array, as_bool, as_i64, as_number, get}
-use Rattle.rb_shadow.specs.NameText.{IsName}
-use Rattle.rb_site.specs.declared.reply.Reply.TheVariants.{Made, Names, Held, Already, Taken, Stale, Applied, Passed, Balance, Refused}
-use Rattle.rb_history.specs.Values.{name_at, number_below, size_of}
-use Rattle.rb_history.specs.Fields.{field, label_at, six_in, six_of}
-use Rattle.rb_history.specs.Fits.{Each, IsMoved, IsRefusal, IsReply, IsStatementRow}
-use Rattle.rb_history.specs.RepliesRead.{answer_of, made_parsed, moved_parsed, names_at, names_in, refusal_parsed}
-use Rattle.rb_history.specs.RepliesRead.{reply_parsed, row_at, rows_at, rows_in, short_of, simple_of, statement_parsed}
+use Rattle.rb_history.proofs.Words.{◌^◌, codes, ◌==◌, IfSome, nat_lt, option_and_then, ltb-true, Data, Num, unsigned, negative, float}
+use Rattle.rb_history.proofs.Words.{Items, no_items, item, as_array, as_bool, as_i64, as_number, get, IsName, Made, Names, Held, Already}
+use Rattle.rb_history.proofs.Words.{Taken, Stale, Applied, Passed, Refused, name_at, number_below, size_of, field, label_at, six_in, six_of}
+use Rattle.rb_history.proofs.Words.{Each, IsMoved, IsRefusal, IsReply, IsStatementRow, answer_of, made_parsed, moved_parsed, names_at}
+use Rattle.rb_history.proofs.Words.{names_in, refusal_parsed, reply_parsed, row_at, rows_at, rows_in, short_of, simple_of, statement_parsed}
+use Rattle.rb_site.specs.declared.reply.Reply.TheVariants.{Balance}
 use Rattle.rb_history.proofs.FitsLaws.{IsLong, IsWord, fits_choice, fits_cons, fits_either, fits_field, fits_if, fits_made, fits_map}
 use Rattle.rb_history.proofs.FitsLaws.{fits_next, fits_then}
 use Rattle.rb_history.proofs.NumbersFit.{Fits, FitItems, FitsNumber, fits_array, fits_get, fits_signed}
@@ -20,14 +14,8 @@ use Rattle.rb_history.proofs.RefusalsFit.{refusal}
 -- ---- statements
 
 six : (ds : Items) → FitItems ds → IfSome (six_in ds) (λ p. Fits p.3)
-six no_items f = tt
-six (item a no_items) f = tt
-six (item a (item b no_items)) f = tt
-six (item a (item b (item c no_items))) f = tt
-six (item a (item b (item c (item d no_items)))) f = tt
-six (item a (item b (item c (item d (item e no_items))))) f = tt
 six (item a (item b (item c (item d (item e (item g no_items)))))) f = f.1.1.1.0
-six (item a (item b (item c (item d (item e (item g (item h ds))))))) f = tt
+six _ f = tt
 
 signed : (n : Num) → FitsNumber n → IfSome (as_i64 n) IsMoved
 signed (unsigned n) h = fits_if IsMoved (nat_lt n (2 ^ 63)) _ (λ e. ltb-true n (2 ^ 63) e)

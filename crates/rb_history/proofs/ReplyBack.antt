@@ -1,25 +1,11 @@
 -- The text that is written for a reply is read as the reply.
-use Rattle.std.proofs.Common.{◌≡◌, ◌^◌, ℕ, ℤ, pos, negsuc, List, [], ◌∷◌, Some, Bool, refl}
-use Rattle.std.specs.Prelude.{map}
-use Rattle.serde_json.specs.View.{items_of}
-use Rattle.rb_money.specs.declared.refusal.Cause.TheVariants.{Declined as CauseDeclined, Refused as CauseRefused}
-use Rattle.rb_money.specs.declared.refusal.Refusal.{Refusal}
-use Rattle.rb_money.specs.declared.refusal.Refusal.TheVariants.{OutOfMemory, AlreadyCancelled, RedBehind, BatchRefused, BadMessage}
-use Rattle.rb_shadow.specs.NameText.{IsName}
-use Rattle.rb_shadow.specs.declared.label.Label.{Label}
+use Rattle.rb_history.proofs.Words.{◌≡◌, ◌^◌, ℕ, ℤ, pos, negsuc, List, [], ◌∷◌, Some, Bool, refl, map, items_of, CauseDeclined}
+use Rattle.rb_history.proofs.Words.{CauseRefused, Refusal, OutOfMemory, AlreadyCancelled, RedBehind, BatchRefused, BadMessage, IsName}
+use Rattle.rb_history.proofs.Words.{Label, OpName, Reply, Made, Names, Held, Already, Taken, Stale, Applied, Passed, Refused, Row, Each}
+use Rattle.rb_history.proofs.Words.{IsMoved, IsRefusal, IsReply, IsStatementRow, refusal_json, reply_json, moved_parsed, names_in}
+use Rattle.rb_history.proofs.Words.{reply_parsed, row_at, rows_in, row_json, label_of_word, word_of, integer_json, name_json, below}
 use Rattle.rb_shadow.specs.declared.label.Label.TheVariants.{Deposit}
-use Rattle.rb_shadow.specs.declared.op_name.OpName.{OpName}
-use Rattle.rb_site.specs.declared.reply.Reply.{Reply}
-use Rattle.rb_site.specs.declared.reply.Reply.TheVariants.{Made, Names, Held, Already, Taken, Stale, Applied, Passed, Balance, Statement}
-use Rattle.rb_site.specs.declared.reply.Reply.TheVariants.{Refused}
-use Rattle.rb_statements.specs.declared.row.Row.{Row}
-use Rattle.rb_history.specs.Fits.{Each, IsMoved, IsRefusal, IsReply, IsStatementRow}
-use Rattle.rb_history.specs.Replies.{refusal_json, reply_json}
-use Rattle.rb_history.specs.RepliesRead.{moved_parsed, names_in, reply_parsed, row_at, rows_in}
-use Rattle.rb_history.specs.Statements.{row_json}
-use Rattle.rb_history.specs.KindWords.{label_of_word, word_of}
-use Rattle.rb_history.specs.Values.{integer_json, name_json}
-use Rattle.rb_money.proofs.Public.Tests.{is_below as below}
+use Rattle.rb_site.specs.declared.reply.Reply.TheVariants.{Balance, Statement}
 use Rattle.rb_history.proofs.Reading.{back}
 
 label_back : (k : Label) → label_of_word (word_of k) ≡ Some k

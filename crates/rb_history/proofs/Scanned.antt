@@ -1,15 +1,9 @@
 -- The finds of a scan of a line's bytes.
-use Rattle.std.proofs.Common.{◌≡◌, ◌<◌, ◌≤◌, ◌+◌, ◌-◌, ◌*◌, ◌/◌, ◌%◌, ◌^◌, decimal, ℕ, List, [], ◌∷◌, ◌++◌, length, take, get_or, sym, ap}
-use Rattle.std.proofs.Common.{◌∙◌, arith, drop, subst}
-use Rattle.std.proofs.Math.Seq.{take-add}
-use Rattle.std.specs.Int.{to_le_bytes, w32, w64}
-use Rattle.std.specs.Str.{IsUtf8, IsCharBoundary}
-use Rattle.std.proofs.lemmas.Str.{IsCharBoundary-from_take, IsCharBoundary-after_ascii}
-use Rattle.std.proofs.lemmas.List.{take_more}
+use Rattle.rb_history.proofs.Words.{◌≡◌, ◌<◌, ◌≤◌, ◌+◌, ◌-◌, ◌*◌, ◌/◌, ◌%◌, ◌^◌, decimal, ℕ, List, [], ◌∷◌, ◌++◌, length, take, get_or, sym}
+use Rattle.rb_history.proofs.Words.{ap, ◌∙◌, arith, drop, subst, take-add, to_le_bytes, w32, w64, IsUtf8, IsCharBoundary}
+use Rattle.rb_history.proofs.Words.{IsCharBoundary-from_take, IsCharBoundary-after_ascii, take_more, decimal_digit, decimal_step, escape}
+use Rattle.rb_history.proofs.Words.{escape_byte, escape_byte_plain}
 use Rattle.std.proofs.lemmas.List.Concat.{flat_map-append}
-use Rattle.std.proofs.lemmas.Fmt.{decimal_digit, decimal_step}
-use Rattle.json.specs.Print.{escape, escape_byte}
-use Rattle.json.proofs.Printed.Strings.{escape_byte_plain}
 
 -- a byte more of two texts that begin alike
 pub same_more : (text front : List ℕ) (i : ℕ) → i < length text → i < length front → get_or text i 0 ≡ get_or front i 0 →

@@ -1,21 +1,9 @@
 -- The line of a message to the sites of a bank is read by them as the message.
-use Rattle.std.proofs.Common.{◌≡◌, List, ℕ, None, Some, true, [], ◌∷◌, ◌++◌, codes, drop, inr, refl, sym, ap, ◌∙◌, append_assoc, arith}
-use Rattle.std.proofs.Common.{bytes_eq}
-use Rattle.std.proofs.lemmas.Slice.Eq.{bytes_eq-Decides}
-use Rattle.std.specs.Prelude.{if◌then◌else◌, option_and_then, option_map}
-use Rattle.serde_json.specs.Data.{string, object, member}
-use Rattle.serde_json.specs.Read.{read}
-use Rattle.serde_json.specs.Written.{compact_text, members_text}
-use Rattle.rb_money.specs.Settings.{IsConfigured, Settings}
-use Rattle.rb_site.specs.declared.event.Event.{Event}
-use Rattle.rb_site.specs.declared.event.Event.TheVariants.{Submit, Batch, Receive, Apply, Pass, Balance, AsOf, Statement}
-use Rattle.rb_site.specs.declared.message.Message.{Message}
-use Rattle.rb_site.specs.declared.message.Message.TheVariants.{Shadow as ShadowMessage, Token as TokenOnItsWay}
-use Rattle.rb_history.specs.Banks.{MessagesAreRead, event_named, event_to, is_receipt, receipt_member, sent_json}
-use Rattle.rb_history.specs.Entries.{event_json, shadow_json, token_json}
-use Rattle.rb_history.specs.Fits.{IsEvent}
-use Rattle.rb_history.specs.Recorded.{event_at}
-use Rattle.rb_history.specs.Ids.{is_id}
+use Rattle.rb_history.proofs.Words.{◌≡◌, List, ℕ, None, Some, true, [], ◌∷◌, ◌++◌, codes, drop, inr, refl, sym, ap, ◌∙◌, append_assoc}
+use Rattle.rb_history.proofs.Words.{arith, bytes_eq, bytes_eq-Decides, if◌then◌else◌, option_and_then, option_map, string, object, member}
+use Rattle.rb_history.proofs.Words.{read, compact_text, members_text, IsConfigured, Settings, Event, Receive, Message, ShadowMessage}
+use Rattle.rb_history.proofs.Words.{TokenOnItsWay, MessagesAreRead, event_named, event_to, is_receipt, receipt_member, sent_json}
+use Rattle.rb_history.proofs.Words.{event_json, shadow_json, token_json, IsEvent, event_at, is_id}
 use Rattle.rb_history.proofs.BankText.{member_behind, receipt_text, sent_line}
 use Rattle.rb_history.proofs.EntryBack.{event_back}
 use Rattle.rb_history.proofs.EntryText.{event_text}
@@ -81,10 +69,4 @@ sent_parsed s c (b ∷ bs) (Receive m) line inside named receipt fits is written
     ∙ sym (append_assoc (codes "{\"bank\":\"") (name ++ codes "\"") (members_text true (receipt_member s m)))
     ∙ sent_line s name m (inr named) (λ none. cc) in
     ap (event_to s name) whole ∙ ap (option_and_then (event_named s name)) (sent_text s name m fits) ∙ sent_named s c name m fits
-sent_parsed s c (b ∷ bs) (Submit r) line inside named receipt fits is written = absurd (cc)
-sent_parsed s c (b ∷ bs) (Batch rs) line inside named receipt fits is written = absurd (cc)
-sent_parsed s c (b ∷ bs) (Apply x) line inside named receipt fits is written = absurd (cc)
-sent_parsed s c (b ∷ bs) (Pass to) line inside named receipt fits is written = absurd (cc)
-sent_parsed s c (b ∷ bs) (Balance a) line inside named receipt fits is written = absurd (cc)
-sent_parsed s c (b ∷ bs) (AsOf a n) line inside named receipt fits is written = absurd (cc)
-sent_parsed s c (b ∷ bs) (Statement a) line inside named receipt fits is written = absurd (cc)
+sent_parsed s c (b ∷ bs) _ line inside named receipt fits is written = absurd (cc)

@@ -1,45 +1,29 @@
 -- The messages of a site fit a line, whatever its events.
-use Rattle.std.proofs.Common.{◌≡◌, ◌<◌, ◌≤◌, ◌+◌, ℕ, Bool, true, false, cond, not, ◌&&◌, ◌||◌, List, [], ◌∷◌, ◌++◌, length, Option}
-use Rattle.std.proofs.Common.{Some, None}
-use Rattle.std.proofs.Common.{Result, Ok, Err, refl, sym, ap, subst, ◌∙◌, inl, inr, arith, append-nil, append_assoc}
-use Rattle.std.specs.Prelude.{◌==◌, ◌⊎◌, filter, map, nat_le, nat_lt}
-use Rattle.std.proofs.lemmas.Bool.{and_parts}
-use Rattle.std.proofs.lemmas.Bool.Decides.{nat_tests}
-use Rattle.rb_money.specs.Refusals.{and_then, unless}
-use Rattle.rb_money.specs.Settings.{IsConfigured, Settings, is_account}
-use Rattle.rb_money.specs.declared.refusal.Refusal.{Refusal}
-use Rattle.rb_money.specs.declared.refusal.Refusal.TheVariants.{BadBatch, BadMessage, Conflict, InboxFull, NotHeld, NotReady}
-use Rattle.rb_shadow.specs.Operations.{Among, clock_of, find_in, is_eligible, red_count, same_shadow}
-use Rattle.rb_shadow.specs.Sound.{IsSound, are_entries, fault_of}
-use Rattle.rb_shadow.specs.declared.shadow.Shadow.{Shadow}
-use Rattle.rb_shadow.proofs.Public.Lookups.{found}
+use Rattle.rb_history.proofs.Words.{◌≡◌, ◌<◌, ◌≤◌, ◌+◌, ℕ, Bool, true, false, cond, not, ◌&&◌, ◌||◌, List, [], ◌∷◌, ◌++◌, length, Option}
+use Rattle.rb_history.proofs.Words.{Some, None, Result, Ok, Err, refl, sym, ap, subst, ◌∙◌, inl, inr, arith, append-nil, append_assoc, ◌==◌}
+use Rattle.rb_history.proofs.Words.{◌⊎◌, filter, map, nat_le, nat_lt, and_parts, nat_tests, and_then, unless, IsConfigured, Settings}
+use Rattle.rb_history.proofs.Words.{is_account, Refusal, BadBatch, BadMessage, Conflict, InboxFull, NotHeld, NotReady, Among, clock_of}
+use Rattle.rb_history.proofs.Words.{find_in, is_eligible, red_count, same_shadow, IsSound, are_entries, fault_of, Shadow, found}
+use Rattle.rb_history.proofs.Words.{refusal_of_sound, IsValid, IsValid-none, IsValid-push, taken_rightly, clock_is_clock, batch_of, Plan}
+use Rattle.rb_history.proofs.Words.{made_of, operation_of, Request, Token, is_stale, pass_message, refusal_of_pass, refusal_of_token}
+use Rattle.rb_history.proofs.Words.{TokenMessage, Event, Submit, Batch, Receive, Apply, Pass, Balance, AsOf, AskStatement, Message}
+use Rattle.rb_history.proofs.Words.{ShadowMessage, TokenOnItsWay, Reply, Already, Stale, ModelSite, Outcome, Refuses, Answers, Makes}
+use Rattle.rb_history.proofs.Words.{MakesAll, Holds, Takes, Passes, after_event, changed, after_events, first_site, is_full, outcome_of}
+use Rattle.rb_history.proofs.Words.{outcome_of_check, sent_at, sent_by, unless_known, IsEvent, IsShadow, ◌^◌, IfErr, IfSome, take}
+use Rattle.rb_history.proofs.Words.{take-append-drop, drop, PositionBeyond, UnknownAccount, IsName, sound_facts, IsValid-front, Drops}
+use Rattle.rb_history.proofs.Words.{IsRefusal, IsReply}
 use Rattle.rb_shadow.proofs.Public.Members.{or-false}
-use Rattle.rb_ledger.specs.Checks.{refusal_of_sound}
-use Rattle.rb_ledger.specs.Valid.{IsValid}
-use Rattle.rb_ledger.proofs.Public.Legal.{IsValid-none, IsValid-push, taken_rightly}
-use Rattle.rb_ledger.proofs.Public.ValidClocks.{clock_is_clock}
 use Rattle.rb_inbox.proofs.Public.{held_cases, kept_among}
-use Rattle.rb_scratch.specs.Batches.{batch_of}
-use Rattle.rb_scratch.specs.Requests.{Plan, made_of, operation_of}
-use Rattle.rb_scratch.specs.declared.request.Request.{Request}
 use Rattle.rb_scratch.specs.declared.request.TheConstants.{MOST_REQUESTS}
 use Rattle.rb_scratch.proofs.Public.Made.{AreMadeAt, IsMadeAt, batch_is, made_is}
 use Rattle.rb_scratch.proofs.Public.Makes.{made_follows}
-use Rattle.rb_token.specs.Token.{Token, is_stale, pass_message, refusal_of_pass, refusal_of_token}
-use Rattle.rb_token.specs.declared.message.TokenMessage.{TokenMessage}
-use Rattle.rb_site.specs.declared.event.Event.{Event}
-use Rattle.rb_site.specs.declared.event.Event.TheVariants.{Submit, Batch, Receive, Apply, Pass, Balance, AsOf, Statement as AskStatement}
-use Rattle.rb_site.specs.declared.message.Message.{Message}
-use Rattle.rb_site.specs.declared.message.Message.TheVariants.{Shadow as ShadowMessage, Token as TokenOnItsWay}
-use Rattle.rb_site.specs.declared.reply.Reply.TheVariants.{Already, Stale}
-use Rattle.rb_site.specs.Events.{ModelSite, Outcome, Refuses, Answers, Makes, MakesAll, Holds, Takes, Passes, after_event, changed}
-use Rattle.rb_site.specs.Events.{after_events, first_site}
-use Rattle.rb_site.specs.Events.{is_full, outcome_of, outcome_of_check, sent_at}
-use Rattle.rb_site.specs.Events.{sent_by, unless_known}
 use Rattle.rb_site.specs.Histories.{IsAmong, sends_of}
 use Rattle.rb_site.proofs.Public.Stuck.{among-cases}
-use Rattle.rb_history.specs.Fits.{IsEvent, IsShadow}
 use Rattle.rb_history.proofs.MadeFit.{made_fits}
+use Rattle.rb_history.proofs.CausesFit.{batch_fits, check_fits, fault_fits, pass_fits, request_fits, token_fits}
+use Rattle.rb_history.proofs.FitsLaws.{IsWord}
+use Rattle.rb_history.proofs.MadeFit.{facts_name}
+use Rattle.rb_history.proofs.StatementsFit.{balance_fits}
 
 -- what holds of a site, whatever its events: its list is valid, what it holds is sound, and the token is within the
 -- limits
@@ -53,44 +37,57 @@ pub record IsInOrder (s : Settings) (t : ModelSite) : Type 0 where
 abbrev pub AllFit : Settings → List Message → Type 0
 AllFit s ms = (m : Message) → IsAmong m ms → IsEvent s (Receive m)
 
--- an outcome keeps a site in order, and what it sends fits
+-- what an outcome says beside operations fits: a refusal, an answer, or a token that is taken
+abbrev pub Says : Outcome → Type 0
+Says (Refuses why) = IsRefusal why
+Says (Drops x why) = IsRefusal why
+Says (Answers reply) = IsReply reply
+Says (Takes m) = IsWord m.epoch
+Says _ = Unit {0}
+
+-- an outcome keeps a site in order, and what it sends and says fits
 pub record Keeps (s : Settings) (t : ModelSite) (o : Outcome) : Type 0 where
   pub order : IsInOrder s (changed t o)
   pub sends : AllFit s (sent_by o)
+  pub says : Says o
 
 none_fit : (s : Settings) → AllFit s []
 none_fit s m h = absurd h
 
 -- ---- outcomes
 
-refuses : (s : Settings) (t : ModelSite) (why : Refusal) → IsInOrder s t → Keeps s t (Refuses why)
-refuses s t why g = record { order = g; sends = none_fit s }
+refuses : (s : Settings) (t : ModelSite) (why : Refusal) → IsInOrder s t → IsRefusal why → Keeps s t (Refuses why)
+refuses s t why g r = record { order = g; sends = none_fit s; says = r }
+
+answers : (s : Settings) (t : ModelSite) (reply : Reply) → IsInOrder s t → IsReply reply → Keeps s t (Answers reply)
+answers s t reply g r = record { order = g; sends = none_fit s; says = r }
 
 -- a condition that refuses, and else what comes next
-if_not : (s : Settings) (t : ModelSite) (b : Bool) (why : Refusal) (next : Outcome) → IsInOrder s t → (b ≡ false → Keeps s t next)
-    → Keeps s t (cond b (Refuses why) next)
-if_not s t true why next g h = refuses s t why g
-if_not s t false why next g h = h refl
+if_not : (s : Settings) (t : ModelSite) (b : Bool) (why : Refusal) (next : Outcome) → IsInOrder s t → IsRefusal why
+    → (b ≡ false → Keeps s t next) → Keeps s t (cond b (Refuses why) next)
+if_not s t true why next g r h = refuses s t why g r
+if_not s t false why next g r h = h refl
 
 -- a refusal if there is one, and else what comes next
 if_none : {E : Type 0} (s : Settings) (t : ModelSite) (refused : E → Refusal) (o : Option E) (next : Outcome) → IsInOrder s t
-    → (o ≡ None → Keeps s t next) → Keeps s t (unless (λ why. Refuses (refused why)) o next)
-if_none s t refused (Some why) next g h = refuses s t (refused why) g
-if_none s t refused None next g h = h refl
+    → IfSome o (λ x. IsRefusal (refused x)) → (o ≡ None → Keeps s t next) → Keeps s t (unless (λ why. Refuses (refused why)) o next)
+if_none s t refused (Some why) next g r h = refuses s t (refused why) g r
+if_none s t refused None next g r h = h refl
 
-if_unknown : (s : Settings) (t : ModelSite) (v : Shadow) (o : Option Shadow) (next : Outcome) → IsInOrder s t → Keeps s t next
-    → Keeps s t (unless_known v o next)
-if_unknown s t v None next g h = h
-if_unknown s t v (Some u) next g h = by (same_shadow u v)
+if_unknown : (s : Settings) (t : ModelSite) (v : Shadow) (o : Option Shadow) (next : Outcome) → IsInOrder s t → IsName v.name
+    → Keeps s t next → Keeps s t (unless_known v o next)
+if_unknown s t v None next g name h = h
+if_unknown s t v (Some u) next g name h = by (same_shadow u v)
   where
     by : (b : Bool) → Keeps s t (cond b (Answers (Already v.name)) (Refuses Conflict))
-    by true = record { order = g; sends = none_fit s }
-    by false = refuses s t Conflict g
+    by true = answers s t (Already v.name) g name
+    by false = refuses s t Conflict g tt
 
 holds : (s : Settings) (t : ModelSite) (v : Shadow) → IsInOrder s t → IsSound s v → Keeps s t (Holds v)
 holds s t v g sound = record {
   order = record { me = g.me; valid = g.valid; held = λ u h. by u (held_cases v t.held u h); needed = g.needed };
   sends = none_fit s;
+  says = tt;
 }
   where
     by : (u : Shadow) → (u ≡ v) ⊎ Among u t.held → IsSound s u
@@ -102,23 +99,26 @@ fewer_held s t p g v h = g.held v (kept_among p t.held v h)
 
 -- a held operation that is checked
 checks : (s : Settings) (t : ModelSite) (v : Shadow) → IsInOrder s t → IsSound s v → (o : Option Refusal) → refusal_of_sound s t.ops v ≡ o
-    → Keeps s t (outcome_of_check v o)
-checks s t v g sound None e = record {
+    → IfSome o IsRefusal → Keeps s t (outcome_of_check v o)
+checks s t v g sound None e r = record {
   order = record { me = g.me; valid = taken_rightly s t.ops v g.valid sound (sym e); held = fewer_held s t _ g; needed = g.needed };
   sends = none_fit s;
+  says = tt;
 }
-checks s t v g sound (Some NotReady) e = refuses s t NotReady g
-checks s t v g sound (Some _) e = record {
+checks s t v g sound (Some NotReady) e r = refuses s t NotReady g tt
+checks s t v g sound (Some _) e r = record {
   order = record { me = g.me; valid = g.valid; held = fewer_held s t _ g; needed = g.needed };
   sends = none_fit s;
+  says = r;
 }
 
 applies : (s : Settings) (t : ModelSite) → IsInOrder s t → (o : Option Shadow) → ((v : Shadow) → o ≡ Some v → IsSound s v)
     → Keeps s t (unless (λ v. cond (not (is_eligible t.ops v)) (Refuses NotReady) (outcome_of_check v (refusal_of_sound s t.ops v))) o
     (Refuses NotHeld))
-applies s t g None sound = refuses s t NotHeld g
+applies s t g None sound = refuses s t NotHeld g tt
 applies s t g (Some v) sound =
-    if_not s t (not (is_eligible t.ops v)) NotReady _ g (λ e. checks s t v g (sound v refl) (refusal_of_sound s t.ops v) refl)
+    if_not s t (not (is_eligible t.ops v)) NotReady _ g tt (λ e.
+    checks s t v g (sound v refl) (refusal_of_sound s t.ops v) refl (check_fits s t.ops v))
 
 -- ---- what is made
 
@@ -162,38 +162,45 @@ makes : (s : Settings) (t : ModelSite) (v : Shadow) → IsInOrder s t → Grows 
 makes s t v g grown = record {
   order = record { me = g.me; valid = grown.valid; held = g.held; needed = g.needed };
   sends = sent_fit s (v ∷ []) grown.fit;
+  says = tt;
 }
 
 makes_all : (s : Settings) (t : ModelSite) (vs : List Shadow) → IsInOrder s t → Grows s t.ops vs → Keeps s t (MakesAll vs)
 makes_all s t vs g grown = record {
   order = record { me = g.me; valid = grown.valid; held = g.held; needed = g.needed };
   sends = sent_fit s vs grown.fit;
+  says = tt;
 }
 
 submits : (s : Settings) → IsConfigured s → (t : ModelSite) → IsInOrder s t → (r : Request) (q : Result Shadow Refusal)
-    → made_of s t.me t.ops t.token r ≡ q → Keeps s t (and_then Refuses q Makes)
-submits s c t g r (Ok v) e =
+    → made_of s t.me t.ops t.token r ≡ q → IfErr q IsRefusal → Keeps s t (and_then Refuses q Makes)
+submits s c t g r (Ok v) e h =
     makes s t v g (all_grow s c t.me t.ops t.token (v ∷ []) g.me g.valid (made_is s t.me t.ops t.token r v e, tt))
-submits s c t g r (Err why) e = refuses s t why g
+submits s c t g r (Err why) e h = refuses s t why g h
 
 tries : (s : Settings) → IsConfigured s → (t : ModelSite) → IsInOrder s t → (rs : List Request) (q : Result (List Shadow) Refusal)
-    → batch_of s t.me t.ops t.token 0 rs ≡ q → Keeps s t (and_then Refuses q MakesAll)
-tries s c t g rs (Ok vs) e = makes_all s t vs g (all_grow s c t.me t.ops t.token vs g.me g.valid (batch_is s t.me t.ops t.token 0 rs vs e))
-tries s c t g rs (Err why) e = refuses s t why g
+    → batch_of s t.me t.ops t.token 0 rs ≡ q → IfErr q IsRefusal → Keeps s t (and_then Refuses q MakesAll)
+tries s c t g rs (Ok vs) e h =
+    makes_all s t vs g (all_grow s c t.me t.ops t.token vs g.me g.valid (batch_is s t.me t.ops t.token 0 rs vs e))
+tries s c t g rs (Err why) e h = refuses s t why g h
 
 -- ---- the token
 
-past_first : (b : Bool) (why : Refusal) (next : Option Refusal) → cond b (Some why) next ≡ None → (b ≡ false) × (next ≡ None)
+-- a condition before others doesn't refuse if nothing does
+pub past_first : (b : Bool) (why : Refusal) (next : Option Refusal) → cond b (Some why) next ≡ None → (b ≡ false) × (next ≡ None)
 past_first true why next e = absurd (cc)
 past_first false why next e = (refl, e)
 
-takes : (s : Settings) (t : ModelSite) (m : TokenMessage) → IsInOrder s t → refusal_of_token s.limits t.me m ≡ None → Keeps s t (Takes m)
-takes s t m g e =
-    let mine = past_first (not (m.to == t.me)) _ _ e in
+-- a token that isn't refused is of few epochs, and has seen few red operations
+few : (s : Settings) → IsConfigured s → (me : ℕ) (m : TokenMessage) → refusal_of_token s.limits me m ≡ None
+    → IsWord m.epoch × (m.red ≤ s.limits.red)
+few s c me m e =
+    let mine = past_first (not (m.to == me)) _ _ e in
     let within = past_first (nat_lt s.limits.epoch m.epoch || nat_lt s.limits.red m.red) _ _ mine.1 in
-    let few = or-false (nat_lt s.limits.epoch m.epoch) (nat_lt s.limits.red m.red) within.0 in
-    let reds : m.red ≤ s.limits.red = let h = few.1 in grind (arith, nat_tests) in
-    record { order = record { me = g.me; valid = g.valid; held = g.held; needed = reds }; sends = none_fit s }
+    let both = or-false (nat_lt s.limits.epoch m.epoch) (nat_lt s.limits.red m.red) within.0 in
+    let low : m.epoch ≤ s.limits.epoch = let h = both.0 in grind (arith, nat_tests) in
+    let most = c.epoch.1 in
+    (omega arith, let h = both.1 in grind (arith, nat_tests))
 
 clock_reds : (us : List Shadow) (most : ℕ) → nat_le (clock_of us).red most ≡ true → red_count us ≤ most
 unfolding clock_of
@@ -219,6 +226,7 @@ passes s c t to g e =
     record {
       order = record { me = g.me; valid = g.valid; held = g.held; needed = g.needed };
       sends = λ m h. by m h (omega arith, omega arith, omega arith);
+      says = tt;
     }
   where
     sent : TokenMessage
@@ -230,34 +238,62 @@ passes s c t to g e =
 
 -- ---- one event, and all
 
--- an event keeps a site in order, and what it sends fits
+few_needed : (s : Settings) → IsConfigured s → (n : ℕ) → n ≤ s.limits.red → IsWord n
+few_needed s c n low = let most = c.red.1 in omega arith
+
+-- the name of a sound operation fits a line
+pub sound_name : (s : Settings) → IsConfigured s → (v : Shadow) → IsSound s v → IsName v.name
+sound_name s c v sound = facts_name s c v (sound_facts s v sound)
+
+-- an event keeps a site in order, and what it sends and says fits
 pub keeps : (s : Settings) → IsConfigured s → (t : ModelSite) → IsInOrder s t → (e : Event) → Keeps s t (outcome_of s t e)
 unfolding outcome_of
-keeps s c t g (Submit r) = submits s c t g r (made_of s t.me t.ops t.token r) refl
+keeps s c t g (Submit r) =
+    submits s c t g r (made_of s t.me t.ops t.token r) refl (request_fits s c t.me t.ops t.token r g.valid
+    (few_needed s c (red_count t.ops) (few_reds s t.ops g.valid)) (few_needed s c t.token.needed g.needed))
 keeps s c t g (Batch rs) =
-    if_not s t (not (nat_le 1 (length rs) && nat_le (length rs) MOST_REQUESTS)) BadBatch _ g (λ e.
-    tries s c t g rs (batch_of s t.me t.ops t.token 0 rs) refl)
-keeps s c t g (Receive (ShadowMessage v)) =
-    if_none s t BadMessage (fault_of s v) _ g (λ sound.
-    if_unknown s t v (find_in t.ops v.name) _ g
-    (if_not s t (v.home == t.me) Conflict _ g (λ e.
-    if_unknown s t v (find_in t.held v.name) _ g
-    (if_not s t (nat_le s.limits.inbox (length t.held) && not (is_eligible t.ops v)) InboxFull (Holds v) g (λ e. holds s t v g sound)))))
-keeps s c t g (Receive (TokenOnItsWay m)) =
-    if_none s t (λ why. why) (refusal_of_token s.limits t.me m) _ g (λ e. by (is_stale t.token m) e)
+    if_not s t (not (nat_le 1 (length rs) && nat_le (length rs) MOST_REQUESTS)) BadBatch _ g tt (λ e.
+    tries s c t g rs (batch_of s t.me t.ops t.token 0 rs) refl (batch_fits s t.me t.ops t.token 0 rs (few_requests e)))
   where
-    by : (b : Bool) → refusal_of_token s.limits t.me m ≡ None → Keeps s t (cond b (Answers (Stale m.epoch)) (Takes m))
-    by true e = record { order = g; sends = none_fit s }
-    by false e = takes s t m g e
-keeps s c t g (Apply x) = applies s t g (find_in t.held x) (λ v e. g.held v (found t.held x v e).0)
-keeps s c t g (Pass to) = if_none s t (λ why. why) (refusal_of_pass s.sites s.limits t.me t.token to) _ g (passes s c t to g)
-keeps s c t g (Balance a) = if_not s t (not (is_account s a)) _ _ g (λ e. record { order = g; sends = none_fit s })
-keeps s c t g (AsOf a n) =
-    if_not s t (not (is_account s a)) _ _ g (λ e. if_not s t (nat_lt (length t.ops) n) _ _ g (λ f. record {
-      order = g;
+    within : (b : Bool) → not b ≡ false → b ≡ true
+    within true e = refl
+    within false e = absurd (cc)
+
+    few_requests : not (nat_le 1 (length rs) && nat_le (length rs) MOST_REQUESTS) ≡ false → 0 + length rs ≤ 2 ^ 8
+    few_requests e =
+        let low = (and_parts (nat_le 1 (length rs)) (nat_le (length rs) MOST_REQUESTS) (within _ e)).1 in
+        let most : length rs ≤ MOST_REQUESTS = grind (arith, nat_tests) in
+        omega arith
+keeps s c t g (Receive (ShadowMessage v)) =
+    if_none s t BadMessage (fault_of s v) _ g (fault_fits s v) (λ sound.
+    let name = sound_name s c v sound in
+    if_unknown s t v (find_in t.ops v.name) _ g name
+    (if_not s t (v.home == t.me) Conflict _ g tt (λ e.
+    if_unknown s t v (find_in t.held v.name) _ g name
+    (if_not s t (nat_le s.limits.inbox (length t.held) && not (is_eligible t.ops v)) InboxFull (Holds v) g tt (λ e. holds s t v g sound)))))
+keeps s c t g (Receive (TokenOnItsWay m)) =
+    if_none s t (λ why. why) (refusal_of_token s.limits t.me m) _ g (token_fits s.limits t.me m)
+    (λ e. by (is_stale t.token m) (few s c t.me m e))
+  where
+    by : (b : Bool) → IsWord m.epoch × (m.red ≤ s.limits.red) → Keeps s t (cond b (Answers (Stale m.epoch)) (Takes m))
+    by true low = answers s t (Stale m.epoch) g low.0
+    by false low = record {
+      order = record { me = g.me; valid = g.valid; held = g.held; needed = low.1 };
       sends = none_fit s;
-    }))
-keeps s c t g (AskStatement a) = if_not s t (not (is_account s a)) _ _ g (λ e. record { order = g; sends = none_fit s })
+      says = low.0;
+    }
+keeps s c t g (Apply x) = applies s t g (find_in t.held x) (λ v e. g.held v (found t.held x v e).0)
+keeps s c t g (Pass to) =
+    if_none s t (λ why. why) (refusal_of_pass s.sites s.limits t.me t.token to) _ g (pass_fits s.sites s.limits t.me t.token to)
+    (passes s c t to g)
+keeps s c t g (Balance a) =
+    if_not s t (not (is_account s a)) UnknownAccount _ g tt (λ e. answers s t _ g (balance_fits s c t.ops a g.valid))
+keeps s c t g (AsOf a n) =
+    let valid = subst (IsValid s) (sym (take-append-drop n t.ops)) g.valid in
+    if_not s t (not (is_account s a)) UnknownAccount _ g tt (λ e. if_not s t (nat_lt (length t.ops) n) PositionBeyond _ g tt (λ f.
+    answers s t _ g (balance_fits s c (take n t.ops) a (IsValid-front s (take n t.ops) (drop n t.ops) valid))))
+keeps s c t g (AskStatement a) =
+    if_not s t (not (is_account s a)) UnknownAccount _ g tt (λ e. record { order = g; sends = none_fit s; says = tt })
 
 -- the same of an event that may find the history full
 stays : (s : Settings) → IsConfigured s → (t : ModelSite) → IsInOrder s t → (e : Event) →

@@ -1,6 +1,5 @@
 -- Accounts, from their names and their starting balances.
-use Rattle.std.proofs.Common.{◌≡◌, ◌<◌, ◌≤◌, ℕ, zero, suc, List, [], ◌∷◌, length, drop, get_or, refl, arith}
-use Rattle.rb_history.specs.ConfigLines.{accounts_of}
+use Rattle.rb_history.proofs.Words.{◌≡◌, ◌<◌, ◌≤◌, ℕ, zero, suc, List, [], ◌∷◌, length, drop, get_or, refl, arith, accounts_of}
 
 -- the accounts from a place on begin with the account there
 pub drop_accounts : (names : List (List ℕ)) (starts : List ℕ) (i : ℕ) → i < length names → i < length starts

@@ -1,23 +1,11 @@
 -- A statement of a valid list fits a line, and so does what refers to a position in one.
-use Rattle.std.proofs.Common.{◌≡◌, ◌<◌, ◌≤◌, ◌+◌, ◌^◌, ℕ, suc, Bool, true, false, cond, List, [], ◌∷◌, ◌++◌, length, sym, subst, arith}
-use Rattle.std.proofs.Common.{append_assoc, inl, refl}
-use Rattle.std.specs.Prelude.{ℤ, pos, negsuc, neg_ℤ, ◌+ℤ◌, ◌≤ℤ◌}
-use Rattle.std.proofs.lemmas.Int.{ints}
-use Rattle.std.proofs.lemmas.List.{length-append}
-use Rattle.rb_money.specs.Amounts.{cents}
-use Rattle.rb_money.specs.Settings.{IsConfigured, Settings}
-use Rattle.rb_money.specs.declared.limits.TheConstants.{MOST_BALANCE, MOST_OPERATIONS}
-use Rattle.rb_money.specs.declared.place.Place.{Place}
-use Rattle.rb_shadow.specs.Operations.{bal, cancels, is_on}
-use Rattle.rb_shadow.specs.declared.op_name.OpName.{OpName}
-use Rattle.rb_shadow.specs.declared.shadow.Shadow.{Shadow}
+use Rattle.rb_history.proofs.Words.{◌≡◌, ◌<◌, ◌≤◌, ◌+◌, ◌^◌, ℕ, suc, Bool, true, false, cond, List, [], ◌∷◌, ◌++◌, length, sym, subst}
+use Rattle.rb_history.proofs.Words.{arith, append_assoc, inl, refl, ℤ, pos, negsuc, neg_ℤ, ◌+ℤ◌, ◌≤ℤ◌, ints, length-append, cents}
+use Rattle.rb_history.proofs.Words.{IsConfigured, Settings, MOST_BALANCE, MOST_OPERATIONS, Place, bal, cancels, is_on, OpName, Shadow}
+use Rattle.rb_history.proofs.Words.{IsValid, first_cancel_from, IsValid-front, member_sound, Each, IsMoved, IsReply, IsStatementRow}
 use Rattle.rb_shadow.proofs.Public.Members
-use Rattle.rb_ledger.specs.Valid.{IsValid, first_cancel_from}
-use Rattle.rb_ledger.proofs.Public.Legal.{IsValid-front}
-use Rattle.rb_ledger.proofs.Public.ValidClocks.{member_sound}
 use Rattle.rb_site.specs.declared.reply.Reply.TheVariants.{Statement}
 use Rattle.rb_statements.specs.Statements.{row_after, rows_of, statement_of}
-use Rattle.rb_history.specs.Fits.{Each, IsMoved, IsReply, IsStatementRow}
 use Rattle.rb_history.proofs.ListBounds.{few_operations, small_balance, small_start}
 use Rattle.rb_history.proofs.MadeFit.{facts_name}
 use Rattle.rb_history.proofs.Public.Each.{each_both}

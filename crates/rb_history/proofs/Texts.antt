@@ -1,45 +1,23 @@
 -- The lines of entries and of configurations are UTF-8.
-use Rattle.std.proofs.Common.{◌≡◌, ℕ, suc, List, [], ◌∷◌, true, codes, IsUtf8, refl, Option, Some, None, Bool, false}
-use Rattle.std.proofs.Common.{take, inl, inr, arith}
-use Rattle.std.specs.Prelude.{◌==◌, if◌then◌else◌, map, nat_lt, slice_get, unwrap_or}
-use Rattle.std.specs.List.{list_all}
-use Rattle.std.proofs.lemmas.Bool.{and_parts}
-use Rattle.std.proofs.lemmas.Bool.Decides.{nat_tests}
-use Rattle.json.proofs.Printed.Utf8.{are_ascii, IsUtf8-are_ascii}
-use Rattle.serde_json.specs.View.{items_of}
-use Rattle.serde_json.specs.Written.{compact_text}
-use Rattle.rb_money.specs.Settings.{IsConfigured, Settings, is_account_name, is_name_byte}
-use Rattle.rb_money.specs.declared.limits.TheConstants.{MOST_SITES_OF_VERSION_1}
-use Rattle.rb_money.specs.declared.place.Place.{Place}
-use Rattle.rb_scratch.specs.declared.request.Request.{Request}
-use Rattle.rb_scratch.specs.declared.request.Request.TheVariants.{Deposit, Withdraw, Interest, Cancel, Transfer}
-use Rattle.rb_shadow.specs.Labels.{label_of}
-use Rattle.rb_shadow.specs.declared.kind.Kind.{Kind}
-use Rattle.rb_shadow.specs.declared.kind.Kind.TheVariants.{Cancel as CancelKind, Transfer as TransferKind}
-use Rattle.rb_shadow.specs.declared.shadow.Shadow.{Shadow}
-use Rattle.rb_site.specs.declared.event.Event.{Event}
-use Rattle.rb_site.specs.declared.event.Event.TheVariants.{Submit, Batch, Receive, Apply, Pass, Balance, AsOf, Statement}
-use Rattle.rb_site.specs.declared.message.Message.TheVariants.{Shadow as ShadowMessage, Token as TokenOnItsWay}
-use Rattle.rb_history.specs.Values.{list_json, number_json}
+use Rattle.rb_history.proofs.Words.{◌≡◌, ℕ, suc, List, [], ◌∷◌, true, codes, IsUtf8, refl, Option, Some, None, Bool, false, take, inl, inr}
+use Rattle.rb_history.proofs.Words.{arith, ◌==◌, if◌then◌else◌, map, nat_lt, slice_get, unwrap_or, list_all, and_parts, nat_tests}
+use Rattle.rb_history.proofs.Words.{IsUtf8-are_ascii, items_of, compact_text, IsConfigured, Settings, is_account_name, is_name_byte}
+use Rattle.rb_history.proofs.Words.{MOST_SITES_OF_VERSION_1, Place, Request, Deposit, Withdraw, Interest, Cancel, Transfer, label_of, Kind}
+use Rattle.rb_history.proofs.Words.{CancelKind, TransferKind, Shadow, Event, Submit, Batch, Receive, Apply, Pass, Balance, AsOf, Statement}
+use Rattle.rb_history.proofs.Words.{ShadowMessage, TokenOnItsWay, list_json, number_json, blue_json, numbered_from, numbered_json}
+use Rattle.rb_history.proofs.Words.{accounts_of, config_json, start_json, account_json, asked_entry_json, deps_json, event_json}
+use Rattle.rb_history.proofs.Words.{last_members, request_json, shadow_json, AskedEntry, IsIdOrNone}
 use Rattle.rb_history.proofs.Utf8.{HasTexts, ItemsHaveTexts, MembersHaveTexts, label_utf8, list_texts, name_utf8, reply_texts}
 use Rattle.rb_history.proofs.Utf8.{text_utf8}
-use Rattle.rb_history.specs.Counts.{blue_json, numbered_from, numbered_json}
-use Rattle.rb_history.specs.ConfigLines.{accounts_of, config_json, start_json}
-use Rattle.rb_history.specs.Entries.{account_json, asked_entry_json, deps_json, event_json, last_members}
-use Rattle.rb_history.specs.Entries.{request_json, shadow_json}
-use Rattle.rb_history.specs.Ids.{AskedEntry, IsIdOrNone}
 use Rattle.rb_history.proofs.Public.IdText.{id_utf8}
+use Rattle.rb_history.proofs.Utf8.{ascii_all}
 
 -- an account's name is ASCII
 byte_ascii : (b : ℕ) → is_name_byte b ≡ true → nat_lt b 128 ≡ true
 byte_ascii b h = grind (arith, nat_tests)
 
-bytes_ascii : (name : List ℕ) → list_all is_name_byte name ≡ true → are_ascii name ≡ true
-bytes_ascii [] h = refl
-bytes_ascii (b ∷ bs) h = let p = and_parts (is_name_byte b) (list_all is_name_byte bs) h in rw (byte_ascii b p.0, bytes_ascii bs p.1) refl
-
 name_text : (name : List ℕ) → is_account_name name ≡ true → IsUtf8 name
-name_text name h = IsUtf8-are_ascii name (bytes_ascii name (and_parts _ (list_all is_name_byte name) h).1)
+name_text name h = IsUtf8-are_ascii name (ascii_all is_name_byte byte_ascii name (and_parts _ (list_all is_name_byte name) h).1)
 
 account_texts : (s : Settings) → IsConfigured s → (a : Place) → HasTexts (account_json s a)
 account_texts s c a = at (slice_get s.names a.0) refl

@@ -1,23 +1,10 @@
 -- A command in the usual spelling is the compact text of its object, and so is read as the command.
-use Rattle.std.proofs.Common.{◌≡◌, ◌<◌, ◌≤◌, ◌^◌, ℕ, List, ◌++◌, Option, None, Some, codes, decimal, refl, ap, ◌∙◌, arith}
-use Rattle.std.specs.Prelude.{option_and_then}
-use Rattle.json.specs.Print.{escape_byte}
-use Rattle.json.specs.Tree.{HasNumbers}
-use Rattle.json.specs.Tree as tree
-use Rattle.json.proofs.Printed.Decimals.{IsNumber-decimal}
-use Rattle.serde_json.specs.Data.{Data, object, put, member, no_members}
-use Rattle.serde_json.specs.Read.{of_json, max_depth}
-use Rattle.serde_json.specs.Written.{compact_text, outline}
-use Rattle.serde_json.proofs.Numbers.{number_of-decimal}
-use Rattle.rb_money.specs.Settings.{Settings}
-use Rattle.rb_site.specs.declared.world_event.WorldEvent.{WorldEvent}
-use Rattle.rb_history.specs.Commands.{command_at, command_of, sited_json}
-use Rattle.rb_history.specs.Beginnings.{behind_quote}
-use Rattle.rb_history.specs.SitedLines.{EndsLine, behind_site}
-use Rattle.rb_history.specs.Values.{number_json}
+use Rattle.rb_history.proofs.Words.{◌≡◌, ◌<◌, ◌^◌, ℕ, List, ◌++◌, Option, None, Some, codes, decimal, refl, ap, ◌∙◌, arith, escape_byte}
+use Rattle.rb_history.proofs.Words.{IsNumber-decimal, Data, object, put, member, no_members, compact_text, number_of-decimal, Settings}
+use Rattle.rb_history.proofs.Words.{WorldEvent, command_at, command_of, sited_json, behind_quote, EndsLine, behind_site, number_json}
 use Rattle.rb_history.proofs.EntryText.{IsText}
 use Rattle.rb_history.proofs.Sited.{IsCommandOf, site_after, site_before}
-use Rattle.rb_history.proofs.Reading.{compact_read}
+use Rattle.rb_history.proofs.Reading.{line_read}
 
 -- the text begins with the member of this command, and then the rest follows
 pub record Spells (s : Settings) (command : ℕ → WorldEvent) (text rest : List ℕ) : Type 0 where
@@ -26,11 +13,6 @@ pub record Spells (s : Settings) (command : ℕ → WorldEvent) (text rest : Lis
   pub written : text ≡ behind_quote key ++ (codes ":" ++ (compact_text value ++ rest))
   pub read : IsText value 4
   pub is : IsCommandOf s command key value
-
-command_read : (s : Settings) (turned d : Data) (c : WorldEvent) (line : List ℕ) → line ≡ compact_text turned → HasNumbers (outline turned)
-    → tree.depth (outline turned) ≤ max_depth → of_json (outline turned) ≡ Some d → command_of s d ≡ Some c → command_at s line ≡ Some c
-command_read s turned d c line text numbers shallow same is =
-    ap (command_at s) text ∙ ap (option_and_then (command_of s)) (compact_read turned d numbers shallow same) ∙ is
 
 short : (n : ℕ) → n < 2 ^ 8 → n < 2 ^ 64
 short n h = omega arith
@@ -47,7 +29,7 @@ last_line s command site text rest t h e =
     let sited = object (put (codes "site") (number_json site) (member t.key t.value no_members)) in
     let behind = ap (λ l. behind_quote t.key ++ (codes ":" ++ (compact_text t.value ++ l))) e in
     let line : codes "{\"" ++ text ≡ compact_text turned = ap (λ l. codes "{\"" ++ l) (t.written ∙ behind) in
-    command_read s turned sited (command site) (codes "{\"" ++ text) line (
+    line_read (command_of s) turned sited (command site) (codes "{\"" ++ text) line (
       is.numbers,
       (IsNumber-decimal site k, tt),
     ) (omega arith)
@@ -65,7 +47,7 @@ first_line s command site text rest t h e =
     let whole = codes "{\"site\":" ++ (decimal site ++ (codes ",\"" ++ text)) in
     let behind = ap (λ l. behind_quote t.key ++ (codes ":" ++ (compact_text t.value ++ l))) e in
     let line : whole ≡ compact_text turned = ap (λ l. codes "{\"site\":" ++ (decimal site ++ (codes ",\"" ++ l))) (t.written ∙ behind) in
-    command_read s turned (sited_json t.key t.value site) (command site) whole line (
+    line_read (command_of s) turned (sited_json t.key t.value site) (command site) whole line (
       IsNumber-decimal site k,
       (is.numbers, tt),
     ) (omega arith)

@@ -1,50 +1,47 @@
 -- The line of a reply is UTF-8.
-use Rattle.std.proofs.Common.{◌≡◌, ◌/◌, ◌%◌, ◌<◌, ◌==◌, ℕ, pos, negsuc, zero, suc, List, [], ◌∷◌, ◌++◌, Bool, true, false, cond, codes}
-use Rattle.std.proofs.Common.{decimal, IsUtf8, refl, arith, rules}
-use Rattle.std.specs.Prelude.{⊤, map, nat_lt}
-use Rattle.std.specs.Fmt.{digits, digits_onto, digit_glyph}
-use Rattle.std.proofs.lemmas.Str.{IsUtf8-append, IsUtf8-nil}
-use Rattle.json.proofs.Printed.Utf8.{are_ascii, IsUtf8-are_ascii, IsUtf8-quoted, IsUtf8-boolean}
-use Rattle.json.specs.Print.{quoted}
-use Rattle.serde_json.specs.Data.{Num, unsigned, negative, float, Data, null, boolean, number, string, array, object, Items, no_items, item}
-use Rattle.serde_json.specs.Data.{Members, no_members, member}
-use Rattle.serde_json.specs.View.{items_of}
-use Rattle.serde_json.specs.Written.{comma_if, number_text, compact_text, items_text, members_text}
-use Rattle.rb_money.specs.declared.refusal.Cause.TheVariants.{Declined as CauseDeclined, Refused as CauseRefused}
-use Rattle.rb_money.specs.declared.refusal.Refusal.{Refusal}
-use Rattle.rb_money.specs.declared.refusal.Refusal.TheVariants.{AlreadyCancelled, RedBehind, BatchRefused, BadMessage}
-use Rattle.rb_shadow.specs.NameText.{name_text}
-use Rattle.rb_shadow.specs.declared.op_name.OpName.{OpName}
-use Rattle.rb_shadow.specs.declared.op_name.OpName.TheVariants.{Blue, Red}
-use Rattle.rb_shadow.specs.declared.label.Label.{Label}
+use Rattle.rb_history.proofs.Words.{◌≡◌, ◌/◌, ◌%◌, ◌<◌, ◌==◌, ℕ, pos, negsuc, zero, suc, List, [], ◌∷◌, ◌++◌, Bool, true, false, cond}
+use Rattle.rb_history.proofs.Words.{codes, decimal, IsUtf8, refl, arith, rules, ⊤, map, nat_lt, digits, digits_onto, digit_glyph}
+use Rattle.rb_history.proofs.Words.{IsUtf8-append, IsUtf8-nil, are_ascii, IsUtf8-are_ascii, IsUtf8-quoted, IsUtf8-boolean, quoted, Num}
+use Rattle.rb_history.proofs.Words.{unsigned, negative, float, Data, null, number, string, array, object, Items, no_items, item, Members}
+use Rattle.rb_history.proofs.Words.{no_members, member, items_of, comma_if, number_text, compact_text, items_text, members_text}
+use Rattle.rb_history.proofs.Words.{CauseDeclined, CauseRefused, Refusal, AlreadyCancelled, RedBehind, BatchRefused, BadMessage, name_text}
+use Rattle.rb_history.proofs.Words.{OpName, Blue, Red, Label, Reply, Made, Names, Held, Already, Taken, Stale, Applied, Passed, Refused}
+use Rattle.rb_history.proofs.Words.{Row, line, reply_json, refusal_json, row_json, word_of, name_json, ◌&&◌, ap₂, and_parts, list_all}
+use Rattle.serde_json.specs.Data.{boolean}
 use Rattle.rb_shadow.specs.declared.label.Label.TheVariants.{Deposit}
-use Rattle.rb_site.specs.declared.reply.Reply.{Reply}
-use Rattle.rb_site.specs.declared.reply.Reply.TheVariants.{Made, Names, Held, Already, Taken, Stale, Applied, Passed, Balance, Statement}
-use Rattle.rb_site.specs.declared.reply.Reply.TheVariants.{Refused}
-use Rattle.rb_statements.specs.declared.row.Row.{Row}
-use Rattle.rb_history.specs.Replies.{line, reply_json, refusal_json}
-use Rattle.rb_history.specs.Statements.{row_json}
-use Rattle.rb_history.specs.KindWords.{word_of}
-use Rattle.rb_history.specs.Values.{name_json}
+use Rattle.rb_site.specs.declared.reply.Reply.TheVariants.{Balance, Statement}
 
-either_ascii : (b : Bool) (xs ys : List ℕ) → are_ascii xs ≡ true → are_ascii ys ≡ true → are_ascii (cond b xs ys) ≡ true
-either_ascii true xs ys h k = h
-either_ascii false xs ys h k = k
+either_all : (p : ℕ → Bool) (b : Bool) (xs ys : List ℕ) → list_all p xs ≡ true → list_all p ys ≡ true → list_all p (cond b xs ys) ≡ true
+either_all p true xs ys h k = h
+either_all p false xs ys h k = k
+
+-- what holds of each digit holds of a number's
+digits_all : (p : ℕ → Bool) → ((d : ℕ) → d < 10 → p (digit_glyph false d) ≡ true) → (k n : ℕ) (acc : List ℕ) → list_all p acc ≡ true
+    → list_all p (digits_onto k 10 false n acc) ≡ true
+digits_all p each zero n acc h = h
+digits_all p each (suc k) n acc h =
+    let d = digit_glyph false (n % 10) in
+    let more : list_all p (d ∷ acc) ≡ true = ap₂ (λ a b. a && b) (each (n % 10) (omega arith)) h in
+    either_all p (n / 10 == 0) (d ∷ acc) (digits_onto k 10 false (n / 10) (d ∷ acc)) more (digits_all p each k (n / 10) (d ∷ acc) more)
+
+-- and so of all of them
+pub decimal_all : (p : ℕ → Bool) → ((d : ℕ) → d < 10 → p (digit_glyph false d) ≡ true) → (n : ℕ) → list_all p (decimal n) ≡ true
+unfolding digits
+decimal_all p each n = digits_all p each 64 n [] refl
+
+-- bytes of a kind that is ASCII are ASCII
+pub ascii_all : (p : ℕ → Bool) → ((b : ℕ) → p b ≡ true → nat_lt b 128 ≡ true) → (bs : List ℕ) → list_all p bs ≡ true
+    → are_ascii bs ≡ true
+ascii_all p each [] h = refl
+ascii_all p each (b ∷ bs) h = let q = and_parts (p b) (list_all p bs) h in rw (each b q.0, ascii_all p each bs q.1) refl
 
 glyph_ascii : (d : ℕ) → d < 10 → nat_lt (digit_glyph false d) 128 ≡ true
 glyph_ascii d h = let low : nat_lt d 10 ≡ true = search rules in rw low (search rules)
 
-digits_ascii : (k n : ℕ) (acc : List ℕ) → are_ascii acc ≡ true → are_ascii (digits_onto k 10 false n acc) ≡ true
-digits_ascii zero n acc h = h
-digits_ascii (suc k) n acc h =
-    let d = digit_glyph false (n % 10) in
-    let more : are_ascii (d ∷ acc) ≡ true = rw (glyph_ascii (n % 10) (omega arith), h) refl in
-    either_ascii (n / 10 == 0) (d ∷ acc) (digits_onto k 10 false (n / 10) (d ∷ acc)) more (digits_ascii k (n / 10) (d ∷ acc) more)
-
 -- digits are UTF-8
 pub decimal_utf8 : (n : ℕ) → IsUtf8 (decimal n)
-unfolding digits
-decimal_utf8 n = IsUtf8-are_ascii (decimal n) (digits_ascii 64 n [] refl)
+decimal_utf8 n = IsUtf8-are_ascii (decimal n) (ascii_all (λ b. nat_lt b 128) (λ b e. e) (decimal n)
+    (decimal_all (λ b. nat_lt b 128) glyph_ascii n))
 
 number_utf8 : (n : Num) → IsUtf8 (number_text n)
 number_utf8 (unsigned n) = decimal_utf8 n

@@ -1,13 +1,8 @@
 -- A configuration in a version that its sites may have.
-use Rattle.std.proofs.Common.{◌≡◌, ℕ, List, Bool, true, false, Some, None, refl, sym, ap, subst, ◌∙◌}
-use Rattle.std.specs.Prelude.{◌==◌, ◌&&◌, ◌||◌, if◌then◌else◌, is_none, nat_le}
-use Rattle.std.proofs.lemmas.Bool.{and_parts, eqb-true, ne_eqb}
-use Rattle.rb_money.specs.Faults.{Account, config_fault, settings_of}
+use Rattle.rb_history.proofs.Words.{◌≡◌, ℕ, List, Bool, true, false, Some, None, refl, sym, ap, subst, ◌∙◌, ◌==◌, ◌&&◌, ◌||◌, if◌then◌else◌}
+use Rattle.rb_history.proofs.Words.{is_none, nat_le, and_parts, eqb-true, ne_eqb, Account, config_fault, settings_of, Limits, Settings}
+use Rattle.rb_history.proofs.Words.{in_version_2, version_of, MOST_SITES_OF_VERSION_1, config_from, is_version}
 use Rattle.rb_money.specs.declared.fault.ConfigFault.{ConfigFault}
-use Rattle.rb_money.specs.declared.limits.Limits.{Limits}
-use Rattle.rb_money.specs.Settings.{Settings, in_version_2, version_of}
-use Rattle.rb_money.specs.declared.limits.TheConstants.{MOST_SITES_OF_VERSION_1}
-use Rattle.rb_history.specs.Configurations.{config_from, is_version}
 
 left : (b : Bool) → (b || false) ≡ true → b ≡ true
 left true h = refl

@@ -54,7 +54,7 @@ impl RequestId {
         self.bytes.clear();
     }
 
-    /// An id, or none, takes the place of what was there. After an `Err`, out of memory, there is none.
+    /// An id, or no id, takes the place of what was there. After an `Err`, out of memory, there is no id.
     pub fn set(&mut self, text: &str) -> Result<(), AllocError>
         requires { IsIdOrNone text.now }
         ensures ok { OnOk result (self.new ≡ text.now) }

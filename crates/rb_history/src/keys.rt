@@ -13,7 +13,7 @@ macro_rules! spell {
     ($($all:tt)*) => { $crate::spell!(@ [] $($all)*) };
 }
 
-/// The same without the first quote, with which the text begins.
+/// The text of `spell!` without its first quote: `behind_quote!(refused ":9")` is `refused":9`.
 macro_rules! behind_quote {
     ($word:ident $($rest:tt)*) => { $crate::word!($word [] "\"" $($rest)*) };
 }
@@ -23,7 +23,7 @@ macro_rules! key {
     ($word:ident) => { $crate::word!($word []) };
 }
 
-/// The table of the words: each goes behind the part of a text that is done. Only the macros above call it.
+/// The table of the words: each is added after the part of a text that is done. Only the macros above call it.
 #[macro_export]
 macro_rules! word {
     // Events, and what a command asks.

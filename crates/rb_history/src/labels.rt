@@ -21,7 +21,7 @@ pub fn word_of(kind: Label) -> &'static str
     }
 }
 
-/// The kind whose word the text begins with, and the text behind the word. `None` if it begins with none.
+/// The kind whose word the text begins with, and the text after the word. `None` if it begins with no such word.
 #[inline(always)]
 pub fn strip_word(text: &str) -> Option<(Label, &str)>
     ensures some { IfSome result (λ p. text.now ≡ word_of p.0 ++ p.1.now) }

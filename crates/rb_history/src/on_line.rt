@@ -13,7 +13,7 @@ use rb_money::Config;
 use rb_site::WorldEvent;
 use std::alloc::Global;
 
-/// The configuration on a line: `Bad` if it is none, `OutOfMemory` if there was no memory to read it.
+/// The configuration on a line: `Bad` if it isn't one, `OutOfMemory` if there was no memory to read it.
 #[tactic(auto, unfolding(crate::specs::Configurations::config_on))]
 pub fn open_config(alloc: Global, line: &[u8]) -> Result<Config, LineFault>
     ensures { MatchResult result
@@ -24,7 +24,7 @@ pub fn open_config(alloc: Global, line: &[u8]) -> Result<Config, LineFault>
     read_config(alloc, text)
 }
 
-/// The command on a line, under a configuration: `Bad` if it is none, `OutOfMemory` if there was no memory to read it.
+/// The command on a line, under a configuration. `Bad` if it isn't one, `OutOfMemory` without memory to read it.
 #[inline(always)]
 #[tactic(auto, unfolding(crate::specs::OnLines::command_on))]
 pub fn open_command(alloc: Global, config: &Config, line: &[u8]) -> Result<WorldEvent, LineFault>

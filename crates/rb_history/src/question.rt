@@ -1,4 +1,4 @@
-//! Questions that a site is asked beside events.
+//! Questions that a site answers beside events.
 ghost use Rattle.std.specs.Prelude.{◌≡◌, ◌+◌, codes, option_map};
 ghost use Rattle.serde_json.specs.Find.{get};
 ghost use Rattle.serde_json.specs.View.{view};
@@ -18,7 +18,7 @@ use rb_money::MOST_HISTORY;
 use serde_json::Value;
 use std::alloc::Global;
 
-/// A question that a site is asked beside events.
+/// A question that a site answers. It is no event: nothing changes, and nothing is recorded.
 #[derive(Clone, Copy, Debug, PartialEq, Eq)]
 pub enum Question {
     /// About the site: how much it applied and holds.
@@ -90,7 +90,7 @@ fn asked_named(bank: &BankName, value: &Value) -> Option<Question>
     }
 }
 
-/// The question that a line is to a bank without a name: `Bad` if it is none, `OutOfMemory` if there was no memory to
+/// The question that a line is to a bank without a name: `Bad` if it isn't one, `OutOfMemory` if there was no memory to
 /// read it.
 fn read_question(alloc: Global, line: &str) -> Result<Question, LineFault>
     ensures { Gives result (question_of_line line.now) }
@@ -99,7 +99,7 @@ fn read_question(alloc: Global, line: &str) -> Result<Question, LineFault>
     asked(&value).ok_or(LineFault::Bad)
 }
 
-/// The question that a line is to a bank: `Bad` if it is none, `OutOfMemory` if there was no memory to read it.
+/// The question that a line is to a bank: `Bad` if it isn't one, `OutOfMemory` if there was no memory to read it.
 ///
 /// To a bank with a name, it may have the name beside it, as the member `"bank"`.
 pub fn read_question_to(alloc: Global, bank: &BankName, line: &str) -> Result<Question, LineFault>

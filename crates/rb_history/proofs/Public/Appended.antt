@@ -1,9 +1,6 @@
 -- The bytes that one call adds after another.
-use Rattle.std.proofs.Common.{◌≡◌, ℕ, List, ◌++◌, length, take, drop, take-append-drop, refl, sym, ap, ◌∙◌, append_assoc}
-use Rattle.std.specs.Prelude.{Result, Ok, Err}
-use Rattle.std.specs.Result.{IsErr}
-use Rattle.std.proofs.lemmas.List.{take_at}
-use Rattle.rb_history.specs.Adds.{Adds}
+use Rattle.rb_history.proofs.Words.{◌≡◌, ℕ, List, ◌++◌, length, take, drop, take-append-drop, refl, sym, ap, ◌∙◌, append_assoc, Result, Ok}
+use Rattle.rb_history.proofs.Words.{Err, IsErr, take_at, Adds}
 
 -- what was there before a text was added is there after more was added
 pub front_stays : (old mid new a : List ℕ) → mid ≡ old ++ a → take (length mid) new ≡ mid → take (length old) new ≡ old

@@ -1,25 +1,11 @@
 -- No line is both a question and an event to a bank, and one of another bank is none of them.
-use Rattle.std.proofs.Common.{◌≡◌, ◌==◌, suc, List, ℕ, Option, None, Some, Ordering, Less, Equal, Greater, nat_cmp, is_eq}
-use Rattle.std.proofs.Common.{Bool, true, false, [], ◌∷◌, codes, bytes_eq, refl, sym, ◌∙◌, subst, inl, inr, arith}
-use Rattle.std.proofs.lemmas.Bool.{eqb-true}
-use Rattle.std.proofs.lemmas.Map.Text.{is_eq-slice_cmp}
-use Rattle.std.proofs.lemmas.Slice.Eq.{bytes_eq-Decides}
-use Rattle.std.specs.Cmp.Lexicographic.{slice_cmp}
-use Rattle.std.specs.Ordering.{match_ordering}
-use Rattle.std.specs.Prelude.{◌⊎◌, if◌then◌else◌, not, option_and_then, option_map, unwrap_or}
-use Rattle.serde_json.specs.Data.{Data, null, boolean, number, string, array, object, no_members, member}
-use Rattle.serde_json.specs.Events.{members_len}
-use Rattle.serde_json.specs.Find.{as_str, get}
-use Rattle.serde_json.specs.Read.{read}
-use Rattle.rb_money.specs.Settings.{Settings}
-use Rattle.rb_history.specs.Banks.{QuestionsAreNoEvents, OtherBanksAskNothing, event_beside, event_named}
-use Rattle.rb_history.specs.Banks.{has_bank, has_other_bank, is_other_named, is_other_text, is_receipt}
-use Rattle.rb_history.specs.Banks.{is_this_text, question_beside, question_named, question_or}
-use Rattle.rb_history.specs.Entries.{asked_event_at}
-use Rattle.rb_history.specs.Ids.{AskedEvent}
-use Rattle.rb_history.specs.Questions.{question_asked, question_of}
-use Rattle.rb_history.specs.Values.{one_json, size_of}
-use Rattle.rb_history.specs.declared.question.Question.{Question}
+use Rattle.rb_history.proofs.Words.{◌≡◌, ◌==◌, suc, List, ℕ, Option, None, Some, Ordering, Equal, nat_cmp, is_eq, Bool, true, false, []}
+use Rattle.rb_history.proofs.Words.{◌∷◌, codes, bytes_eq, refl, sym, ◌∙◌, subst, inl, inr, arith, eqb-true, is_eq-slice_cmp}
+use Rattle.rb_history.proofs.Words.{bytes_eq-Decides, slice_cmp, match_ordering, ◌⊎◌, if◌then◌else◌, not, option_and_then, option_map}
+use Rattle.rb_history.proofs.Words.{unwrap_or, Data, object, no_members, member, members_len, as_str, get, read, Settings}
+use Rattle.rb_history.proofs.Words.{QuestionsAreNoEvents, OtherBanksAskNothing, event_beside, event_named, has_bank, has_other_bank}
+use Rattle.rb_history.proofs.Words.{is_other_named, is_other_text, is_receipt, is_this_text, question_beside, question_named, question_or}
+use Rattle.rb_history.proofs.Words.{asked_event_at, AskedEvent, question_asked, question_of, one_json, size_of, Question}
 use Rattle.rb_history.proofs.Banked.{beside_alone}
 use Rattle.rb_history.proofs.FitsLaws.{tested}
 use Rattle.rb_history.proofs.Questions.{key_is, no_event, question_no_event}
@@ -44,9 +30,8 @@ none_if false o e = refl
 
 here_or_later : (o : Ordering) (later : Option Data) (value v : Data) → match_ordering o later (Some value) later ≡ Some v
     → (is_eq o ≡ true) ⊎ (later ≡ Some v)
-here_or_later Less later value v e = inr e
 here_or_later Equal later value v e = inl refl
-here_or_later Greater later value v e = inr e
+here_or_later _ later value v e = inr e
 
 -- the key that is found in an object of two members is one of theirs
 one_of : (k key other : List ℕ) (value more v : Data)
@@ -104,13 +89,6 @@ beside_two s key other value more named found (inr (v, e)) =
 -- a question beside a name is no event
 beside_none : (s : Settings) (d named : Data) (q : Question) → get (codes "bank") d ≡ Some named
     → question_beside d ≡ Some q → IsNone s d
-beside_none s null named q found e = absurd (cc)
-beside_none s (boolean b) named q found e = absurd (cc)
-beside_none s (number n) named q found e = absurd (cc)
-beside_none s (string t) named q found e = absurd (cc)
-beside_none s (array ds) named q found e = absurd (cc)
-beside_none s (object no_members) named q found e = absurd (cc)
-beside_none s (object (member key value no_members)) named q found e = absurd (cc)
 beside_none s (object (member key value (member other more no_members))) named q found e =
     let d = object (member key value (member other more no_members)) in
     beside_two s key other value more named found (asks (get (codes "about") d) (get (codes "resend") d) q e)
@@ -119,10 +97,7 @@ beside_none s (object (member key value (member other more (member k v ms)))) na
     let asked = question_asked (get (codes "about") d) (get (codes "resend") d) in
     let two : suc (suc (suc (members_len ms))) ≡ 2 = eqb-true (size_of d) 2 (tested (size_of d == 2) asked q e) in
     absurd (omega arith)
-
--- an object of one member is no event beside a name
-one_alone : (s : Settings) (d : Data) → size_of d ≡ 1 → event_beside s d ≡ None
-one_alone s d one = rw one refl
+beside_none s _ named q found e = absurd (cc)
 
 -- a question by itself has one member
 one_member : (d : Data) (q : Question) → question_of d ≡ Some q → size_of d ≡ 1
@@ -137,15 +112,10 @@ named_none s bank d q e = by (question_of d) refl e
     beside = if has_bank bank d then question_beside d else None
 
     by : (o : Option Question) → question_of d ≡ o → question_or o beside ≡ Some q → IsNone s d
-    by (Some p) is f = (no_event s d p is, one_alone s d (one_member d p is))
+    by (Some p) is f = (no_event s d p is, rw (one_member d p is) refl)
     by None is f =
         let found = there (is_this_text bank) (get (codes "bank") d) (tested (has_bank bank d) (question_beside d) q f) in
         beside_none s d found.0 q found.1 (chosen (has_bank bank d) (question_beside d) q f)
-
--- what is no event by itself or beside a name is none to a bank
-none_named : (s : Settings) (bank : List ℕ) (d : Data) → IsNone s d → event_named s bank d ≡ None
-none_named s bank d (alone, beside) =
-    beside_alone s bank d alone ∙ none_if (has_bank bank d) (event_beside s d) beside
 
 -- a question to a bank is no event to it
 pub question_none_to : QuestionsAreNoEvents
@@ -155,7 +125,9 @@ question_none_to s (b ∷ bs) line q e = by (read line) e
     by : (o : Option Data) → option_and_then (question_named (b ∷ bs)) o ≡ Some q
         → option_and_then (event_named s (b ∷ bs)) o ≡ None
     by None f = absurd (cc)
-    by (Some d) f = none_named s (b ∷ bs) d (named_none s (b ∷ bs) d q f)
+    by (Some d) f =
+        let none = named_none s (b ∷ bs) d q f in
+        beside_alone s (b ∷ bs) d none.0 ∙ none_if (has_bank (b ∷ bs) d) (event_beside s d) none.1
 
 -- ---- another bank's line is nothing
 
@@ -174,21 +146,10 @@ not_this : (bank : List ℕ) (o : Option Data) → unwrap_or (option_map (is_oth
 not_this bank None h = absurd (cc)
 not_this bank (Some d) h = other_value bank (as_str d) h
 
--- an object of one member that has a bank's name asks nothing
-name_alone : (key : List ℕ) (value named : Data) → get (codes "bank") (one_json key value) ≡ Some named
-    → question_of (one_json key value) ≡ None
-name_alone key value named found =
-    subst (λ k. question_of (one_json k value) ≡ None) (key_is (codes "bank") key value named found) refl
-
 -- an object that has a bank's name is no question by itself
 no_question : (d named : Data) → get (codes "bank") d ≡ Some named → question_of d ≡ None
-no_question null named found = absurd (cc)
-no_question (boolean b) named found = absurd (cc)
-no_question (number n) named found = absurd (cc)
-no_question (string t) named found = absurd (cc)
-no_question (array ds) named found = absurd (cc)
-no_question (object no_members) named found = absurd (cc)
-no_question (object (member key value no_members)) named found = name_alone key value named found
+no_question (object (member key value no_members)) named found =
+    subst (λ k. question_of (one_json k value) ≡ None) (key_is (codes "bank") key value named found) refl
 no_question (object (member key value (member other more ms))) named found = by (question_of d) refl
   where
     d : Data
@@ -197,6 +158,7 @@ no_question (object (member key value (member other more ms))) named found = by 
     by : (o : Option Question) → question_of d ≡ o → question_of d ≡ None
     by None e = e
     by (Some q) e = let one : suc (suc (members_len ms)) ≡ 1 = one_member d q e in absurd (omega arith)
+no_question _ named found = absurd (cc)
 
 -- an object of another bank is no event and no question
 nothing_named : (s : Settings) (bank : List ℕ) (d : Data) → is_other_named s bank d ≡ true

@@ -1,6 +1,5 @@
 -- Facts about each item of two lists.
-use Rattle.std.proofs.Common.{List, [], ◌∷◌, ◌++◌}
-use Rattle.rb_history.specs.Fits.{Each}
+use Rattle.rb_history.proofs.Words.{List, [], ◌∷◌, ◌++◌, Each}
 
 -- each item of both lists has it
 pub each_both : {A : Type 0} (P : A → Type 0) (xs ys : List A) → Each P xs → Each P ys → Each P (xs ++ ys)

@@ -1,17 +1,10 @@
 -- An id, as a text: its bytes are written as they are, and are read back.
-use Rattle.std.proofs.Common.{◌≡◌, ◌≤◌, ℕ, List, [], ◌∷◌, ◌++◌, Some, length, codes, true, IsUtf8}
-use Rattle.std.proofs.Common.{refl, sym, ap, ◌∙◌, append_assoc, arith}
-use Rattle.std.specs.Prelude.{◌&&◌, nat_le, nat_lt}
-use Rattle.std.specs.List.{list_all}
-use Rattle.std.proofs.lemmas.Bool.{and_parts}
-use Rattle.std.proofs.lemmas.Bool.Decides.{nat_tests}
-use Rattle.json.proofs.Printed.Strings.{escape_byte_plain}
-use Rattle.json.proofs.Printed.Utf8.{are_ascii, IsUtf8-are_ascii}
-use Rattle.json.specs.Print.{escape, escape_byte, quoted}
-use Rattle.serde_json.specs.Data.{string}
-use Rattle.rb_history.specs.Ids.{id_at, is_id, is_id_byte}
+use Rattle.rb_history.proofs.Words.{◌≡◌, ◌≤◌, ℕ, List, [], ◌∷◌, ◌++◌, Some, length, codes, true, IsUtf8, refl, sym, ap, ◌∙◌, append_assoc}
+use Rattle.rb_history.proofs.Words.{arith, ◌&&◌, nat_le, nat_lt, list_all, and_parts, nat_tests, escape_byte_plain, are_ascii}
+use Rattle.rb_history.proofs.Words.{IsUtf8-are_ascii, escape, escape_byte, quoted, string, id_at, is_id, is_id_byte}
 use Rattle.rb_history.specs.declared.id.TheConstants.{MOST_ID_BYTES}
-use Rattle.rb_history.proofs.Plain.{ArePlain, escape_plain, quoted_plain}
+use Rattle.rb_history.proofs.Plain.{ArePlain, escape_plain, plain_all, quoted_plain}
+use Rattle.rb_history.proofs.Utf8.{ascii_all}
 
 -- ---- a byte of it
 
@@ -34,16 +27,9 @@ id_bytes t h =
     (and_parts (nat_le (length t) MOST_ID_BYTES) (list_all is_id_byte t)
     (and_parts (nat_le 1 (length t)) (nat_le (length t) MOST_ID_BYTES && list_all is_id_byte t) h).1).1
 
--- none of such bytes needs an escape
-bytes_plain : (t : List ℕ) → list_all is_id_byte t ≡ true → ArePlain t
-bytes_plain [] h = tt
-bytes_plain (b ∷ bs) h =
-    let p = and_parts (is_id_byte b) (list_all is_id_byte bs) h in
-    (id_byte_plain b p.0, bytes_plain bs p.1)
-
 -- no byte of an id needs an escape
 pub id_plain : (t : List ℕ) → is_id t ≡ true → ArePlain t
-id_plain t h = bytes_plain t (id_bytes t h)
+id_plain t h = plain_all is_id_byte id_byte_plain t (id_bytes t h)
 
 -- an id is written as it is
 pub id_escape : (t : List ℕ) → is_id t ≡ true → escape t ≡ t
@@ -54,18 +40,12 @@ pub id_quoted : (t rest : List ℕ) → is_id t ≡ true → quoted t ++ rest �
 id_quoted t rest h =
     ap (λ l. l ++ rest) (quoted_plain t (id_plain t h)) ∙ ap (λ l. 34 ∷ l) (append_assoc t (codes "\"") rest)
 
--- such bytes are ASCII
-bytes_ascii : (t : List ℕ) → list_all is_id_byte t ≡ true → are_ascii t ≡ true
-bytes_ascii [] h = refl
-bytes_ascii (b ∷ bs) h =
-    let p = and_parts (is_id_byte b) (list_all is_id_byte bs) h in
-    let range = id_byte_range b p.0 in
-    let low : nat_lt b 128 ≡ true = grind (arith, nat_tests, range.1) in
-    rw (low, bytes_ascii bs p.1) refl
+byte_ascii : (b : ℕ) → is_id_byte b ≡ true → nat_lt b 128 ≡ true
+byte_ascii b h = let range = id_byte_range b h in grind (arith, nat_tests, range.1)
 
 -- its bytes are ASCII
 pub id_ascii : (t : List ℕ) → is_id t ≡ true → are_ascii t ≡ true
-id_ascii t h = bytes_ascii t (id_bytes t h)
+id_ascii t h = ascii_all is_id_byte byte_ascii t (id_bytes t h)
 
 -- and so it is UTF-8
 pub id_utf8 : (t : List ℕ) → is_id t ≡ true → IsUtf8 t

@@ -1,12 +1,6 @@
 -- A list as it is written, item by item.
-use Rattle.std.proofs.Common.{◌≡◌, ◌≤◌, ◌+◌, ℕ, List, [], ◌∷◌, ◌++◌, codes, length, drop, refl, sym, ap, ◌∙◌, true, false, append_assoc}
-use Rattle.std.proofs.Common.{append-nil}
-use Rattle.std.specs.Prelude.{map, Result}
-use Rattle.std.proofs.lemmas.List.{drop_all}
-use Rattle.serde_json.specs.Data.{Data}
-use Rattle.serde_json.specs.View.{items_of}
-use Rattle.serde_json.specs.Written.{compact_text, items_text}
-use Rattle.rb_history.specs.Adds.{Adds}
+use Rattle.rb_history.proofs.Words.{◌≡◌, ◌≤◌, ◌+◌, ℕ, List, [], ◌∷◌, ◌++◌, codes, length, drop, refl, sym, ap, ◌∙◌, true, false}
+use Rattle.rb_history.proofs.Words.{append_assoc, append-nil, map, Result, drop_all, Data, items_of, compact_text, items_text, Adds}
 use Rattle.rb_history.proofs.Public.Appended.{then}
 
 -- the items that are still to be written, with this before the first

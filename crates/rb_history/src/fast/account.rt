@@ -7,7 +7,7 @@ use crate::fast::number::parse_u64_between;
 use crate::fast::scan::{parse_prefix, parse_string};
 use rb_money::{Config, Place};
 
-/// The place of an account's name, behind the first quote. "?" is written for an account that doesn't exist.
+/// The place of the account whose name comes next, after its first quote. "?" stands for an account that doesn't exist.
 fn parse_account<'a>(config: &Config, text: &'a str) -> Option<(Place, &'a str)>
     ensures known { IfSome result (λ p. IsKnown config.now p.0) }
     ensures text { IfSome result (λ p. text.now ≡ account_behind_quote config.now p.0 ++ p.1.now) }
@@ -38,7 +38,7 @@ pub fn parse_account_between<'a>(
     Some((place, parse_prefix(rest, back)?))
 }
 
-/// An account's name behind a text that ends with its first quote.
+/// An account's name after a text that ends with its first quote.
 #[inline(always)]
 pub fn parse_account_behind<'a>(
     config: &Config,
@@ -52,7 +52,7 @@ pub fn parse_account_behind<'a>(
     Some((place, rest))
 }
 
-/// An account and a number, the end of a list, behind a text that ends with the first quote.
+/// An account and a number, which end a list, after a text that ends with the first quote.
 #[inline(always)]
 pub fn parse_asked<'a>(config: &Config, text: &'a str, front: &str) -> Option<(Place, u64, &'a str)>
     ensures { IfSome result (λ p. IsKnown config.now p.0 × (p.1 < 2 ^ 64) × (text.now ≡ front.now

@@ -17,7 +17,7 @@ fn is_mark(b: u8) -> bool
     b == b'{' || b == b'}' || b == b'[' || b == b']' || b == b':' || b == b','
 }
 
-/// The length in bytes of the number at the start of the text, with the token behind it if that is one byte.
+/// The length in bytes of the number at the start of the text and of the one-byte token right after it.
 #[inline(always)]
 fn number_len(text: &[u8]) -> Option<usize>
     ensures { IfSome result (λ len. (0 < len) × (len ≤ length text.now) × AreTokens (take len text.now)) }
@@ -41,7 +41,7 @@ fn string_len(text: &[u8]) -> Option<usize>
     Some(len + 2)
 }
 
-/// How many bytes the token has that the text begins with, a number with the token behind it.
+/// How many bytes the token has that the text begins with; a number is counted with the one-byte token after it.
 #[inline(always)]
 fn token_len(text: &[u8]) -> Option<usize>
     ensures { IfSome result (λ len. (0 < len) × (len ≤ length text.now) × AreTokens (take len text.now)) }
@@ -66,7 +66,7 @@ fn is_blank(b: u8) -> bool
     b == b' ' || b == b'\t' || b == b'\r' || b == b'\n'
 }
 
-/// How many bytes of the text are tokens right behind one another, before a blank, the end, or a number that a blank
+/// How many bytes of the text are tokens with nothing between them, before a blank, the end, or a number that a blank
 /// follows: at least one token.
 #[inline(always)]
 fn find_blank(text: &[u8]) -> Option<usize>
@@ -82,7 +82,7 @@ fn find_blank(text: &[u8]) -> Option<usize>
     Some(len)
 }
 
-/// The text behind the blanks that it begins with.
+/// The text after the blanks that it begins with.
 #[inline(always)]
 fn skip_blanks(text: &[u8]) -> &[u8]
     ensures same { lex between result.now ≡ lex between text.now }
@@ -95,8 +95,8 @@ fn skip_blanks(text: &[u8]) -> &[u8]
     left
 }
 
-/// Adds the number that the text begins with, a blank behind it, and the token behind that, if it is one byte. The text
-/// behind these.
+/// Adds the number that the text begins with and the one-byte token after it, which blanks part from it. Gives the text
+/// after these.
 fn join_number<'a>(joined: &mut Vec<u8>, text: &'a [u8]) -> Option<&'a [u8]>
     ensures shorter { IfSome result (λ rest. length rest.now < length text.now) }
     ensures joins { IfSome result (λ rest. JoinsTokens joined.old.items joined.new.items text.now rest.now) }
@@ -114,8 +114,8 @@ fn join_number<'a>(joined: &mut Vec<u8>, text: &'a [u8]) -> Option<&'a [u8]>
     Some(&behind[1..])
 }
 
-/// Adds the tokens before the next blank, or a number with blanks behind it and the token behind these. The text behind
-/// what is added.
+/// Adds the tokens before the next blank, or a number and the token that follows it after blanks. Gives the text after
+/// what it added.
 fn join_some<'a>(joined: &mut Vec<u8>, text: &'a [u8]) -> Option<&'a [u8]>
     ensures shorter { IfSome result (λ rest. length rest.now < length text.now) }
     ensures joins { IfSome result (λ rest. JoinsTokens joined.old.items joined.new.items text.now rest.now) }
@@ -127,7 +127,7 @@ fn join_some<'a>(joined: &mut Vec<u8>, text: &'a [u8]) -> Option<&'a [u8]>
     Some(&text[len..])
 }
 
-/// The tokens of a line, one right behind the other.
+/// The tokens of a line, with nothing between them.
 fn join_tokens(alloc: Global, line: &[u8]) -> Option<Vec<u8>>
     ensures { IfSome result (λ text. tokens text.items ≡ tokens line.now) }
 {

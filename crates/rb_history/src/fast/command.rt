@@ -50,7 +50,7 @@ fn parse_last_site(text: &str) -> Option<u8>
     Some(site)
 }
 
-/// The site, from behind a command's member to the end of the line: the first member's if that was a site.
+/// The site, from the text after a command's member to the end of the line: the first member's if that was a site.
 #[inline(always)]
 fn parse_site(first: Option<u8>, text: &str) -> Option<u8>
     ensures { IfSome result (λ site. EndsLine first site text.now) }
@@ -157,7 +157,7 @@ fn sited(
     Some((site, request))
 }
 
-/// A request, from the object's first key on: the site and what is asked of it. Each kind returns where it is parsed,
+/// A request and its site, from the object's first key on. Each kind returns where it is parsed,
 /// since a result of several kinds would be put together from the parts of all.
 #[inline(never)]
 pub fn parse_request_at(config: &Config, line: &str) -> Option<(u8, Request)>
@@ -174,8 +174,8 @@ pub fn parse_request_at(config: &Config, line: &str) -> Option<(u8, Request)>
     }
 }
 
-/// An event of a site's own, in its place, from the object's first key on: the site. The event may be any if there
-/// is none.
+/// An event of a site's own, in its place, from the object's first key on: the site. After `None` the event
+/// may be any.
 fn parse_at(alloc: Global, config: &Config, line: &str, event: &mut Event) -> Option<u8>
     ensures value { IfSome result (λ site. command_at config.now (codes "{\"" ++ line.now) ≡ Some (At site event.new)) }
     ensures own { IfSome result (λ _. IsOwn event.new) }

@@ -45,7 +45,7 @@ fn parse_numbered_one(text: &str, least: usize) -> Option<(usize, u32, &str)>
     }
 }
 
-/// The counts above 0, each behind its site's number, and what follows the closing bracket.
+/// The counts above 0, each after its site's number, and what follows the closing bracket.
 fn parse_numbered<'a>(text: &'a str, counts: &mut [u32; MOST_SITES]) -> Option<&'a str>
     ensures { IfSome result (λ rest. BeginsWithNumbered counts.new text.now rest.now) }
 {

@@ -18,8 +18,8 @@ use rb_money::Config;
 use rb_site::{Entry, Reply};
 use std::alloc::Global;
 
-/// The number of the site, and its reply in its place, with which an entry's line ends. The reply may be any if
-/// there is none.
+/// The number of the site, and its reply in its place, with which an entry's line ends. After `None` the reply
+/// may be any.
 #[inline(always)]
 fn parse_entry_end(alloc: Global, config: &Config, text: &str, reply: &mut Reply) -> Option<u8>
     ensures site { IfSome result (λ site. site < config.now.sites) }
@@ -35,7 +35,7 @@ fn parse_entry_end(alloc: Global, config: &Config, text: &str, reply: &mut Reply
     Some(site)
 }
 
-/// The id of an entry's line from behind its event on, and what follows: no text if there is no id.
+/// The id of an entry's line, from the text after its event, and what follows: no text if there is no id.
 #[inline(always)]
 fn parse_entry_id(text: &str) -> Option<(&str, &str)>
     ensures { IfSome result (λ p. BeginsWithId p.0.now text.now p.1.now) }
@@ -47,7 +47,7 @@ fn parse_entry_id(text: &str) -> Option<(&str, &str)>
 }
 
 /// The entry of a line as it is written, in its place, with its id and the number of its site: no text if it has no id.
-/// The entry may be any if there is none.
+/// After `None` the entry may be any.
 #[inline(always)]
 pub fn parse_asked_entry<'a>(
     alloc: Global,

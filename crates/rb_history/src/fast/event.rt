@@ -190,7 +190,7 @@ pub fn parse_statement<'a>(config: &Config, text: &'a str) -> Option<(Place, &'a
 }
 
 /// An event of a site's own, as the first letter and the third of its key say, in its place, and what follows its
-/// value. It may be any if there is none.
+/// value. After `None` the event may be any.
 pub fn parse_own<'a>(
     alloc: Global,
     config: &Config,
@@ -227,7 +227,7 @@ pub fn parse_own<'a>(
     }
 }
 
-/// A token that comes, as the one member of an object, from behind its brace on.
+/// A token that comes, as the one member of an object, after the object's brace.
 #[inline(never)]
 fn parse_token<'a>(config: &Config, text: &'a str, event: &mut Event) -> Option<&'a str>
     ensures event { IfSome result (λ rest. BeginsWithEvent config.now event.new (codes "{" ++ text.now) rest.now) }
@@ -241,7 +241,7 @@ fn parse_token<'a>(config: &Config, text: &'a str, event: &mut Event) -> Option<
     Some(rest)
 }
 
-/// A message that comes, as the one member of an object, from behind its brace on.
+/// A message that comes, as the one member of an object, after the object's brace.
 #[inline(always)]
 fn parse_message<'a>(config: &Config, text: &'a str, event: &mut Event) -> Option<&'a str>
     ensures event { IfSome result (λ rest. BeginsWithEvent config.now event.new (codes "{" ++ text.now) rest.now) }
@@ -269,7 +269,7 @@ fn parse_object<'a>(
     Some(rest)
 }
 
-/// An event, as the one member of an object, in its place, and what follows it. It may be any if there is none. The
+/// An event, as the one member of an object, in its place, and what follows it. After `None` the event may be any. The
 /// first letter and the fourth of its key distinguish a message that comes from an event of the site's own.
 pub fn parse_event<'a>(
     alloc: Global,
@@ -288,8 +288,8 @@ pub fn parse_event<'a>(
     }
 }
 
-/// A message beside the name of the bank that it is to, in its place, as all of a line. It may be any event if there is
-/// none.
+/// A message beside the name of the bank that it is to, in its place, as all of a line. After `None` the event may
+/// be any.
 pub fn parse_sent(config: &Config, bank: &BankName, line: &str, event: &mut Event) -> Option<()>
     ensures { IfSome result (λ _. event_to config.now bank.now line.now
         ≡ Some (record { id = []; event = event.new })) }
@@ -307,7 +307,7 @@ pub fn parse_sent(config: &Config, bank: &BankName, line: &str, event: &mut Even
     Some(())
 }
 
-/// The id with which an object ends, or none, from behind its other member on.
+/// The id with which an object ends, if it has one, from the text after its other member.
 #[inline(always)]
 fn parse_last_id(text: &str) -> Option<&str>
     ensures { IfSome result (λ id. EndsWithId id.now text.now) }
@@ -342,7 +342,7 @@ fn parse_id_first<'a>(
     Some(id)
 }
 
-/// The same with the id behind it, or with none.
+/// An event of a site's own as all of a line, in its place, with the id after it, or without an id.
 #[inline(always)]
 fn parse_id_last<'a>(
     alloc: Global,

@@ -16,7 +16,7 @@ use crate::labels::strip_word;
 use rb_money::Config;
 use rb_shadow::{Kind, Label};
 
-/// A kind's word and its second quote, behind its first.
+/// A kind's word and its second quote, after its first.
 #[inline(always)]
 pub fn parse_label(text: &str) -> Option<(Label, &str)>
     ensures { IfSome result (λ p. text.now ≡ behind_quote (word_of p.0) ++ p.1.now) }

@@ -35,7 +35,7 @@ pub fn parse_name(text: &str) -> Option<(OpName, &str)>
     Some((name, rest))
 }
 
-/// An operation's name behind a text that ends with its first quote.
+/// An operation's name after a text that ends with its first quote.
 #[inline(always)]
 pub fn parse_name_behind<'a>(text: &'a str, front: &str) -> Option<(OpName, &'a str)>
     ensures { IfSome result (λ p. IsName p.0

@@ -38,7 +38,7 @@ pub fn parse_cancelled(text: &str) -> Option<(Reply, &str)>
     Some((Reply::Refused(refusal), rest))
 }
 
-/// The cause that stopped a batch, behind its key.
+/// The cause that stopped a batch, after its key.
 fn parse_cause(text: &str) -> Option<(Cause, &str)>
     ensures { IfSome result (λ p. IsCause p.0 × (text.now ≡ compact_text (cause_json p.0) ++ p.1.now)) }
 {

@@ -142,8 +142,8 @@ fn put_rare<'a>(alloc: Global, text: &'a str, reply: &mut Reply) -> Option<&'a s
     Some(rest)
 }
 
-/// A reply, as the first letters of its first key say, in its place, and what follows it. It may be any if there is
-/// none.
+/// A reply, in its place, and what follows it. The first letters of its first key say which it is. After `None` it may
+/// be any.
 #[inline(always)]
 pub fn parse_reply<'a>(alloc: Global, text: &'a str, reply: &mut Reply) -> Option<&'a str>
     ensures { IfSome result (λ rest. BeginsWithReply reply.new text.now rest.now) }

@@ -77,7 +77,7 @@ fn begins(text: &[u8], front: &[u8]) -> bool
     true
 }
 
-/// The rest behind this text.
+/// What follows `front`, with which the text begins.
 #[inline(always)]
 pub fn parse_prefix<'a>(text: &'a str, front: &str) -> Option<&'a str>
     ensures { IfSome result (λ rest. text.now ≡ front.now ++ rest.now) }
@@ -109,7 +109,7 @@ pub(crate) fn find_quote(text: &[u8]) -> Option<usize>
     None
 }
 
-/// The text before a quote, if it has no escape, and the rest behind the quote.
+/// The text before a quote, if it has no escape, and the rest after the quote.
 #[inline(always)]
 pub fn parse_string(text: &str) -> Option<(&str, &str)>
     ensures { IfSome result (λ p. (escape p.0.now ≡ p.0.now) × (text.now ≡ p.0.now ++ (codes "\"" ++ p.1.now))) }

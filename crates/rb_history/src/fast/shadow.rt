@@ -16,7 +16,7 @@ use rb_money::{Config, MOST_SITES, Place};
 use rb_shadow::{Deps, Kind, OpName, Shadow};
 use rb_site::{Event, Message};
 
-/// The members of a shadow's object behind its counts of blue operations.
+/// What `parse_back` gives: the members of a shadow's object after its counts of blue operations.
 #[derive(Clone, Copy, Drop)]
 pub struct Back {
     pub red: u32,
@@ -25,7 +25,7 @@ pub struct Back {
     pub kind: Kind,
 }
 
-/// The account and the amount of a shadow that comes, from behind the brace of its event on, and what follows the
+/// The account and the amount of a shadow that comes, after the brace of its event, and what follows the
 /// bracket before its counts.
 #[inline(always)]
 pub fn parse_front<'a>(config: &Config, text: &'a str) -> Option<(Place, u64, &'a str)>
@@ -42,7 +42,7 @@ pub fn parse_front<'a>(config: &Config, text: &'a str) -> Option<(Place, u64, &'
     Some((account, amount, rest))
 }
 
-/// The members of a shadow that comes behind its counts, and the end of its event.
+/// The members after the counts of a shadow that comes, and the end of its event.
 #[inline(always)]
 pub fn parse_back<'a>(config: &Config, text: &'a str) -> Option<(Back, &'a str)>
     ensures { IfSome result (λ p. BeginsWithBack config.now p.0 text.now p.1.now) }
@@ -62,7 +62,7 @@ pub fn parse_back<'a>(config: &Config, text: &'a str) -> Option<(Back, &'a str)>
     Some((back, rest))
 }
 
-/// A shadow that comes, as the one member of an object, from behind its brace on. It may be any event if there is none.
+/// A shadow that comes, as the one member of an object, after the object's brace. After `None` the event may be any.
 #[inline(never)]
 pub fn parse_received<'a>(config: &Config, text: &'a str, event: &mut Event) -> Option<&'a str>
     ensures event { IfSome result (λ rest. BeginsWithEvent config.now event.new (codes "{" ++ text.now) rest.now) }

@@ -14,7 +14,7 @@ use rb_money::Config;
 use rb_site::Event;
 use std::alloc::Global;
 
-/// The same as [`read_event_to`] of a line of any spelling.
+/// Reads a line of any spelling as [`read_event_to`] does.
 #[inline(never)]
 fn read_spelled_to(
     alloc: Global,
@@ -37,8 +37,8 @@ fn read_spelled_to(
 }
 
 /// The event that a line is to a bank with its id, which takes the place of another; `Ok(None)` if the line is of
-/// another bank. `Bad` if it is no event, `OutOfMemory` if there was no memory to read it. Without an id there is none
-/// in its place. After an `Err` or `Ok(None)` it may be any.
+/// another bank. `Bad` if it is no event, `OutOfMemory` if there was no memory to read it. Without an id its place is
+/// empty. After an `Err` or `Ok(None)` it may be any.
 ///
 /// To a bank with a name, an event may have the name beside it, as the member `"bank"`, and a receipt must: without it,
 /// it is of another bank. To a bank without a name such a member makes a line bad. A request or a batch may have an id

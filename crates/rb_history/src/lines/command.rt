@@ -82,7 +82,7 @@ fn read_no_request(
     read_any_command(alloc, config, line)
 }
 
-/// The command that a line is: `Bad` if it is none, `OutOfMemory` if there was no memory to read it.
+/// The command that a line is: `Bad` if it isn't one, `OutOfMemory` if there was no memory to read it.
 ///
 /// An account that the configuration doesn't have is read as `Place::NOWHERE`. A batch may have any number of requests.
 pub fn read_command(alloc: Global, config: &Config, line: &str) -> Result<WorldEvent, LineFault>

@@ -51,8 +51,8 @@ fn put_spelled(
     Ok(site)
 }
 
-/// Reads the entry that a history's line is into its place, and its id into its: `Bad` if it is none, `OutOfMemory`
-/// if there was no memory to read it. The number of its site comes back. Without an id there is none in its place.
+/// Reads the entry that a history's line is into its place, and its id into its: `Bad` if it isn't one, `OutOfMemory`
+/// if there was no memory to read it. The number of its site comes back. Without an id the id's place is empty.
 /// After an `Err` entry and id may be any.
 ///
 /// An account that the configuration doesn't have is read as `Place::NOWHERE`. The reply may be one that no
@@ -78,7 +78,7 @@ pub fn read_asked_entry(
     Ok(site)
 }
 
-/// The same as `read_asked_entry`, its id left out.
+/// Reads an entry as `read_asked_entry` does, and leaves out its id.
 pub fn read_entry(
     alloc: Global,
     config: &Config,
@@ -95,7 +95,7 @@ pub fn read_entry(
     }
 }
 
-/// The entry that a history's line is, as `read_entry` reads it, with the number of its site: `Bad` if it is none,
+/// The entry that a history's line is, as `read_entry` reads it, with the number of its site: `Bad` if it isn't one,
 /// `OutOfMemory` if there was no memory to read it.
 pub fn read_line(alloc: Global, config: &Config, line: &str) -> Result<(u8, Entry), LineFault>
     ensures read { Gives result (entry_of_line config.now line.now) }

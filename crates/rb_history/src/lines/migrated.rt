@@ -15,9 +15,9 @@ use rb_site::{Entry, Event, Reply};
 use std::alloc::Global;
 
 /// Adds the line, in version 2 of the format, of the entry that a history's line is, without a line feed: `Bad` if
-/// it is none, `OutOfMemory` if there was no memory to read or to write it. An `Err` adds nothing.
+/// it isn't one, `OutOfMemory` if there was no memory to read or to write it. An `Err` adds nothing.
 ///
-/// The line is read as `read_asked_entry` reads it, under a configuration of either version, and `written` is the same
+/// The line is read as `read_asked_entry` reads it, under a configuration of either version; `written` is that one
 /// in version 2. It adds the text that `append_asked_line` adds for the entry and its id under `written`.
 pub fn append_migrated(
     alloc: Global,

@@ -37,7 +37,7 @@ pub fn is_receipt(event: &Event) -> bool
 }
 
 /// An event beside a bank's name, from an object of two members, or of three with its id, which takes the place of
-/// another. Without one there is none in its place.
+/// another. Without an id its place is empty.
 fn event_beside(
     alloc: Global,
     config: &Config,

@@ -186,7 +186,7 @@ fn config(alloc: Global, value: &Value) -> Result<Config, LineFault>
     parts(alloc, value)
 }
 
-/// The configuration that a line is: `Bad` if it is none, `OutOfMemory` if there was no memory to read it.
+/// The configuration that a line is: `Bad` if it isn't one, `OutOfMemory` if there was no memory to read it.
 pub fn read_config(alloc: Global, line: &str) -> Result<Config, LineFault>
     ensures { Gives result (config_at line.now) }
 {

@@ -64,7 +64,7 @@ fn members(alloc: Global, config: &Config, value: &Value) -> Result<(u8, Entry),
 }
 
 /// An entry of a site, from an object of three members; or of four, of which one is its id, which takes the place of
-/// another. Without one there is none in its place.
+/// another. Without an id its place is empty.
 pub fn asked_entry(
     alloc: Global,
     config: &Config,

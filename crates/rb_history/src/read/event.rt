@@ -1,4 +1,4 @@
-//! Events. `None` and `Bad` mean that a value is none.
+//! Events. `None` and `Bad` mean that a value isn't one.
 ghost use Rattle.std.specs.Prelude.{◌≡◌, ◌^◌, IfOk, IfSome, MatchResult, None, Some};
 ghost use Rattle.serde_json.specs.View.{view};
 ghost use Rattle.rb_site.specs.Worlds.{IsOwn};
@@ -132,7 +132,7 @@ pub fn event_with_id(
 }
 
 /// An event, from an object of one member; or of two, of which one is its id, which takes the place of another. Without
-/// one there is none in its place.
+/// an id its place is empty.
 pub fn asked_event(
     alloc: Global,
     config: &Config,

@@ -1,4 +1,4 @@
-//! Requests, alone and in lists. `None` and `Bad` mean that a value is none.
+//! Requests, alone and in lists. `None` and `Bad` mean that a value isn't one.
 ghost use Rattle.std.specs.Prelude.{◌≡◌, ◌^◌, option_map};
 ghost use Rattle.serde_json.specs.View.{view};
 ghost use Rattle.rb_scratch.specs.declared.request.Request.TheVariants.{Cancel, Deposit, Interest, Withdraw};

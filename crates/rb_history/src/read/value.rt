@@ -13,7 +13,7 @@ use rb_shadow::{Label, OpName, read_name};
 use serde_json::Value;
 use std::alloc::Global;
 
-/// The JSON value that a line is: `Bad` if it is none, `OutOfMemory` if there was no memory to read it.
+/// The JSON value that a line is: `Bad` if it isn't one, `OutOfMemory` if there was no memory to read it.
 pub fn read_value(alloc: Global, line: &str) -> Result<Value, LineFault>
     ensures { GivesAs view result (read line.now) }
 {

@@ -1,5 +1,5 @@
-//! Pieces of a line, added at the end of bytes. An `Err` means out of memory: what was there stays, and more may be
-//! behind it.
+//! Pieces of a line, added at the end of bytes. An `Err` means out of memory: what was there stays, and more may
+//! follow it.
 ghost use Rattle.std.specs.Prelude.{◌≡◌, ◌≤◌, ◌+◌, ◌++◌, decimal, length, take, OnOk, OnErr};
 ghost use Rattle.json.specs.Print.{quoted};
 ghost use Rattle.rb_shadow.specs.NameText.{name_text};
@@ -35,7 +35,7 @@ pub fn append_three(
     append(out, third)
 }
 
-/// Makes space behind the bytes that are there, by as many bytes as are given; their values don't matter.
+/// Makes space after the bytes that are there, by as many bytes as are given; their values don't matter.
 #[inline(always)]
 pub(crate) fn make_space(out: &mut Vec<u8>, blank: &[u8]) -> Result<(), AllocError>
     ensures ok { OnOk result ((take (length out.old.items) out.new.items ≡ out.old.items)

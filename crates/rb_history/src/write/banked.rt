@@ -12,7 +12,7 @@ use rb_money::Config;
 use rb_site::{Event, Message};
 use std::alloc::AllocError;
 
-/// The member of a message behind another, and the end of their object: the message's line with a comma in place of its
+/// A message's member after another, and the end of their object: the message's line with a comma in place of its
 /// first brace.
 fn append_behind(out: &mut Vec<u8>, config: &Config, message: &Message) -> Result<(), AllocError>
     ensures { Adds result out.old.items out.new.items
@@ -25,7 +25,7 @@ fn append_behind(out: &mut Vec<u8>, config: &Config, message: &Message) -> Resul
 }
 
 /// Adds the line of a message to the sites of a bank, without a line feed. An `Err` means out of memory: what was there
-/// stays, and more may be behind it.
+/// stays, and more may follow it.
 ///
 /// To a bank with a name, it has the name as its first member, `"bank"`. A place past the accounts is written "?".
 pub fn append_sent_message(

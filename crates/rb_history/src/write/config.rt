@@ -11,7 +11,7 @@ use crate::write::append::{append, append_number};
 use rb_money::{Cents, Config, Limits, Place};
 use std::alloc::{AllocError, Global};
 
-/// An account, behind a text: its name and its starting balance.
+/// An account, after a text: its name and its starting balance.
 fn append_start(
     out: &mut Vec<u8>,
     comma: &str,
@@ -43,7 +43,7 @@ fn append_accounts(out: &mut Vec<u8>, config: &Config) -> Result<(), AllocError>
     append(out, "]")
 }
 
-/// The limits, each behind its key, and the key of the sites.
+/// The limits, each after its key, and the key of the sites.
 fn append_limits(out: &mut Vec<u8>, limits: Limits) -> Result<(), AllocError>
     ensures { Adds result out.old.items out.new.items (codes ",\"blue\":" ++ (decimal limits.blue
         ++ (codes ",\"epoch\":" ++ (decimal limits.epoch ++ (codes ",\"history\":" ++ (decimal limits.history

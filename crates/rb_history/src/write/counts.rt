@@ -12,7 +12,7 @@ use crate::write::number::append_numbers;
 use rb_money::{MOST_SITES, MOST_SITES_OF_VERSION_1};
 use std::alloc::AllocError;
 
-/// A site's number and its count, behind a text.
+/// A site's number and its count, after a text.
 fn append_one(out: &mut Vec<u8>, comma: &str, site: u64, count: u32) -> Result<(), AllocError>
     ensures { Adds result out.old.items out.new.items (comma.now ++ compact_text (numbered_json (site, count))) }
 {
@@ -21,7 +21,7 @@ fn append_one(out: &mut Vec<u8>, comma: &str, site: u64, count: u32) -> Result<(
     append_number(out, "", count as u64, "]")
 }
 
-/// A site's number and its count behind a text, if the count isn't 0; and what is to be
+/// A site's number and its count after a text, if the count isn't 0; and what is to be
 /// written before the next.
 fn append_some<'a>(
     out: &mut Vec<u8>,
@@ -40,7 +40,7 @@ fn append_some<'a>(
     Ok(",")
 }
 
-/// The counts above 0, each behind its site's number.
+/// The counts above 0, each after its site's number.
 fn append_numbered(out: &mut Vec<u8>, counts: &[u32]) -> Result<(), AllocError>
     ensures { Adds result out.old.items out.new.items (compact_text
         (list_json numbered_json (numbered_from 0 counts.now))) }

@@ -36,7 +36,7 @@ fn append_entry(
     append_number(out, spell!("," site ":"), site as u64, "}")
 }
 
-/// The same, but that out of memory adds nothing.
+/// Adds an entry's JSON object as `append_entry` does; without memory for all of it nothing is added.
 fn append_whole(
     out: &mut Vec<u8>,
     config: &Config,
@@ -72,7 +72,7 @@ pub fn append_asked_line(
     append_whole(out, config, site, id.as_bytes(), entry)
 }
 
-/// The same of an entry without an id.
+/// Adds the line of an entry that has no id, without a line feed. An `Err` means out of memory, and adds nothing.
 pub fn append_line(
     out: &mut Vec<u8>,
     config: &Config,

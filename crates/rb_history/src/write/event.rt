@@ -52,7 +52,7 @@ fn append_request(out: &mut Vec<u8>, config: &Config, request: Request) -> Resul
     }
 }
 
-/// A request, behind a text.
+/// A request, after a text.
 fn append_listed_request(
     out: &mut Vec<u8>,
     comma: &str,
@@ -92,8 +92,8 @@ fn append_token(out: &mut Vec<u8>, token: TokenMessage) -> Result<(), AllocError
     append_number(out, "", token.red as u64, "]}")
 }
 
-/// Adds the line of an event, without a line feed. An `Err` means out of memory: what was there stays, and more may be
-/// behind it.
+/// Adds the line of an event, without a line feed. An `Err` means out of memory: what was there stays, and more may
+/// follow it.
 ///
 /// A place past the accounts is written "?".
 #[tactic(auto, unfolding(json::specs::Print::escape_byte))]

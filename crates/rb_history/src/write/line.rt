@@ -14,7 +14,7 @@ use rb_shadow::{Label, OpName};
 /// The memory that is taken for a reply with neither names nor rows, in bytes.
 pub const LINE: usize = 64;
 
-/// The most bytes of what is before or behind a number or a name.
+/// The most bytes of the text before a number or a name, and of the one after it.
 pub const SHORT: usize = 20;
 
 /// Puts a number between two texts.

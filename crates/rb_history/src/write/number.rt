@@ -11,7 +11,7 @@ use std::alloc::AllocError;
 pub trait Number: Copy {
     ghost value: { Self → ℕ };
 
-    /// The same in 64 bits.
+    /// The number, as one of 64 bits.
     fn wide(self) -> u64
         ensures { result ≡ value self };
 }

@@ -1,5 +1,5 @@
-//! Replies. A reply with neither names nor rows is put into [`LINE`] bytes that are asked for once, so that its parts
-//! are put without a test of the capacity each; the others grow name by name, and row by row.
+//! Replies. A reply with neither names nor rows is put into [`LINE`] bytes, for which space is made once, so that its
+//! parts are put without a test of the capacity each; the others grow name by name, and row by row.
 ghost use Rattle.std.specs.Prelude.{◌≡◌, ◌≤◌, ◌+◌, ◌++◌, [], codes, cond, length, IfOk, OnOk, OnErr, string_bytes};
 ghost use Rattle.serde_json.specs.Written.{compact_text};
 ghost use Rattle.rb_history.specs.Adds.{Adds};
@@ -22,7 +22,7 @@ use std::alloc::{AllocError, Global};
 /// The most bytes of a name in quotes and the comma before it.
 const LISTED: usize = 18;
 
-/// A name, behind a comma if it is wanted.
+/// A name, after a comma if that is wanted.
 #[inline(always)]
 pub fn append_listed_name(out: &mut Vec<u8>, comma: bool, name: OpName) -> Result<(), AllocError>
     ensures { Adds result out.old.items out.new.items (cond comma (codes ",") [] ++ compact_text (name_json name)) }
@@ -110,7 +110,7 @@ fn append_short(out: &mut Vec<u8>, reply: &Reply) -> Result<(), AllocError>
     Ok(())
 }
 
-/// The JSON object of a reply. An `Err` means out of memory: what was there stays, and more may be behind it.
+/// The JSON object of a reply. An `Err` means out of memory: what was there stays, and more may follow it.
 pub fn append_value(out: &mut Vec<u8>, reply: &Reply) -> Result<(), AllocError>
     ensures { Adds result out.old.items out.new.items (compact_text (reply_json reply.now)) }
 {

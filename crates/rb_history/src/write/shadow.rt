@@ -18,7 +18,7 @@ use rb_shadow::{Deps, Shadow};
 use std::alloc::AllocError;
 
 /// Adds how many operations of each site were applied, as `deps` has it in this version of the format, 1 or 2. An `Err`
-/// means out of memory: what was there stays, and more may be behind it.
+/// means out of memory: what was there stays, and more may follow it.
 pub fn append_deps(out: &mut Vec<u8>, version: u8, deps: &Deps) -> Result<(), AllocError>
     ensures { Adds result out.old.items out.new.items (compact_text (deps_json version deps.now)) }
 {

@@ -68,7 +68,7 @@ fn put_row_back(space: &mut [u8], at: usize, row: &Row) -> usize
     put_text(space, at, "]")
 }
 
-/// Puts a row, behind a comma if it is wanted.
+/// Puts a row, after a comma if that is wanted.
 #[inline(always)]
 fn put_row(space: &mut [u8], at: usize, comma: bool, row: &Row) -> usize
     requires { at + ROW ≤ length space.old }
@@ -79,7 +79,7 @@ fn put_row(space: &mut [u8], at: usize, comma: bool, row: &Row) -> usize
     put_row_back(space, at, row)
 }
 
-/// A row, behind a comma if it is wanted.
+/// A row, after a comma if that is wanted.
 #[inline(always)]
 fn append_row(out: &mut Vec<u8>, comma: bool, row: &Row) -> Result<(), AllocError>
     ensures { Adds result out.old.items out.new.items (cond comma (codes ",") [] ++ compact_text (row_json row.now)) }

@@ -42,7 +42,7 @@ fn append_wrong_reply(out: &mut Vec<u8>, site: u8, event: u32) -> Result<(), All
     append_number(out, "", site as u64, "}")
 }
 
-/// A list of names, behind a text.
+/// A list of names, after a text.
 fn append_list(out: &mut Vec<u8>, front: &str, names: &[OpName]) -> Result<(), AllocError>
     ensures { Adds result out.old.items out.new.items (front.now ++ compact_text (list_json name_json names.now)) }
 {

@@ -1,7 +1,5 @@
-use Rattle.std.proofs.Common.{◌≡◌, ◌-◌, ◌++◌, ◌∷◌, [], drop, get_or, ap, sym, ◌∙◌, arith, rules, take-append-drop}
-use Rattle.std.specs.Prelude.{replicate}
-use Rattle.std.proofs.lemmas.List.{take_all, take_more, take_more_set}
-use Rattle.rb_money.specs.declared.limits.TheConstants.{MOST_SITES, MOST_SITES_OF_VERSION_1}
+use Rattle.rb_history.proofs.Words.{◌≡◌, ◌-◌, ◌++◌, ◌∷◌, [], drop, get_or, ap, sym, ◌∙◌, arith, rules, take-append-drop, replicate}
+use Rattle.rb_history.proofs.Words.{take_all, take_more, take_more_set, MOST_SITES, MOST_SITES_OF_VERSION_1}
 use Rattle.rb_history.proofs.Numbered.{none_behind}
 use Rattle.rb_history.proofs.counts.widened.Goals as goal
 

@@ -1,6 +1,4 @@
-use Rattle.std.proofs.Common.{◌≡◌, ◌-◌, length, take, drop}
-use Rattle.std.specs.Prelude.{replicate}
-use Rattle.rb_money.specs.declared.limits.TheConstants.{MOST_SITES}
+use Rattle.rb_history.proofs.Words.{◌≡◌, ◌-◌, length, take, drop, replicate, MOST_SITES}
 use Rattle.rb_history.proofs.counts.widened.Given as goal
 
 abbrev pub invariant-loop-site : goal.invariant-loop-site

@@ -1,6 +1,4 @@
-use Rattle.std.proofs.Common.{◌≡◌, drop}
-use Rattle.std.specs.List.{list_all}
-use Rattle.rb_history.specs.Ids.{is_id_byte}
+use Rattle.rb_history.proofs.Words.{◌≡◌, drop, list_all, is_id_byte}
 use Rattle.rb_history.proofs.id.are_id_bytes.Given as goal
 
 abbrev pub invariant-loop-b : goal.invariant-loop-b

@@ -1,7 +1,4 @@
-use Rattle.std.proofs.Common.{◌≡◌, ◌∙◌, sym, []}
-use Rattle.std.proofs.lemmas.List.{append-nil}
-use Rattle.rb_history.specs.KindWords.{word_of}
-use Rattle.rb_shadow.specs.declared.label.Label.{Label}
+use Rattle.rb_history.proofs.Words.{◌≡◌, ◌∙◌, sym, [], append-nil, word_of, Label}
 use Rattle.rb_history.proofs.labels.label_of_word.Goals as goal
 use Rattle.rb_history.proofs.KindWords.{no_word}
 

@@ -1,5 +1,4 @@
-use Rattle.std.proofs.Common.{◌≡◌, drop}
-use Rattle.rb_history.specs.RepliesRead.{find_refusal}
+use Rattle.rb_history.proofs.Words.{◌≡◌, drop, find_refusal}
 use Rattle.rb_history.proofs.refusals.find_refusal.Given as goal
 
 abbrev pub invariant-loop-refusal : goal.invariant-loop-refusal

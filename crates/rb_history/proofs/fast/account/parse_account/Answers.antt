@@ -1,7 +1,4 @@
-use Rattle.std.proofs.Common.{◌≡◌, ◌++◌, Some, codes, sym, ap, ◌∙◌, rules}
-use Rattle.std.specs.Prelude.{unwrap_or}
-use Rattle.rb_money.specs.Settings.{place_in}
-use Rattle.rb_history.specs.Beginnings.{behind_quote}
+use Rattle.rb_history.proofs.Words.{◌≡◌, ◌++◌, Some, codes, sym, ap, ◌∙◌, rules, unwrap_or, place_in, behind_quote}
 use Rattle.rb_history.proofs.PlacesRead.{name_there, nobody_there}
 use Rattle.rb_history.proofs.Joined.{string_written}
 use Rattle.rb_history.proofs.fast.account.parse_account.Goals as goal

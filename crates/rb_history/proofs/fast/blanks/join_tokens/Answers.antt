@@ -1,4 +1,4 @@
-use Rattle.std.proofs.Common.{◌∙◌, arith}
+use Rattle.std.proofs.Common.{arith}
 use Rattle.rb_history.proofs.Blanks.{all_joined, joined_read, joined_whole}
 use Rattle.rb_history.proofs.fast.blanks.join_tokens.Goals as goal
 

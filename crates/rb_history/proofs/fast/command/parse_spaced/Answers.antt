@@ -1,6 +1,4 @@
-use Rattle.std.proofs.Common.{◌∙◌, ap}
-use Rattle.json.specs.Lex.{tokens}
-use Rattle.rb_history.specs.Commands.{command_of}
+use Rattle.rb_history.proofs.Words.{◌∙◌, ap, tokens, command_of}
 use Rattle.rb_history.proofs.Reading.{read_alike}
 use Rattle.rb_history.proofs.fast.command.parse_spaced.Goals as goal
 

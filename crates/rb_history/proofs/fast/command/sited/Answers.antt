@@ -1,6 +1,4 @@
-use Rattle.std.proofs.Common.{IfSome, arith, subst}
-use Rattle.rb_site.specs.declared.event.Event.TheVariants.{Submit}
-use Rattle.rb_history.specs.Beginnings.{BeginsWithRequest}
+use Rattle.rb_history.proofs.Words.{IfSome, arith, subst, Submit, BeginsWithRequest}
 use Rattle.rb_history.proofs.OneMember.{own_line}
 use Rattle.rb_history.proofs.fast.command.sited.Goals as goal
 

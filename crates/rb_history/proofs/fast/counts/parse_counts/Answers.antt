@@ -1,9 +1,5 @@
-use Rattle.std.proofs.Common.{◌≡◌, ◌++◌, ℕ, List, Option, Some, None, codes, length, ap, sym, subst, ◌∙◌, rules}
-use Rattle.std.specs.Prelude.{IfSome}
-use Rattle.serde_json.specs.Written.{compact_text}
-use Rattle.rb_money.specs.declared.limits.TheConstants.{MOST_SITES_OF_VERSION_1}
-use Rattle.rb_history.specs.Counts.{blue_json, widened}
-use Rattle.rb_history.specs.Beginnings.{BeginsWithCounts, BeginsWithNumbered}
+use Rattle.rb_history.proofs.Words.{◌≡◌, ◌++◌, ℕ, List, Option, Some, None, codes, length, ap, sym, subst, ◌∙◌, rules, IfSome, compact_text}
+use Rattle.rb_history.proofs.Words.{MOST_SITES_OF_VERSION_1, blue_json, widened, BeginsWithCounts, BeginsWithNumbered}
 use Rattle.rb_history.proofs.CountsBack.{widened_fits, widened_further, widened_json, widened_length}
 use Rattle.rb_history.proofs.fast.counts.parse_counts.Goals as goal
 

@@ -1,7 +1,5 @@
-use Rattle.std.proofs.Common.{◌≡◌, ◌<◌, ◌^◌, ℕ, take, [], codes, refl, sym, subst, arith, rules}
-use Rattle.std.proofs.lemmas.List.{take_all, take_more_set}
-use Rattle.rb_history.specs.Values.{number_json}
-use Rattle.rb_history.specs.Fits.{Each}
+use Rattle.rb_history.proofs.Words.{◌≡◌, ◌<◌, ◌^◌, ℕ, take, [], codes, refl, sym, subst, arith, rules, take_all, take_more_set, number_json}
+use Rattle.rb_history.proofs.Words.{Each}
 use Rattle.rb_history.proofs.ListRead.{BeginsWith, all_read, each_more, one_more}
 use Rattle.rb_history.proofs.fast.counts.parse_first.Goals as goal
 

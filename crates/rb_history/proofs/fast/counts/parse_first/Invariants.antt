@@ -1,8 +1,4 @@
-use Rattle.std.proofs.Common.{◌≡◌, ◌<◌, ◌^◌, codes, length, take}
-use denote.Text.{Utf8}
-use denote.Shadow.{shadow}
-use Rattle.rb_history.specs.Values.{number_json}
-use Rattle.rb_history.specs.Fits.{Each}
+use Rattle.rb_history.proofs.Words.{◌≡◌, ◌<◌, ◌^◌, codes, length, take, Utf8, shadow, number_json, Each}
 use Rattle.rb_history.proofs.ListRead.{BeginsWith}
 use Rattle.rb_history.proofs.fast.counts.parse_first.Given as goal
 

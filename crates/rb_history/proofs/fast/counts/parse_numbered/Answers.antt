@@ -1,5 +1,4 @@
-use Rattle.std.proofs.Common.{◌<◌, ◌^◌, ℕ, take, codes, sym, subst, arith, rules}
-use Rattle.rb_history.specs.Counts.{numbered_from, numbered_json}
+use Rattle.rb_history.proofs.Words.{◌<◌, ◌^◌, ℕ, take, codes, sym, subst, arith, rules, numbered_from, numbered_json}
 use Rattle.rb_history.proofs.CountsParsed.{fit_all, fit_more, numbered_all, numbered_more}
 use Rattle.rb_history.proofs.ListRead.{BeginsWith, all_read, one_more}
 use Rattle.rb_history.proofs.Numbered.{none_behind}

@@ -1,10 +1,5 @@
-use Rattle.std.proofs.Common.{◌≡◌, ◌<◌, ◌≤◌, ◌-◌, ◌^◌, length, take, drop}
-use Rattle.std.specs.Prelude.{replicate}
-use Rattle.rb_money.specs.declared.limits.TheConstants.{MOST_SITES}
-use denote.Text.{Utf8}
-use denote.Shadow.{shadow}
-use Rattle.rb_history.specs.Counts.{numbered_from, numbered_json}
-use Rattle.rb_history.specs.Fits.{Each}
+use Rattle.rb_history.proofs.Words.{◌≡◌, ◌<◌, ◌≤◌, ◌-◌, ◌^◌, length, take, drop, replicate, MOST_SITES, Utf8, shadow, numbered_from}
+use Rattle.rb_history.proofs.Words.{numbered_json, Each}
 use Rattle.rb_history.proofs.ListRead.{BeginsWith}
 use Rattle.rb_history.proofs.fast.counts.parse_numbered.Given as goal
 

@@ -1,8 +1,4 @@
-use Rattle.std.proofs.Common.{◌≡◌, [], true, inl, inr, ap, ◌∙◌, rules}
-use Rattle.std.specs.Prelude.{◌⊎◌}
-use Rattle.rb_site.specs.declared.entry.Entry.{Entry}
-use Rattle.rb_history.specs.Entries.{asked_entry_of_line}
-use Rattle.rb_history.specs.Ids.{AskedEntry, may_be_asked}
+use Rattle.rb_history.proofs.Words.{◌≡◌, [], true, inl, inr, ap, ◌∙◌, rules, ◌⊎◌, Entry, asked_entry_of_line, AskedEntry, may_be_asked}
 use Rattle.rb_history.proofs.AskedText.{id_or_none, is_asked, line_written}
 use Rattle.rb_history.proofs.EntryLine.{entry_line}
 use Rattle.rb_history.proofs.fast.entry.parse_asked_entry.Goals as goal

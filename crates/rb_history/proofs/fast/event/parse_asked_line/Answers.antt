@@ -1,6 +1,4 @@
-use Rattle.std.proofs.Common.{subst, sym}
-use Rattle.std.proofs.lemmas.Option.{IfSome_then}
-use Rattle.rb_history.specs.Beginnings.{BeginsWithEvent}
+use Rattle.rb_history.proofs.Words.{subst, sym, IfSome_then, BeginsWithEvent}
 use Rattle.rb_history.proofs.EventAsked.{alone_line}
 use Rattle.rb_history.proofs.fast.event.parse_asked_line.Goals as goal
 

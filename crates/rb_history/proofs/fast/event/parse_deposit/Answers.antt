@@ -1,6 +1,5 @@
-use Rattle.std.proofs.Common.{codes, refl}
-use Rattle.json.specs.Print.{escape_byte}
-use Rattle.rb_history.specs.Entries.{asked_json}
+use Rattle.rb_history.proofs.Words.{codes, escape_byte, asked_json}
+use Rattle.rb_history.proofs.Joined.{member_of}
 use Rattle.rb_history.proofs.fast.event.parse_deposit.Goals as goal
 
 pub returns : goal.returns
@@ -8,10 +7,5 @@ unfolding escape_byte
 returns c =
     let asked = c.in_ok-account in (
       (asked.ensures.0, asked.ensures.1),
-      record {
-        key = codes "deposit";
-        value = asked_json c.args.config.now asked.account asked.amount;
-        object = refl;
-        written = asked.ensures.2;
-      },
+      member_of (codes "deposit") (asked_json c.args.config.now asked.account asked.amount) asked.ensures.2,
     )

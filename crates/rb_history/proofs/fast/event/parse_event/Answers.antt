@@ -1,6 +1,4 @@
-use Rattle.std.proofs.Common.{subst, sym}
-use Rattle.std.specs.Prelude.{IfSome}
-use Rattle.rb_history.specs.Beginnings.{BeginsWithEvent}
+use Rattle.rb_history.proofs.Words.{subst, sym, IfSome, BeginsWithEvent}
 use Rattle.rb_history.proofs.fast.event.parse_event.Goals as goal
 
 pub returns-in_ok-parse_prefix-in-Some-eq115-Some-eq100 : goal.returns-in_ok-parse_prefix-in-Some-eq115-Some-eq100

@@ -1,5 +1,4 @@
-use Rattle.std.proofs.Common.{◌≡◌, codes, true, rules}
-use Rattle.rb_history.specs.Ids.{may_have_id}
+use Rattle.rb_history.proofs.Words.{◌≡◌, codes, true, rules, may_have_id}
 use Rattle.rb_history.proofs.EventAsked.{id_before}
 use Rattle.rb_history.proofs.fast.event.parse_id_first.Goals as goal
 

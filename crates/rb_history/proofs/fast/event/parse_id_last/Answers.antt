@@ -1,5 +1,4 @@
-use Rattle.std.proofs.Common.{◌≡◌, [], true, rules}
-use Rattle.rb_history.specs.Ids.{is_id, may_have_id}
+use Rattle.rb_history.proofs.Words.{◌≡◌, [], true, rules, is_id, may_have_id}
 use Rattle.rb_history.proofs.EventAsked.{ended_line}
 use Rattle.rb_history.proofs.Public.IdText.{id_some}
 use Rattle.rb_history.proofs.fast.event.parse_id_last.Goals as goal

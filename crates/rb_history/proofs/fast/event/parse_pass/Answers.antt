@@ -1,6 +1,5 @@
-use Rattle.std.proofs.Common.{◌++◌, codes, refl, ap, ◌∙◌}
-use Rattle.json.specs.Print.{escape_byte}
-use Rattle.rb_history.specs.Values.{number_json}
+use Rattle.rb_history.proofs.Words.{◌++◌, codes, ap, ◌∙◌, escape_byte, number_json}
+use Rattle.rb_history.proofs.Joined.{member_of}
 use Rattle.rb_history.proofs.fast.event.parse_pass.Goals as goal
 
 pub returns : goal.returns
@@ -8,10 +7,5 @@ unfolding escape_byte
 returns c = (
   tt,
   c.in_ok-to.ensures.0,
-  record {
-    key = codes "pass";
-    value = number_json c.in_ok-to.to;
-    object = refl;
-    written = c.in_ok-parse_prefix.ensures ∙ ap (λ l. codes "pass\":" ++ l) c.in_ok-to.ensures.1;
-  },
+  member_of (codes "pass") (number_json c.in_ok-to.to) (c.in_ok-parse_prefix.ensures ∙ ap (λ l. codes "pass\":" ++ l) c.in_ok-to.ensures.1),
 )

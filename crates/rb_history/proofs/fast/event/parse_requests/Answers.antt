@@ -1,6 +1,4 @@
-use Rattle.std.proofs.Common.{◌≡◌, [], ◌∷◌, ◌++◌, codes, sym, subst, rules}
-use Rattle.rb_history.specs.Entries.{request_json}
-use Rattle.rb_history.specs.Fits.{Each, IsRequest}
+use Rattle.rb_history.proofs.Words.{◌≡◌, [], ◌∷◌, ◌++◌, codes, sym, subst, rules, request_json, Each, IsRequest}
 use Rattle.rb_history.proofs.ListRead.{BeginsWith, all_read, each_more, one_more}
 use Rattle.rb_history.proofs.fast.event.parse_requests.Goals as goal
 

@@ -1,7 +1,4 @@
-use denote.Text.{Utf8}
-use denote.Shadow.{shadow}
-use Rattle.rb_history.specs.Entries.{request_json}
-use Rattle.rb_history.specs.Fits.{Each, IsRequest}
+use Rattle.rb_history.proofs.Words.{Utf8, shadow, request_json, Each, IsRequest}
 use Rattle.rb_history.proofs.ListRead.{BeginsWith}
 use Rattle.rb_history.proofs.fast.event.parse_requests.Given as goal
 

@@ -1,7 +1,4 @@
-use Rattle.std.proofs.Common.{◌≡◌, ◌++◌, [], append-nil, codes, true, subst, ap, ◌∙◌, rules}
-use Rattle.serde_json.specs.Written.{compact_text}
-use Rattle.rb_history.specs.Entries.{event_json}
-use Rattle.rb_history.specs.Ids.{is_id}
+use Rattle.rb_history.proofs.Words.{◌≡◌, ◌++◌, [], append-nil, codes, true, subst, ap, ◌∙◌, rules, compact_text, event_json, is_id}
 use Rattle.rb_history.proofs.SentBack.{sent_parsed}
 use Rattle.rb_history.proofs.fast.event.parse_sent.Goals as goal
 

@@ -1,5 +1,4 @@
-use Rattle.std.proofs.Common.{◌≡◌, ◌++◌, List, ℕ, codes, decimal, ap, ◌∙◌, append_assoc}
-use Rattle.json.specs.Print.{escape_byte}
+use Rattle.rb_history.proofs.Words.{◌≡◌, ◌++◌, List, ℕ, codes, decimal, ap, ◌∙◌, append_assoc, escape_byte}
 use Rattle.rb_history.proofs.fast.event.parse_token.Goals as goal
 
 token_written : (text epoch to red one two rest : List ℕ) → text ≡ (codes "\"token\":[" ++ (epoch ++ codes ",")) ++ one

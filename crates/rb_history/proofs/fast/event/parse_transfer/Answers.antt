@@ -1,8 +1,6 @@
-use Rattle.std.proofs.Common.{◌≡◌, ◌++◌, List, ℕ, codes, decimal, refl, ap, ◌∙◌, append_assoc}
-use Rattle.json.specs.Print.{escape_byte}
-use Rattle.rb_history.specs.Beginnings.{account_behind_quote}
-use Rattle.rb_history.specs.Entries.{account_json}
-use Rattle.rb_history.specs.Values.{number_json, three_json}
+use Rattle.rb_history.proofs.Words.{◌≡◌, ◌++◌, List, ℕ, codes, decimal, ap, ◌∙◌, append_assoc, escape_byte, account_behind_quote}
+use Rattle.rb_history.proofs.Words.{account_json, number_json, three_json}
+use Rattle.rb_history.proofs.Joined.{member_of}
 use Rattle.rb_history.proofs.fast.event.parse_transfer.Goals as goal
 
 transfer_written : (text from to amount more rest : List ℕ) → text ≡ (codes "transfer\":[\"" ++ (from ++ codes ",\"")) ++ more
@@ -20,11 +18,7 @@ returns c =
     let from = c.in_ok-from in
     let to = c.in_ok-to in (
       (from.ensures.0, to.ensures.0, to.ensures.1),
-      record {
-        key = codes "transfer";
-        value = three_json (account_json s from.from) (account_json s to.to) (number_json to.amount);
-        object = refl;
-        written = transfer_written c.args.text.now (account_behind_quote s from.from) (account_behind_quote s to.to)
-            (decimal to.amount) from.rest.now to.rest.now from.ensures.1 to.ensures.2;
-      },
+      member_of (codes "transfer") (three_json (account_json s from.from) (account_json s to.to) (number_json to.amount))
+          (transfer_written c.args.text.now (account_behind_quote s from.from) (account_behind_quote s to.to)
+          (decimal to.amount) from.rest.now to.rest.now from.ensures.1 to.ensures.2),
     )

@@ -1,7 +1,6 @@
-use Rattle.std.proofs.Common.{◌++◌, codes, decimal}
+use Rattle.rb_history.proofs.Words.{◌++◌, codes, decimal, escape_byte}
 use Rattle.rb_history.proofs.Numerals.{nine}
 use Rattle.rb_history.proofs.Joined.{two_written}
-use Rattle.json.specs.Print.{escape_byte}
 use Rattle.rb_history.proofs.fast.refusal.parse_behind.Goals as goal
 
 pub returns : goal.returns

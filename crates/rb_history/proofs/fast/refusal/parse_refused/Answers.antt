@@ -1,7 +1,4 @@
-use Rattle.std.proofs.Common.{◌≡◌, ◌++◌, Some, sym, ap, ◌∙◌, rules}
-use Rattle.json.specs.Print.{escape_byte}
-use Rattle.serde_json.specs.Written.{compact_text}
-use Rattle.rb_history.specs.RepliesRead.{find_refusal, plain_refusals}
+use Rattle.rb_history.proofs.Words.{◌≡◌, ◌++◌, Some, sym, ap, ◌∙◌, rules, escape_byte, compact_text, find_refusal, plain_refusals}
 use Rattle.rb_history.proofs.PlainRefusals.{plain_fits, plain_json}
 use Rattle.rb_history.proofs.fast.refusal.parse_refused.Goals as goal
 

@@ -1,7 +1,4 @@
-use Rattle.std.proofs.Common.{◌≡◌, [], ◌∷◌, ◌++◌, codes, ap, sym, subst, ◌∙◌, rules}
-use Rattle.rb_history.specs.Values.{name_json}
-use Rattle.rb_shadow.specs.NameText.{IsName}
-use Rattle.rb_history.specs.Fits.{Each}
+use Rattle.rb_history.proofs.Words.{◌≡◌, [], ◌∷◌, ◌++◌, codes, ap, sym, subst, ◌∙◌, rules, name_json, IsName, Each}
 use Rattle.rb_history.proofs.Joined.{name_written}
 use Rattle.rb_history.proofs.ListRead.{BeginsWith, all_read, each_more, one_more}
 use Rattle.rb_history.proofs.fast.reply.parse_list.Goals as goal

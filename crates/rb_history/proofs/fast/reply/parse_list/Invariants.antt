@@ -1,8 +1,4 @@
-use denote.Text.{Utf8}
-use denote.Shadow.{shadow}
-use Rattle.rb_history.specs.Values.{name_json}
-use Rattle.rb_shadow.specs.NameText.{IsName}
-use Rattle.rb_history.specs.Fits.{Each}
+use Rattle.rb_history.proofs.Words.{Utf8, shadow, name_json, IsName, Each}
 use Rattle.rb_history.proofs.ListRead.{BeginsWith}
 use Rattle.rb_history.proofs.fast.reply.parse_list.Given as goal
 

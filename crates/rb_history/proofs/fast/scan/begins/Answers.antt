@@ -1,5 +1,4 @@
-use Rattle.std.proofs.Common.{◌≡◌, length, take, ap, arith, ◌∙◌}
-use Rattle.std.proofs.lemmas.List.{take_all}
+use Rattle.rb_history.proofs.Words.{◌≡◌, length, take, ap, arith, ◌∙◌, take_all}
 use Rattle.rb_history.proofs.Scanned.{same_more}
 use Rattle.rb_history.proofs.fast.scan.begins.Goals as goal
 

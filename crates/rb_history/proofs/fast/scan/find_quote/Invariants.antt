@@ -1,5 +1,4 @@
-use Rattle.std.proofs.Common.{◌≡◌, ◌≤◌, ◌-◌, length, take}
-use Rattle.json.specs.Print.{escape}
+use Rattle.rb_history.proofs.Words.{◌≡◌, ◌≤◌, ◌-◌, length, take, escape}
 use Rattle.rb_history.proofs.fast.scan.find_quote.Given as goal
 
 abbrev pub invariant-loop-len : goal.invariant-loop-len

@@ -1,5 +1,4 @@
-use Rattle.std.proofs.Common.{length, subst, ap}
-use Rattle.std.specs.Str.{IsCharBoundary}
+use Rattle.rb_history.proofs.Words.{length, subst, ap, IsCharBoundary}
 use Rattle.rb_history.proofs.Scanned.{cut_behind}
 use Rattle.rb_history.proofs.fast.scan.parse_prefix.Goals as goal
 

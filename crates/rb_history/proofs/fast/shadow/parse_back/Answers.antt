@@ -1,10 +1,5 @@
-use Rattle.std.proofs.Common.{◌≡◌, ◌++◌, List, ℕ, true, codes, decimal, ap, ◌∙◌, sym, append_assoc}
-use Rattle.json.specs.Print.{escape_byte}
-use Rattle.serde_json.specs.Written.{members_text}
-use Rattle.rb_shadow.specs.NameText.{name_text}
-use Rattle.rb_history.specs.KindWords.{word_of}
-use Rattle.rb_history.specs.Entries.{last_members}
-use Rattle.rb_history.specs.Beginnings.{behind_quote}
+use Rattle.rb_history.proofs.Words.{◌≡◌, ◌++◌, List, ℕ, true, codes, decimal, ap, ◌∙◌, sym, append_assoc, escape_byte, members_text}
+use Rattle.rb_history.proofs.Words.{name_text, word_of, last_members, behind_quote}
 use Rattle.rb_history.proofs.Joined.{name_written}
 use Rattle.rb_history.proofs.fast.shadow.parse_back.Goals as goal
 

@@ -1,5 +1,4 @@
-use Rattle.std.proofs.Common.{◌≡◌, ◌++◌, List, ℕ, codes, decimal, ap, ◌∙◌, append_assoc}
-use Rattle.rb_history.specs.Beginnings.{account_behind_quote}
+use Rattle.rb_history.proofs.Words.{◌≡◌, ◌++◌, List, ℕ, codes, decimal, ap, ◌∙◌, append_assoc, account_behind_quote}
 use Rattle.rb_history.proofs.fast.shadow.parse_front.Goals as goal
 
 front_text : (account amount rest : List ℕ)

@@ -1,5 +1,4 @@
-use Rattle.std.proofs.Common.{◌++◌, codes, subst}
-use Rattle.rb_history.specs.Beginnings.{BeginsWithCounts}
+use Rattle.rb_history.proofs.Words.{◌++◌, codes, subst, BeginsWithCounts}
 use Rattle.rb_history.proofs.Receipts.{event_written, shadow_fits}
 use Rattle.rb_history.proofs.fast.shadow.parse_received.Goals as goal
 

@@ -1,11 +1,6 @@
-use Rattle.std.proofs.Common.{◌≡◌, to_z, of_z, w64, rules, ◌++◌, List, ℕ, codes, decimal, ap, sym, ◌∙◌, append_assoc}
-use Rattle.std.specs.Fmt.{signed_decimal}
-use Rattle.json.specs.Print.{token_text}
-use Rattle.json.specs.Token.{boolean}
-use Rattle.rb_shadow.specs.NameText.{name_text}
-use Rattle.rb_history.specs.KindWords.{word_of}
+use Rattle.rb_history.proofs.Words.{◌≡◌, to_z, of_z, w64, rules, ◌++◌, List, ℕ, codes, decimal, ap, sym, ◌∙◌, append_assoc, signed_decimal}
+use Rattle.rb_history.proofs.Words.{token_text, boolean, name_text, word_of, behind_quote}
 use Rattle.rb_history.proofs.Numerals.{integer_text}
-use Rattle.rb_history.specs.Beginnings.{behind_quote}
 use Rattle.rb_history.proofs.Joined.{name_written}
 use Rattle.rb_history.proofs.fast.statement.parse_row.Goals as goal
 

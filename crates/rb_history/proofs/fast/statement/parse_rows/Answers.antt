@@ -1,6 +1,4 @@
-use Rattle.std.proofs.Common.{◌≡◌, [], ◌∷◌, ◌++◌, codes, sym, subst, rules}
-use Rattle.rb_history.specs.Statements.{row_json}
-use Rattle.rb_history.specs.Fits.{Each, IsStatementRow}
+use Rattle.rb_history.proofs.Words.{◌≡◌, [], ◌∷◌, ◌++◌, codes, sym, subst, rules, row_json, Each, IsStatementRow}
 use Rattle.rb_history.proofs.ListRead.{BeginsWith, all_read, each_more, one_more}
 use Rattle.rb_history.proofs.fast.statement.parse_rows.Goals as goal
 

@@ -1,7 +1,4 @@
-use denote.Text.{Utf8}
-use denote.Shadow.{shadow}
-use Rattle.rb_history.specs.Statements.{row_json}
-use Rattle.rb_history.specs.Fits.{Each, IsStatementRow}
+use Rattle.rb_history.proofs.Words.{Utf8, shadow, row_json, Each, IsStatementRow}
 use Rattle.rb_history.proofs.ListRead.{BeginsWith}
 use Rattle.rb_history.proofs.fast.statement.parse_rows.Given as goal
 

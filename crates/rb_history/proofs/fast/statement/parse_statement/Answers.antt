@@ -1,9 +1,5 @@
-use Rattle.std.proofs.Common.{◌≡◌, ◌++◌, List, ℕ, codes, decimal, false, ap, ◌∙◌, append_assoc}
-use Rattle.std.specs.Prelude.{map}
-use Rattle.json.specs.Print.{escape_byte}
-use Rattle.serde_json.specs.View.{items_of}
-use Rattle.serde_json.specs.Written.{items_text}
-use Rattle.rb_history.specs.Statements.{row_json}
+use Rattle.rb_history.proofs.Words.{◌≡◌, ◌++◌, List, ℕ, codes, decimal, false, ap, ◌∙◌, append_assoc, map, escape_byte, items_of}
+use Rattle.rb_history.proofs.Words.{items_text, row_json}
 use Rattle.rb_history.proofs.fast.statement.parse_statement.Goals as goal
 
 statement_text : (balance rows start rest : List ℕ)

@@ -1,6 +1,4 @@
-use Rattle.std.proofs.Common.{◌≡◌, Some, refl, rules}
-use Rattle.std.specs.Prelude.{slice_get}
-use Rattle.json.specs.Print.{escape_byte}
+use Rattle.rb_history.proofs.Words.{◌≡◌, Some, refl, rules, slice_get, escape_byte}
 use Rattle.rb_history.proofs.Plain.{account_plain}
 use Rattle.rb_history.proofs.write.account.account_name.Goals as goal
 

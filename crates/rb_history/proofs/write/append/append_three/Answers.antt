@@ -4,8 +4,5 @@ use Rattle.rb_history.proofs.write.append.append_three.Goals as goal
 
 pub returns : goal.returns
 returns c =
-    let old = c.args.out.now.items in
-    let mid = c.append-2.new.out.items in
-    let first = c.args.first.now in
-    let two = both old c.append.new.out.items mid first c.args.second.now c.in_ok-append.ensures c.in_ok-append-2.ensures in
-    then c.append-3.result old mid c.append-3.new.out.items _ c.args.third.now _ two c.append-3.ensures (append_assoc first _ _)
+    let two = both c.args.out.now.items _ _ _ _ c.in_ok-append.ensures c.in_ok-append-2.ensures in
+    then _ c.args.out.now.items _ _ _ _ _ two c.append-3.ensures (simp append_assoc)

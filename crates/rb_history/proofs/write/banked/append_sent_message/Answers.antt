@@ -1,8 +1,4 @@
-use Rattle.std.proofs.Common.{◌∙◌, ◌++◌, List, ℕ, codes, sym, ap}
-use Rattle.serde_json.specs.Written.{members_text}
-use Rattle.std.specs.Prelude.{true}
-use Rattle.rb_history.specs.Banks.{receipt_member}
-use Rattle.rb_history.specs.Ids.{between_if_any}
+use Rattle.rb_history.proofs.Words.{◌∙◌, ◌++◌, List, ℕ, codes, sym, ap, members_text, true, receipt_member, between_if_any}
 use Rattle.rb_history.proofs.BankText.{sent_line}
 use Rattle.rb_history.proofs.Banked.{some_name}
 use Rattle.rb_history.proofs.Public.Appended.{then}

@@ -1,6 +1,4 @@
-use Rattle.std.proofs.Common.{◌++◌, codes, [], length, ap, add-one, arith, rules}
-use Rattle.std.specs.Prelude.{map}
-use Rattle.rb_history.specs.ConfigLines.{accounts_of, start_json}
+use Rattle.rb_history.proofs.Words.{◌++◌, codes, [], length, ap, add-one, arith, rules, map, accounts_of, start_json}
 use Rattle.rb_history.proofs.Public.Appended.{front_of_front, front_of_sum, then}
 use Rattle.rb_history.proofs.Public.Listed.{rest_text, whole_text, item_written, items_written}
 use Rattle.rb_history.proofs.Starts.{drop_accounts, few_accounts}

@@ -1,8 +1,4 @@
-use Rattle.std.proofs.Common.{◌≡◌, ◌++◌, length, take, drop, []}
-use Rattle.std.specs.Prelude.{map}
-use denote.Text.{Utf8}
-use denote.Shadow.{shadow}
-use Rattle.rb_history.specs.ConfigLines.{accounts_of, start_json}
+use Rattle.rb_history.proofs.Words.{◌≡◌, ◌++◌, length, take, drop, [], map, Utf8, shadow, accounts_of, start_json}
 use Rattle.rb_history.proofs.Public.Listed.{rest_text}
 use Rattle.rb_history.proofs.write.config.append_accounts.Given as goal
 

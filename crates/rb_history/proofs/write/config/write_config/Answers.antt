@@ -1,6 +1,4 @@
-use Rattle.std.proofs.Common.{◌≡◌, IsUtf8, false, true, rules, sym, subst}
-use Rattle.serde_json.specs.Written.{compact_text}
-use Rattle.rb_history.specs.ConfigLines.{config_json}
+use Rattle.rb_history.proofs.Words.{◌≡◌, IsUtf8, false, true, rules, sym, subst, compact_text, config_json}
 use Rattle.rb_history.proofs.Texts.{config_utf8}
 use Rattle.rb_history.proofs.write.config.write_config.Goals as goal
 

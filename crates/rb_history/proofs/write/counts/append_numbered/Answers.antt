@@ -1,8 +1,7 @@
-use Rattle.std.proofs.Common.{◌++◌, codes, [], get_or, ap, ◌∙◌, append_assoc, append-nil, add-one, drop-cons, sym, arith, rules}
-use Rattle.std.specs.Prelude.{map}
+use Rattle.rb_history.proofs.Words.{◌++◌, codes, [], get_or, ap, ◌∙◌, append_assoc, append-nil, add-one, drop-cons, sym, arith, rules, map}
+use Rattle.rb_history.proofs.Words.{numbered_from, numbered_json}
 use Rattle.rb_history.proofs.Public.Appended.{front_of_front, front_of_sum, then}
 use Rattle.rb_history.proofs.Public.Listed.{rest_text, whole_text}
-use Rattle.rb_history.specs.Counts.{numbered_from, numbered_json}
 use Rattle.rb_history.proofs.Numbered.{numbered_end, one_written}
 use Rattle.rb_history.proofs.Behind.{failed_behind}
 use Rattle.rb_history.proofs.write.counts.append_numbered.Goals as goal

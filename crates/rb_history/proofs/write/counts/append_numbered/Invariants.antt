@@ -1,9 +1,5 @@
-use Rattle.std.proofs.Common.{◌≡◌, ◌++◌, codes, length, take, drop, []}
-use Rattle.std.specs.Prelude.{map}
-use denote.Text.{Utf8}
-use denote.Shadow.{shadow}
+use Rattle.rb_history.proofs.Words.{◌≡◌, ◌++◌, codes, length, take, drop, [], map, Utf8, shadow, numbered_from, numbered_json}
 use Rattle.rb_history.proofs.Public.Listed.{rest_text}
-use Rattle.rb_history.specs.Counts.{numbered_from, numbered_json}
 use Rattle.rb_history.proofs.write.counts.append_numbered.Given as goal
 
 abbrev pub invariant-loop-site : goal.invariant-loop-site

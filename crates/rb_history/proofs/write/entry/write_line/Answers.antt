@@ -1,6 +1,4 @@
-use Rattle.std.proofs.Common.{◌≡◌, IsUtf8, [], false, true, inl, refl, rules, sym, subst}
-use Rattle.serde_json.specs.Written.{compact_text}
-use Rattle.rb_history.specs.Entries.{entry_json}
+use Rattle.rb_history.proofs.Words.{◌≡◌, IsUtf8, [], false, true, inl, refl, rules, sym, subst, compact_text, entry_json}
 use Rattle.rb_history.proofs.Texts.{entry_utf8}
 use Rattle.rb_history.proofs.write.entry.write_line.Goals as goal
 

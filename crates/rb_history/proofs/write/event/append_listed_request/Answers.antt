@@ -1,6 +1,4 @@
-use Rattle.std.proofs.Common.{refl}
-use Rattle.serde_json.specs.Written.{compact_text}
-use Rattle.rb_history.specs.Entries.{request_json}
+use Rattle.rb_history.proofs.Words.{refl, compact_text, request_json}
 use Rattle.rb_history.proofs.Public.Appended.{then}
 use Rattle.rb_history.proofs.write.event.append_listed_request.Goals as goal
 

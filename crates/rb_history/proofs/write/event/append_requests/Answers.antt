@@ -1,6 +1,4 @@
-use Rattle.std.proofs.Common.{codes, add-one, drop-cons, arith, rules}
-use Rattle.json.specs.Print.{escape_byte}
-use Rattle.rb_history.specs.Entries.{request_json}
+use Rattle.rb_history.proofs.Words.{codes, add-one, drop-cons, arith, rules, escape_byte, request_json}
 use Rattle.rb_history.proofs.Public.Appended.{front_of_front, front_of_sum}
 use Rattle.rb_history.proofs.Public.Listed.{item_written, list_between}
 use Rattle.rb_history.proofs.Behind.{failed_behind}

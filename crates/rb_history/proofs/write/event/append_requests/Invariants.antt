@@ -1,8 +1,4 @@
-use Rattle.std.proofs.Common.{◌≡◌, ◌++◌, codes, length, take, drop, []}
-use Rattle.std.specs.Prelude.{map}
-use denote.Text.{Utf8}
-use denote.Shadow.{shadow}
-use Rattle.rb_history.specs.Entries.{request_json}
+use Rattle.rb_history.proofs.Words.{◌≡◌, ◌++◌, codes, length, take, drop, [], map, Utf8, shadow, request_json}
 use Rattle.rb_history.proofs.Public.Listed.{rest_text}
 use Rattle.rb_history.proofs.write.event.append_requests.Given as goal
 

@@ -1,7 +1,4 @@
-use Rattle.std.proofs.Common.{◌≡◌, ◌++◌, codes, append_assoc, ap, ◌∙◌, sym, List, ℕ}
-use Rattle.json.specs.Print.{escape_byte, quoted}
-use Rattle.rb_shadow.specs.NameText.{name_text}
-use Rattle.rb_history.specs.KindWords.{word_of}
+use Rattle.rb_history.proofs.Words.{◌≡◌, ◌++◌, codes, append_assoc, ap, ◌∙◌, sym, List, ℕ, escape_byte, quoted, name_text, word_of}
 use Rattle.rb_history.proofs.Plain.{quoted_label}
 use Rattle.rb_history.proofs.Put.{placed_is, placed_then}
 use Rattle.rb_history.proofs.write.line.put_made.Goals as goal

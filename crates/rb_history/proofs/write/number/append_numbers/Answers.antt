@@ -1,7 +1,5 @@
-use Rattle.std.proofs.Common.{◌++◌, ◌∷◌, codes, [], ap, sym, drop, suc, ◌∙◌, append_assoc, append-nil, add-one, decimal, drop-cons, arith}
-use Rattle.std.proofs.Common.{rules}
-use Rattle.std.specs.Prelude.{map}
-use Rattle.rb_history.specs.Values.{number_json}
+use Rattle.rb_history.proofs.Words.{◌++◌, ◌∷◌, codes, [], ap, sym, drop, suc, ◌∙◌, append_assoc, append-nil, add-one, decimal, drop-cons}
+use Rattle.rb_history.proofs.Words.{arith, rules, map, number_json}
 use Rattle.rb_history.proofs.Public.Appended.{front_of_front, front_of_sum, then}
 use Rattle.rb_history.proofs.Public.Listed.{rest_text, whole_text, item_written, items_written}
 use Rattle.rb_history.proofs.Behind.{failed_behind}

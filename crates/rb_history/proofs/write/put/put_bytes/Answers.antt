@@ -1,9 +1,6 @@
-use Rattle.std.proofs.Common.{◌≡◌, ◌+◌, ◌<◌, ◌++◌, ◌∷◌, [], ℕ, List, get_or, take, length, ap, sym, ◌∙◌, append_assoc}
-use Rattle.std.proofs.Common.{append-nil, arith, add-zero, refl}
-use Rattle.std.proofs.lemmas.List.{take_more}
-use Rattle.std.proofs.lemmas.Grind.{take-set_at}
+use Rattle.rb_history.proofs.Words.{◌≡◌, ◌+◌, ◌<◌, ◌++◌, ◌∷◌, [], ℕ, List, get_or, take, length, ap, sym, ◌∙◌, append_assoc, append-nil}
+use Rattle.rb_history.proofs.Words.{arith, add-zero, refl, take_more, take-set_at, take-length}
 use Rattle.std.proofs.Math.ListN.{set}
-use Rattle.std.proofs.Math.Seq.{take-length}
 use Rattle.rb_history.proofs.write.put.put_bytes.Goals as goal
 
 -- a byte more

@@ -1,6 +1,4 @@
-use Rattle.std.proofs.Common.{◌+◌, ◌++◌, take, ap, sym, ◌∙◌, arith, refl}
-use Rattle.std.proofs.lemmas.Fmt.{decimal_digit}
-use Rattle.std.proofs.lemmas.Grind.{take-set_at}
+use Rattle.rb_history.proofs.Words.{◌+◌, ◌++◌, take, ap, sym, ◌∙◌, arith, refl, decimal_digit, take-set_at}
 use Rattle.rb_history.proofs.Digits.{one}
 use Rattle.rb_history.proofs.write.put.put_digit.Goals as goal
 

@@ -1,7 +1,4 @@
-use Rattle.std.proofs.Common.{◌≡◌, ◌++◌, codes, decimal, refl}
-use Rattle.json.specs.Print.{escape_byte}
-use Rattle.serde_json.specs.Written.{compact_text}
-use Rattle.rb_history.specs.Replies.{batch_json, cause_json}
+use Rattle.rb_history.proofs.Words.{◌≡◌, ◌++◌, codes, decimal, refl, escape_byte, compact_text, batch_json, cause_json}
 use Rattle.rb_history.proofs.Numerals.{thirteen}
 use Rattle.rb_history.proofs.Put.{placed_is, placed_then}
 use Rattle.rb_history.proofs.write.refusal.put_batch.Goals as goal

@@ -1,7 +1,4 @@
-use Rattle.std.proofs.Common.{◌≡◌, ◌++◌, codes, decimal, append_assoc}
-use Rattle.json.specs.Print.{escape_byte}
-use Rattle.serde_json.specs.Written.{compact_text}
-use Rattle.rb_history.specs.Replies.{behind_json}
+use Rattle.rb_history.proofs.Words.{◌≡◌, ◌++◌, codes, decimal, append_assoc, escape_byte, compact_text, behind_json}
 use Rattle.rb_history.proofs.Numerals.{nine}
 use Rattle.rb_history.proofs.Put.{placed_is, placed_then}
 use Rattle.rb_history.proofs.write.refusal.put_behind.Goals as goal

@@ -1,10 +1,6 @@
-use Rattle.std.proofs.Common.{◌++◌, [], ap, codes, cond, add-one, drop-cons, arith}
-use Rattle.json.specs.Print.{escape_byte}
-use Rattle.rb_shadow.specs.declared.op_name.OpName.TheVariants.{Blue}
-use Rattle.rb_history.specs.Values.{name_json}
+use Rattle.rb_history.proofs.Words.{◌++◌, [], ap, codes, cond, add-one, drop-cons, arith, escape_byte, Blue, name_json, map}
 use Rattle.rb_history.proofs.Public.Appended.{failed_first, front_of_front, front_of_sum}
 use Rattle.rb_history.proofs.Public.Listed.{item_written, list_between, rest_text}
-use Rattle.std.specs.Prelude.{map}
 use Rattle.rb_history.proofs.write.reply.append_names.Goals as goal
 
 pub loop-name-init : goal.loop-name-init

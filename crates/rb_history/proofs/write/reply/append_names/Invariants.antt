@@ -1,6 +1,4 @@
-use Rattle.std.proofs.Common.{◌≡◌, ◌++◌, codes, cond, length, take, drop, []}
-use Rattle.std.specs.Prelude.{map}
-use Rattle.rb_history.specs.Values.{name_json}
+use Rattle.rb_history.proofs.Words.{◌≡◌, ◌++◌, codes, cond, length, take, drop, [], map, name_json}
 use Rattle.rb_history.proofs.Public.Listed.{rest_text}
 use Rattle.rb_history.proofs.write.reply.append_names.Given as goal
 

@@ -1,6 +1,4 @@
-use Rattle.std.proofs.Common.{codes, refl}
-use Rattle.serde_json.specs.Written.{compact_text}
-use Rattle.rb_history.specs.Replies.{reply_json}
+use Rattle.rb_history.proofs.Words.{codes, refl, compact_text, reply_json}
 use Rattle.rb_history.proofs.Public.Appended.{then}
 use Rattle.rb_history.proofs.write.reply.append_reply_line.Goals as goal
 

@@ -1,5 +1,4 @@
-use Rattle.std.proofs.Common.{◌≡◌, IsUtf8, false, true, rules, sym, subst}
-use Rattle.rb_history.specs.Replies.{line}
+use Rattle.rb_history.proofs.Words.{◌≡◌, IsUtf8, false, true, rules, sym, subst, line}
 use Rattle.rb_history.proofs.Utf8.{line_utf8}
 use Rattle.rb_history.proofs.write.reply.write_reply.Goals as goal
 

@@ -1,6 +1,5 @@
-use Rattle.std.proofs.Common.{◌≡◌, ◌++◌, List, ℕ, [], codes, decimal, ap, ◌∙◌, append_assoc, append-nil}
-use Rattle.serde_json.specs.Written.{compact_text}
-use Rattle.rb_history.specs.Entries.{account_json, deps_json}
+use Rattle.rb_history.proofs.Words.{◌≡◌, ◌++◌, List, ℕ, [], codes, decimal, ap, ◌∙◌, append_assoc, append-nil, compact_text, account_json}
+use Rattle.rb_history.proofs.Words.{deps_json}
 use Rattle.rb_history.proofs.Public.Appended.{both, failed, then}
 use Rattle.rb_history.proofs.write.shadow.append_front.Goals as goal
 
@@ -17,17 +16,12 @@ returns c =
     let made = c.args.shadow.now in
     let account = compact_text (account_json c.args.config.now made.account) in
     let written = λ (version : ℕ). compact_text (deps_json version made.deps) in
-    let deps = written c.version.result in
-    let first = codes "{\"shadow\":{\"account\":" ++ (account ++ []) in
-    let second = codes ",\"amount\":" ++ (decimal made.amount ++ codes ",\"deps\":") in
-    let two = both old c.append_account.new.out.items c.append_number.new.out.items first second c.in_ok-append_account.ensures
-    c.in_ok-append_number.ensures in
-    then c.append_deps.result old c.append_number.new.out.items c.append_deps.new.out.items
-    (first ++ second) deps _ two c.append_deps.ensures (front_text account (decimal made.amount) deps
+    let two = both old _ _ _ _ c.in_ok-append_account.ensures c.in_ok-append_number.ensures in
+    then _ old _ _ _ _ _ two c.append_deps.ensures (front_text account (decimal made.amount) (written c.version.result)
     ∙ ap (λ v. codes "{\"shadow\":{\"account\":" ++
     (account ++ (codes ",\"amount\":" ++ (decimal made.amount ++ (codes ",\"deps\":" ++ written v))))) c.version.ensures.same)
 
 pub returns-in_err-append_number : goal.returns-in_err-append_number
-returns-in_err-append_number c = failed c.from_residual-in_err-append_number.result c.args.out.now.items c.append_account.new.out.items
-    c.append_number.new.out.items _ _ c.from_residual-in_err-append_number.ensures.0 c.in_ok-append_account.ensures
+returns-in_err-append_number c =
+    failed _ c.args.out.now.items _ _ _ _ c.from_residual-in_err-append_number.ensures.0 c.in_ok-append_account.ensures
     c.in_err-append_number.ensures

@@ -1,10 +1,5 @@
-use Rattle.std.proofs.Common.{◌≡◌, ◌++◌, List, ℕ, true, codes, decimal, append_assoc, ap, sym, ◌∙◌}
-use Rattle.json.specs.Print.{escape_byte}
-use Rattle.serde_json.specs.Written.{compact_text, members_text}
-use Rattle.rb_shadow.specs.Labels.{label_of}
-use Rattle.rb_history.specs.KindWords.{word_of}
-use Rattle.rb_history.specs.Entries.{account_json, deps_json, last_members}
-use Rattle.rb_history.specs.Values.{name_json}
+use Rattle.rb_history.proofs.Words.{◌≡◌, ◌++◌, List, ℕ, true, codes, decimal, append_assoc, ap, sym, ◌∙◌, escape_byte, compact_text}
+use Rattle.rb_history.proofs.Words.{members_text, label_of, word_of, account_json, deps_json, last_members, name_json}
 use Rattle.rb_history.proofs.Public.Appended.{both, failed, then}
 use Rattle.rb_history.proofs.Plain.{quoted_label}
 use Rattle.rb_history.proofs.write.shadow.append_shadow.Goals as goal
@@ -22,8 +17,9 @@ shadow_text : (account amount deps home kind name last : List ℕ)
 shadow_text account amount deps home kind name last = simp append_assoc
 
 pub returns-in_err-append_back : goal.returns-in_err-append_back
-returns-in_err-append_back c = failed c.from_residual-in_err-append_back.result c.args.out.now.items c.append_front.new.out.items
-    c.append_back.new.out.items _ _ c.from_residual-in_err-append_back.ensures.0 c.in_ok-append_front.ensures c.in_err-append_back.ensures
+returns-in_err-append_back c =
+    failed _ c.args.out.now.items _ _ _ _ c.from_residual-in_err-append_back.ensures.0 c.in_ok-append_front.ensures
+    c.in_err-append_back.ensures
 
 pub returns : goal.returns
 unfolding escape_byte
@@ -37,15 +33,12 @@ returns c =
     let last = members_text true (last_members c.args.config.now made.kind) in
     let amount = decimal made.amount in
     let home = decimal made.home in
-    let first = codes "{\"shadow\":{\"account\":" ++ (account ++ (codes ",\"amount\":" ++ (amount ++ (codes ",\"deps\":" ++ deps)))) in
-    let second = codes ",\"home\":" ++ (home ++ (codes ",\"kind\":\"" ++ (word_of label ++ (codes "\",\"name\":" ++ (name ++ last))))) in
     let whole = λ (kind : List ℕ). codes
     "{\"shadow\":" ++ ((codes "{\"account\":" ++
     (account ++ (codes ",\"amount\":" ++
     (amount ++ (codes ",\"deps\":" ++
     (deps ++ (codes ",\"home\":" ++
     (home ++ (codes ",\"kind\":" ++ (kind ++ (codes ",\"name\":" ++ (name ++ last)))))))))))) ++ codes "}") in
-    let two = both old c.append_front.new.out.items c.append_back.new.out.items first second c.in_ok-append_front.ensures
-    c.in_ok-append_back.ensures in
-    then c.append.result old c.append_back.new.out.items c.append.new.out.items (first ++ second) (codes "}") _ two c.append.ensures
+    let two = both old _ _ _ _ c.in_ok-append_front.ensures c.in_ok-append_back.ensures in
+    then _ old _ _ _ _ _ two c.append.ensures
     (shadow_text account amount deps home (word_of label) name last ∙ ap whole (sym (quoted_label label)))

@@ -1,7 +1,5 @@
-use Rattle.std.proofs.Common.{◌++◌, ◌∙◌, codes, cond, decimal, [], add-one, ap, append_assoc, drop-cons, arith, refl, sym}
-use Rattle.std.proofs.Math.Seq.{take-length}
-use Rattle.std.specs.Prelude.{map}
-use Rattle.rb_history.specs.Statements.{row_json}
+use Rattle.rb_history.proofs.Words.{◌++◌, ◌∙◌, codes, cond, decimal, [], add-one, ap, append_assoc, drop-cons, arith, refl, sym}
+use Rattle.rb_history.proofs.Words.{take-length, map, row_json}
 use Rattle.rb_history.proofs.Public.Appended.{failed_first, front_of_front, front_of_sum, then}
 use Rattle.rb_history.proofs.Public.Listed.{rest_text, whole_text, item_written, items_written}
 use Rattle.rb_history.proofs.write.statement.append_rows.Goals as goal

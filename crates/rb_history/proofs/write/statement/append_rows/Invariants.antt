@@ -1,6 +1,4 @@
-use Rattle.std.proofs.Common.{◌≡◌, ◌++◌, cond, codes, length, take, drop, []}
-use Rattle.std.specs.Prelude.{map}
-use Rattle.rb_history.specs.Statements.{row_json}
+use Rattle.rb_history.proofs.Words.{◌≡◌, ◌++◌, cond, codes, length, take, drop, [], map, row_json}
 use Rattle.rb_history.proofs.Public.Listed.{rest_text}
 use Rattle.rb_history.proofs.write.statement.append_rows.Given as goal
 

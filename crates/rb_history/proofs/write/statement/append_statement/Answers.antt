@@ -1,9 +1,5 @@
-use Rattle.std.proofs.Common.{◌≡◌, ◌++◌, codes, decimal, append_assoc, List, ℕ, false}
-use Rattle.std.specs.Prelude.{map}
-use Rattle.serde_json.specs.View.{items_of}
-use Rattle.serde_json.specs.Written.{items_text}
-use Rattle.json.specs.Print.{escape_byte}
-use Rattle.rb_history.specs.Statements.{row_json}
+use Rattle.rb_history.proofs.Words.{◌≡◌, ◌++◌, codes, decimal, append_assoc, List, ℕ, false, map, items_of, items_text, escape_byte}
+use Rattle.rb_history.proofs.Words.{row_json}
 use Rattle.rb_history.proofs.Public.Appended.{then}
 use Rattle.rb_history.proofs.write.statement.append_statement.Goals as goal
 

@@ -1,10 +1,5 @@
-use Rattle.std.proofs.Common.{◌≡◌, ◌++◌, ◌∙◌, codes, decimal, ap, refl, sym, List, ℕ, false}
-use Rattle.std.specs.Prelude.{map}
-use Rattle.serde_json.specs.View.{items_of}
-use Rattle.serde_json.specs.Written.{items_text}
-use Rattle.json.specs.Print.{escape_byte}
-use Rattle.rb_history.specs.Statements.{row_json}
-use Rattle.rb_statements.specs.declared.row.Row.{Row}
+use Rattle.rb_history.proofs.Words.{◌≡◌, ◌++◌, ◌∙◌, codes, decimal, ap, refl, sym, List, ℕ, false, map, items_of, items_text, escape_byte}
+use Rattle.rb_history.proofs.Words.{row_json, Row}
 use Rattle.rb_history.proofs.Put.{placed_is, placed_then}
 use Rattle.rb_history.proofs.write.statement.put_empty.Goals as goal
 

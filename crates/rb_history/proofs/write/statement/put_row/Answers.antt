@@ -1,9 +1,5 @@
-use Rattle.std.proofs.Common.{◌≡◌, ◌++◌, [], cond, codes, decimal, append_assoc, ap, ◌∙◌, sym, List, ℕ}
-use Rattle.std.specs.Fmt.{signed_decimal}
-use Rattle.json.specs.Print.{token_text, quoted}
-use Rattle.json.specs.Token.{boolean}
-use Rattle.rb_shadow.specs.NameText.{name_text}
-use Rattle.rb_history.specs.KindWords.{word_of}
+use Rattle.rb_history.proofs.Words.{◌≡◌, ◌++◌, [], cond, codes, decimal, append_assoc, ap, ◌∙◌, sym, List, ℕ, signed_decimal, token_text}
+use Rattle.rb_history.proofs.Words.{quoted, boolean, name_text, word_of}
 use Rattle.rb_history.proofs.Numerals.{integer_text}
 use Rattle.rb_history.proofs.Plain.{quoted_label}
 use Rattle.rb_history.proofs.Put.{placed_is, placed_then}

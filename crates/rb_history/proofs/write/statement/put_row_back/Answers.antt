@@ -1,9 +1,4 @@
-use Rattle.std.proofs.Common.{◌++◌, codes, decimal, ap, rules, FitsSigned}
-use Rattle.std.specs.Fmt.{signed_decimal}
-use Rattle.std.specs.Int.{w64}
-use Rattle.std.proofs.lemmas.Int.{to_z-of_z}
-use Rattle.json.specs.Print.{token_text}
-use Rattle.json.specs.Token.{boolean}
+use Rattle.rb_history.proofs.Words.{◌++◌, codes, decimal, ap, rules, FitsSigned, signed_decimal, w64, to_z-of_z, token_text, boolean}
 use Rattle.rb_history.proofs.Put.{placed_is, placed_then}
 use Rattle.rb_history.proofs.write.statement.put_row_back.Goals as goal
 

@@ -1,6 +1,4 @@
-use Rattle.std.proofs.Common.{◌++◌, append_assoc, codes, subst, sym}
-use Rattle.json.specs.Print.{escape_byte}
-use Rattle.rb_history.specs.Adds.{Adds}
+use Rattle.rb_history.proofs.Words.{◌++◌, append_assoc, codes, subst, sym, escape_byte, Adds}
 use Rattle.rb_history.proofs.Plain.{account_plain}
 use Rattle.rb_history.proofs.write.verdict.append_limit.Goals as goal
 

@@ -1,7 +1,5 @@
-use Rattle.std.proofs.Common.{◌++◌, [], ap, codes, cond, add-one, drop-cons, arith, append_assoc, append-nil, ◌∙◌}
-use Rattle.std.specs.Prelude.{map}
-use Rattle.rb_shadow.specs.declared.op_name.OpName.TheVariants.{Blue}
-use Rattle.rb_history.specs.Values.{name_json}
+use Rattle.rb_history.proofs.Words.{◌++◌, [], ap, codes, cond, add-one, drop-cons, arith, append_assoc, append-nil, ◌∙◌, map, Blue}
+use Rattle.rb_history.proofs.Words.{name_json}
 use Rattle.rb_history.proofs.Public.Appended.{front_of_front, front_of_sum, then}
 use Rattle.rb_history.proofs.Public.Listed.{item_written, items_written, rest_text, whole_text}
 use Rattle.rb_history.proofs.Behind.{failed_behind}

@@ -1,10 +1,6 @@
-use Rattle.std.proofs.Common.{◌++◌, ◌∷◌, ap, codes, add-one, drop, drop-cons, suc, arith, rules, sym, ◌∙◌, subst, false}
+use Rattle.rb_history.proofs.Words.{◌++◌, ◌∷◌, ap, codes, add-one, drop, drop-cons, suc, arith, rules, sym, ◌∙◌, subst, false, escape_byte}
+use Rattle.rb_history.proofs.Words.{items_of, compact_text, items_text, Adds, list_json, name_json}
 use Rattle.std.proofs.lemmas.Simd.{map-map}
-use Rattle.json.specs.Print.{escape_byte}
-use Rattle.serde_json.specs.View.{items_of}
-use Rattle.serde_json.specs.Written.{compact_text, items_text}
-use Rattle.rb_history.specs.Adds.{Adds}
-use Rattle.rb_history.specs.Values.{list_json, name_json}
 use Rattle.rb_history.proofs.Public.Appended.{front_of_front, front_of_sum}
 use Rattle.rb_history.proofs.Public.Listed.{item_written, list_between}
 use Rattle.rb_history.proofs.Behind.{failed_behind}
