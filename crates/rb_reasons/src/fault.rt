@@ -13,19 +13,19 @@ pub struct Fault {
     pub why: String,
 }
 
-/// Words, behind where memory for them is from. The call gives `None` if it ran out.
+/// A fault, if there is one; or `None` if memory ran out.
+pub type Found = Option<Option<Fault>>;
+
+/// Words, after where memory for them is from. The call gives `None` if it ran out.
 macro_rules! words {
-    ($alloc:ident => $($words:tt)*) => { format!(in $alloc; $($words)*).ok()? };
+    ($alloc:expr => $($words:tt)*) => { format!(in $alloc; $($words)*).ok()? };
 }
 
 /// The fault of such words, which so many bytes of the line are before.
 macro_rules! fault {
-    ($alloc:ident, $at:expr => $($words:tt)*) => { Some(Fault { at: $at, why: words!($alloc => $($words)*) }) };
-}
-
-/// The fault of a value that isn't taken for a reason that nothing here says.
-pub fn unknown(alloc: Global, at: usize) -> Option<Fault> {
-    fault!(alloc, at => "this isn't taken here (docs/FORMAT.md has the rules)")
+    ($alloc:expr, $at:expr => $($words:tt)*) => {
+        Some(Some(crate::fault::Fault { at: $at, why: crate::fault::words!($alloc => $($words)*) }))
+    };
 }
 
 /// A part of a line, of a long one only how it begins.
@@ -38,7 +38,7 @@ pub fn quote(alloc: Global, text: &[u8]) -> Option<String> {
     Some(words)
 }
 
-/// The digits of a number, maybe behind a sign, with a comma before each three of the last ones.
+/// The digits of a number, maybe after a sign, with a comma before each three of the last ones.
 pub fn commas(alloc: Global, digits: &[u8]) -> Option<String> {
     let mut words = String::new(alloc);
     if MOST_QUOTED < digits.len() {

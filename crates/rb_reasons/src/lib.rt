@@ -9,29 +9,33 @@ ghost use Rattle.rb_reasons.specs.declared.text.TheConstants.{MOST_REASON, MOST_
 mod difference;
 mod fault;
 mod object;
-mod reader;
 mod scan;
-mod search;
 mod shapes;
 mod syntax;
 mod text;
 mod value;
 
-use crate::fault::{Fault, fault, number, words};
-use crate::reader::Reader;
+use crate::fault::{Found, fault, number};
 use crate::scan::Scan;
-use crate::search::first_refused;
+use crate::shapes::Terms;
 use crate::syntax::wrong_syntax;
 use crate::text::{write_reason, write_short_reason};
-use crate::value::wrong_value;
 pub use difference::difference_of;
+use json::Scratch;
 use rb_history::BankName;
-use rb_lines::{LINE_LIMIT, first_feed, text_on};
+use rb_lines::{LINE_LIMIT, text_on};
 use rb_money::Config;
-pub use reader::Expected;
 use serde_json::Value;
 use std::alloc::Global;
 pub use text::{MOST_REASON, MOST_SHORT_REASON};
+
+/// Which reader refused the line.
+#[derive(Clone, Copy, Debug, PartialEq, Eq)]
+pub enum Expected {
+    Config,
+    Command,
+    Entry,
+}
 
 /// The reason why the reader refused the line.
 pub fn reason_of(
@@ -43,7 +47,7 @@ pub fn reason_of(
     ensures reason { IfSome result (λ s. IsReason (length line.now) (string_bytes s)) }
     ensures most { IfSome result (λ s. length (string_bytes s) ≤ MOST_REASON) }
 {
-    let fault = fault_of(alloc, Reader::Line(expected, config), line)?;
+    let fault = fault_of(alloc, Terms::Line(expected, config), line)??;
     write_reason(alloc, line, fault.at, fault.why.as_bytes())
 }
 
@@ -59,28 +63,19 @@ pub fn reason_at_site(
     ensures plain { IfSome result (λ s. IsPlain (string_bytes s)) }
     ensures most { IfSome result (λ s. length (string_bytes s) ≤ MOST_SHORT_REASON) }
 {
-    let fault = fault_of(alloc, Reader::Site(config, bank), line)?;
+    let fault = fault_of(alloc, Terms::Site(config, bank), line)??;
     write_short_reason(alloc, line, fault.at, fault.why.as_bytes())
 }
 
-/// The line of this number, from 1, without its line feed; what is behind the last line feed counts as a line. Nothing
+/// The line of this number, from 1, without its line feed; what is after the last line feed counts as a line. Nothing
 /// if there are fewer lines.
 pub fn line_of(bytes: &[u8], number: u64) -> &[u8] {
-    let mut rest = bytes;
-    for _ in 1..number {
-        match first_feed(rest) {
-            Some(n) => rest = rest.get(n.saturating_add(1)..).unwrap_or(b""),
-            None => return b"",
-        }
-    }
-    match first_feed(rest) {
-        Some(n) => &rest[..n],
-        None => rest,
-    }
+    let mut lines = bytes.split(|byte| *byte == b'\n');
+    lines.nth(number.saturating_sub(1) as usize).unwrap_or(b"")
 }
 
 /// The fault of the line.
-fn fault_of(alloc: Global, reader: Reader<'_>, line: &[u8]) -> Option<Fault> {
+fn fault_of(alloc: Global, terms: Terms<'_>, line: &[u8]) -> Found {
     if line.len() > LINE_LIMIT {
         let (bytes, limit) = (line.len() as u64, LINE_LIMIT as u64);
         let (bytes, limit) = (number(alloc, bytes)?, number(alloc, limit)?);
@@ -95,22 +90,26 @@ fn fault_of(alloc: Global, reader: Reader<'_>, line: &[u8]) -> Option<Fault> {
         return fault!(alloc, 0 => "the line begins with {mark}: the program reads UTF-8 with no such mark");
     }
     let Some(text) = text_on(line) else {
-        return not_text(alloc, line);
+        let at = std::str::from_utf8(line).err()?.valid_up_to();
+        let byte = *line.get(at)?;
+        return fault!(alloc, at => "the byte 0x{byte:02x} isn't UTF-8");
     };
     match Value::from_str(alloc, text) {
-        Ok(_) => {
-            let nodes = Scan::of(alloc, line, reader.root(), reader.terms())?.nodes;
-            let first = first_refused(alloc, reader, text, &nodes)?;
-            wrong_value(alloc, reader, text, nodes.get(first..)?)
-        }
+        Ok(_) => fault_of_values(alloc, terms, text),
         Err(error) if error.is_memory() => None,
-        Err(error) => wrong_syntax(alloc, line, &error),
+        Err(error) => wrong_syntax(alloc, terms, text, &error),
     }
 }
 
-/// The fault of a line that isn't UTF-8.
-fn not_text(alloc: Global, line: &[u8]) -> Option<Fault> {
-    let at = std::str::from_utf8(line).err()?.valid_up_to();
-    let byte = *line.get(at)?;
-    fault!(alloc, at => "the byte 0x{byte:02x} isn't UTF-8")
+/// The first fault among the values of a line, each before those that are in it.
+fn fault_of_values(alloc: Global, terms: Terms<'_>, line: &str) -> Found {
+    let mut scratch = Scratch::new(alloc);
+    let scan = Scan::of(alloc, line, terms, &mut scratch)?;
+    for place in 0..scan.nodes.len() {
+        let fault = scan.wrong_value(place)?;
+        if fault.is_some() {
+            return Some(fault);
+        }
+    }
+    fault!(alloc, 0 => "this isn't taken here (docs/FORMAT.md has the rules)")
 }

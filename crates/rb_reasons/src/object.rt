@@ -1,103 +1,122 @@
-//! Why the reader refuses an object of which it could take each value: by its keys. The shape of such an object depends
-//! on its keys, so that they are looked at once all of them are known.
+//! What is wrong with the keys of an object. Some depend on its values, so that they are looked at once all are known.
 
-use crate::fault::{Fault, fault, quote, unknown, words};
-use crate::scan::Node;
-use crate::shapes::{Form, Role, Spot, Terms, key};
-use rb_history::spell;
+use crate::fault::{Found, fault, quote, words};
+use crate::scan::{Node, Scan};
+use crate::shapes::{Keys, MADE, REFUSAL, REQUESTS, Role, STATEMENT, Shape, Terms, key};
 use std::alloc::Global;
 
-/// The values of the object or the list that is the first of these. `None` if memory ran out.
-pub fn children(alloc: Global, nodes: &[Node]) -> Option<Vec<Node>> {
-    let mut children = Vec::new(alloc);
-    let holder = nodes.first()?;
-    for node in nodes.get(1..)? {
-        if holder.end <= node.start {
-            break;
-        }
-        if node.depth == holder.depth.saturating_add(1) {
-            children.push(*node).ok()?;
-        }
-    }
-    Some(children)
-}
-
-/// An object of a line, and its values.
-#[derive(Drop)]
-struct Object<'a> {
-    line: &'a str,
-    values: Vec<Node>,
-}
-
-/// A key that an object may have, and the last value behind it.
+/// A key that an object may have, and where it is written last.
 #[derive(Clone, Copy)]
 struct Part {
     role: Role,
     word: &'static str,
-    value: Option<Node>,
+    at: Option<usize>,
 }
 
-/// Why the reader refuses the object that is the first of these values. `None` if memory ran out.
-pub fn wrong_object(alloc: Global, terms: Terms, line: &str, nodes: &[Node]) -> Option<Fault> {
-    let node = nodes.first()?;
-    let values = children(alloc, nodes)?;
-    let object = Object { line, values };
-    if let Some((at, why)) = elsewhere(node.start, &object.parts(alloc, terms, node.spot)?) {
-        return fault!(alloc, at => "{why}");
+impl<'a> Scan<'a> {
+    /// The values of the object or the list at this place. `None` if memory ran out.
+    pub fn values(&self, place: usize) -> Option<Vec<Node<'a>>> {
+        let mut values = Vec::new(self.alloc);
+        let depth = self.nodes.get(place)?.depth;
+        let rest = self.nodes.iter().skip(place.saturating_add(1));
+        for node in rest.take_while(|it| depth < it.depth) {
+            if node.depth == depth.saturating_add(1) {
+                values.push(*node).ok()?;
+            }
+        }
+        Some(values)
     }
-    let spot = object.form(node.spot);
-    let parts = object.parts(alloc, terms, spot)?;
-    let (what, _) = terms.shape(spot);
-    let what = match spot {
-        Spot::Refusal(number) => words!(alloc => "{what} {number}"),
-        _ => words!(alloc => "{what}"),
-    };
-    for value in &object.values {
-        if !is_known(&parts, object.word(value)) {
-            let word = quote(alloc, object.word(value))?;
+
+    /// What is wrong with the keys of the object at this place.
+    pub fn wrong_object(&self, place: usize) -> Found {
+        let (alloc, node) = (self.alloc, self.nodes.get(place)?);
+        let values = self.values(place)?;
+        let (shape, number) = form(node, &values);
+        let Shape::Object(what, keys) = shape else {
+            return Some(None);
+        };
+        let what = words!(alloc => "{what}{number}");
+        let parts = self.parts(keys, &values)?;
+        if let Some((at, why)) = elsewhere(node.start, &parts) {
+            return fault!(alloc, at => "{why}");
+        }
+        if let Some(value) = values.iter().find(|it| !is_known(&parts, it.key)) {
+            let word = quote(alloc, value.key.as_bytes())?;
             let all = listed(alloc, &parts, false)?;
             return fault!(alloc, value.key_start => "{what} has no key \"{word}\": there are: {all}");
         }
-    }
-    let mut found: Option<&'static str> = None;
-    for part in &parts {
-        match (part.role, part.value, found) {
-            (Role::One, Some(_), None) => found = Some(part.word),
-            (Role::One, Some(value), Some(first)) =>
-                return fault!(alloc, value.key_start => "{what} is one, and here are {first} and {}", part.word),
-            _ => (),
+        let fault = wrong_parts(alloc, &what, node.end, &parts)?;
+        if fault.is_none() && node.depth < 2 {
+            return self.wrong_id(node, &values);
         }
+        Some(fault)
     }
-    let last = node.end.saturating_sub(1);
-    let ones = listed(alloc, &parts, true)?;
-    if found.is_none() && !ones.is_empty() {
-        return fault!(alloc, last => "{what} is one of {ones}, and none is here");
-    }
-    for part in &parts {
-        if part.role == Role::Needed && part.value.is_none() {
-            return fault!(alloc, last => "the key \"{}\" of {what} is missing", part.word);
+
+    /// An object with all its keys: a line, or the event or the reply of an entry.
+    fn wrong_id(&self, node: &Node<'_>, values: &[Node<'_>]) -> Found {
+        let has = |word: &str| find(values, word).is_some();
+        let is_request = has(key!(batch)) || REQUESTS.iter().any(|(word, _)| has(word));
+        let is_id = |it: &Node<'_>| it.depth == 1 && it.key == key!(id);
+        let why = match (node.depth, self.terms) {
+            (0, Terms::Site(_, _)) if !is_request =>
+                "an id is of a request or a batch, and of nothing else",
+            (1, _) if has(key!(refused)) || node.key == key!(event) && !is_request =>
+                "an entry with an id is of a request that wasn't refused",
+            _ => return Some(None),
+        };
+        if !self.nodes.iter().any(is_id) {
+            return Some(None);
         }
+        fault!(self.alloc, node.start => "{why}")
     }
-    wrong_id(alloc, node.start, spot, object.has(key!(id)))
+
+    /// The keys of an object with these values.
+    fn parts(&self, keys: Keys, values: &[Node<'_>]) -> Option<Vec<Part>> {
+        let kind = find(values, key!(kind)).map_or("", |it| it.said());
+        let case = find(values, key!(refused)).map_or(kind, |it| it.text);
+        let mut parts = Vec::new(self.alloc);
+        for (role, row) in keys {
+            let role = match (*role, self.terms) {
+                (Role::Named(_), Terms::Site(_, bank)) if !bank.as_bytes().is_empty() => Role::Free,
+                (Role::Named(why), _) => Role::Stray(why),
+                (Role::If(word), _) if word == case => Role::Needed,
+                (Role::If(_), _) => Role::Elsewhere,
+                (role, _) => role,
+            };
+            for (word, _) in *row {
+                let at = find(values, word).map(|it| it.key_start);
+                parts.push(Part { role, word, at }).ok()?;
+            }
+        }
+        Some(parts)
+    }
 }
 
-/// An object with all its keys. Most often its id, or that of its entry, is one too many.
-fn wrong_id(alloc: Global, at: usize, spot: Spot, has_id: bool) -> Option<Fault> {
-    match spot {
-        Spot::Event | Spot::Made | Spot::Statement | Spot::Refusal(_) | Spot::Reply =>
-            fault!(alloc, at => "an entry with an id is of a request that wasn't refused"),
-        Spot::Asked(_) if has_id =>
-            fault!(alloc, at => "an id is of a request or a batch, and of nothing else"),
-        _ => unknown(alloc, at),
+/// Keys that are missing in an object that has no others and ends here, or of which it has two and not one.
+fn wrong_parts(alloc: Global, what: &str, end: usize, parts: &[Part]) -> Found {
+    let ones = listed(alloc, parts, true)?;
+    let ones_here = parts.iter().filter(|it| it.role == Role::One);
+    let mut found = ones_here.filter_map(|it| Some((it.word, it.at?)));
+    match (found.next(), found.next()) {
+        (Some((one, _)), Some((more, at))) =>
+            return fault!(alloc, at => "{what} is one, and here are {one} and {more}"),
+        (None, _) if !ones.is_empty() =>
+            return fault!(alloc, end => "{what} is one of {ones}, and none is here"),
+        _ => (),
+    }
+    let mut needed = parts.iter().filter(|it| it.role == Role::Needed);
+    match needed.find(|it| it.at.is_none()) {
+        Some(part) => fault!(alloc, end => "the key \"{}\" of {what} is missing", part.word),
+        None => Some(None),
     }
 }
 
 /// A part that belongs to another kind of line: how many bytes are before it, and words on it.
 fn elsewhere(start: usize, parts: &[Part]) -> Option<(usize, &'static str)> {
     for part in parts {
-        match (part.role, part.value) {
+        match (part.role, part.at) {
             (Role::Other(why), Some(_)) => return Some((start, why)),
-            (Role::Stray(why), Some(value)) => return Some((value.key_start, why)),
+            (Role::Stray(why), Some(at)) => return Some((at, why)),
             (Role::Needed, Some(_)) => return None,
             _ => (),
         }
@@ -107,14 +126,13 @@ fn elsewhere(start: usize, parts: &[Part]) -> Option<(usize, &'static str)> {
 
 /// Whether the object may have keys of this part.
 fn is_there(role: Role) -> bool {
-    role == Role::One || role == Role::Needed || role == Role::Free
+    matches!(role, Role::One | Role::Needed | Role::Free)
 }
 
 /// Whether the object may have the key.
-fn is_known(parts: &[Part], word: &[u8]) -> bool {
-    parts
-        .iter()
-        .any(|part| is_there(part.role) && part.word.as_bytes() == word)
+fn is_known(parts: &[Part], key: &str) -> bool {
+    let mut there = parts.iter().filter(|it| is_there(it.role));
+    there.any(|it| it.word == key)
 }
 
 /// The keys that the object may have, or of which it has one.
@@ -131,68 +149,19 @@ fn listed(alloc: Global, parts: &[Part], ones: bool) -> Option<String> {
     Some(words)
 }
 
-impl<'a> Object<'a> {
-    /// The key of one of its values.
-    fn word(&self, value: &Node) -> &'a [u8] {
-        let start = value.key_start.saturating_add(1);
-        self.line
-            .as_bytes()
-            .get(start..value.key_end)
-            .unwrap_or(b"")
-    }
+/// The last value after a key.
+fn find<'n, 'a>(values: &'n [Node<'a>], word: &str) -> Option<&'n Node<'a>> {
+    values.iter().rfind(|value| value.key == word)
+}
 
-    /// The last value behind a key.
-    fn find(&self, word: &str) -> Option<Node> {
-        let mut found = None;
-        for value in &self.values {
-            if self.word(value) == word.as_bytes() {
-                found = Some(*value);
-            }
-        }
-        found
-    }
-
-    /// Whether it has a key.
-    fn has(&self, word: &str) -> bool {
-        self.find(word).is_some()
-    }
-
-    /// The text of the value behind a key, or none.
-    fn text(&self, word: &str) -> &'a str {
-        match self.find(word) {
-            Some(value) => self.line.get(value.start..value.end).unwrap_or(""),
-            None => "",
-        }
-    }
-
-    /// The keys of an object at this spot.
-    fn parts(&self, alloc: Global, terms: Terms, spot: Spot) -> Option<Vec<Part>> {
-        let mut parts = Vec::new(alloc);
-        if let (_, Form::Object(keys)) = terms.shape(spot) {
-            for (role, word, _) in keys {
-                let role = match *role {
-                    Role::Named(_) if spot == Spot::Asked(true) => Role::Free,
-                    Role::Named(why) => Role::Stray(why),
-                    role => role,
-                };
-                let value = self.find(word);
-                parts.push(Part { role, word, value }).ok()?;
-            }
-        }
-        Some(parts)
-    }
-
-    /// The spot of its form, by those of its values on which its keys depend.
-    fn form(&self, spot: Spot) -> Spot {
-        let kind = self.text(key!(kind));
-        let refused = self.text(key!(refused));
-        match spot {
-            Spot::Shadow if kind == spell!(cancel) => Spot::Cancellation,
-            Spot::Shadow if kind == spell!(transfer) => Spot::Transferral,
-            Spot::Reply if !refused.is_empty() => Spot::Refusal(refused.parse::<u8>().unwrap_or(0)),
-            Spot::Reply if self.has(key!(kind)) || self.has(key!(name)) => Spot::Made,
-            Spot::Reply if self.has(key!(rows)) || self.has(key!(start)) => Spot::Statement,
-            spot => spot,
-        }
+/// The shape of an object with these values, and the number if it is a refusal.
+fn form<'a>(node: &Node<'a>, values: &[Node<'a>]) -> (Shape, &'a str) {
+    let has = |word: &str| find(values, word).is_some();
+    let is_reply = node.key == key!(reply);
+    match find(values, key!(refused)) {
+        Some(number) if is_reply => (REFUSAL, number.text),
+        _ if is_reply && (has(key!(kind)) || has(key!(name))) => (MADE, ""),
+        _ if is_reply && (has(key!(rows)) || has(key!(start))) => (STATEMENT, ""),
+        _ => (node.shape, ""),
     }
 }

@@ -1,96 +1,103 @@
 //! Why a line is no JSON: after how many bytes no text that begins so is JSON, and the parts of JSON that may be there.
 //! The JSON reader is asked of the line's beginnings, since where it stops reading isn't always where the fault is.
 
-use crate::fault::{Fault, fault, number, quote, words};
-use crate::scan::{Scan, State};
-use crate::shapes::{Spot, Terms};
-use rb_lines::text_on;
+use crate::fault::{Found, fault, number, quote, words};
+use crate::scan::Scan;
+use crate::shapes::Terms;
+use json::Scratch;
 use serde_json::{Error, Value};
 use std::alloc::Global;
 
-/// Whether JSON may begin with the bytes, or with those of their whole characters. `None` if memory ran out.
-fn is_front(alloc: Global, bytes: &[u8]) -> Option<bool> {
-    let whole = match std::str::from_utf8(bytes) {
-        Ok(_) => bytes,
-        Err(error) => bytes.get(..error.valid_up_to())?,
-    };
-    match Value::from_str(alloc, text_on(whole)?) {
-        Ok(_) => Some(true),
-        Err(error) if error.is_memory() => None,
-        Err(error) => Some(error.is_eof()),
-    }
+/// The whole characters among so many first bytes of a line.
+fn front_of(line: &str, len: usize) -> &str {
+    let (front, _) = line.split_at(line.floor_char_boundary(len));
+    front
 }
 
-/// The most bytes with which JSON may begin, of a line that is none.
-fn front_len(alloc: Global, line: &[u8]) -> Option<usize> {
+/// The most bytes with which JSON may begin, of a line that is none. `None` if memory ran out.
+fn front_len(alloc: Global, line: &str) -> Option<usize> {
     let mut low = 0;
     let mut high = line.len();
     for _ in 0..usize::BITS {
         if low < high {
             let middle = low + (high - low) / 2;
-            if is_front(alloc, line.get(..middle + 1).unwrap_or(line))? {
-                low = middle + 1;
-            } else {
-                high = middle;
+            match Value::from_str(alloc, front_of(line, middle + 1)) {
+                Err(error) if error.is_memory() => return None,
+                Err(error) if !error.is_eof() => high = middle,
+                _ => low = middle + 1,
             }
         }
     }
     Some(low)
 }
 
-/// Why a line is no JSON, of which its reader says this. `None` if memory ran out.
-pub fn wrong_syntax(alloc: Global, line: &[u8], error: &Error) -> Option<Fault> {
-    let known = front_len(alloc, line)?;
+/// Why a line is no JSON, of which its reader says this.
+pub fn wrong_syntax(alloc: Global, terms: Terms<'_>, line: &str, error: &Error) -> Found {
+    let mut known = front_len(alloc, line)?;
     // A text of half a character, a number that is too large and values that are too deep are faults as a whole.
-    let at = if line.len() <= known.saturating_add(1) && !error.is_eof() {
-        known.min(error.column().saturating_sub(1))
-    } else {
-        known
-    };
-    let (front, rest) = line.split_at(at.min(line.len()));
-    let scan = Scan::of(
-        alloc,
-        front,
-        Spot::Unknown,
-        Terms {
-            version: 1,
-            sites: 0,
-        },
-    )?;
-    let begin = scan.begin();
-    let (at, why) = match (scan.state, rest.first()) {
-        (State::Text, None) => (begin, "this text has no closing \""),
-        (State::Text, Some(0..=31)) => (at, "a control character in a text"),
-        (State::Text, Some(_)) => (at, "no such escape in a text"),
-        (State::Escape, _) => (at.saturating_sub(1), "no such escape in a text"),
-        (State::Word, Some(_)) => return wrong_word(alloc, line, begin, at),
-        (State::Value, _) => return wrong_value(alloc, front, rest),
-        (State::Key, Some(b'}')) => (at, "a comma is left over before }"),
-        (State::Key, _) => (at, "a key is missing here, between \" and \""),
-        (State::Colon, _) => {
-            let key = quote(alloc, scan.key())?;
-            return fault!(alloc, at => "a colon is missing behind the key {key}");
+    if line.len() <= known.saturating_add(1) && !error.is_eof() {
+        known = known.min(error.column().saturating_sub(1));
+    }
+    let front = front_of(line, known);
+    let (at, rest) = (front.len(), line.as_bytes().get(front.len()..)?);
+    let mut scratch = Scratch::new(alloc);
+    let scan = Scan::of(alloc, front, terms, &mut scratch)?;
+    let last = front.trim_end().as_bytes().last();
+    let is_between = matches!(last, None | Some(b',' | b':' | b'[' | b'{'));
+    if let Some(begin) = scan.bad.or(unended(&scan, front, rest)) {
+        // (between values nothing has begun but a text)
+        if !is_between || line.as_bytes().get(begin) == Some(&b'"') {
+            return wrong_token(alloc, &scan, line, begin, at);
         }
-        (State::Comma, _) | (State::Word, None) => return wrong_end(alloc, &scan, rest, at),
-    };
-    fault!(alloc, at => "{why}")
+    }
+    let is_object = matches!(scan.holder(), Some((_, true)));
+    match (last, rest.first(), scan.nodes.last()) {
+        (Some(b','), Some(b'}'), _) if is_object =>
+            fault!(alloc, at => "a comma is left over before }}"),
+        (Some(b',' | b'{'), _, _) if is_object =>
+            fault!(alloc, at => "a key is missing here, between \" and \""),
+        (None | Some(b',' | b':' | b'['), _, _) => wrong_value(alloc, front, rest),
+        (Some(b'"'), _, Some(key)) if is_object && key.start == key.key_start => {
+            let key = quote(alloc, key.said().as_bytes())?;
+            fault!(alloc, at => "a colon is missing behind the key {key}")
+        }
+        _ => wrong_end(alloc, &scan, rest, at),
+    }
 }
 
-/// A number or a word that no value begins with.
-fn wrong_word(alloc: Global, line: &[u8], begin: usize, at: usize) -> Option<Fault> {
-    let word = line.get(begin..)?;
-    let (at, why) = match word.first() {
-        Some(b'-') if at == begin.saturating_add(1) => (begin, "a minus sign is before a digit"),
-        Some(b'0') if at == begin.saturating_add(1) => (begin, "a number has no zero in front"),
-        Some(b'-' | b'0'..=b'9') => (at, "a number goes on with digits, or ends here"),
-        _ => return no_value(alloc, word, begin),
+/// Where the last value begins, if it is a number or a word that goes on.
+fn unended(scan: &Scan<'_>, front: &str, rest: &[u8]) -> Option<usize> {
+    let is_word = front.as_bytes().last()?.is_ascii_alphanumeric();
+    let goes_on = !b",]} \t\r".contains(rest.first()?);
+    let last = scan.nodes.last()?;
+    (is_word && goes_on).then_some(last.start)
+}
+
+/// A text, a number or a word that begins here, and goes on with a byte that it can't have.
+fn wrong_token(alloc: Global, scan: &Scan<'_>, line: &str, begin: usize, at: usize) -> Found {
+    let (front, rest) = line.split_at_checked(at)?;
+    let unescaped = front.trim_end_matches('\\').len();
+    let is_second = at == begin.saturating_add(1);
+    let (at, why) = match (line.as_bytes().get(begin), rest.as_bytes().first()) {
+        (Some(b'"'), _) if at.saturating_sub(unescaped) % 2 == 1 => (
+            at.saturating_sub(1),
+            "no such escape in a text",
+        ),
+        (Some(b'"'), None) => (begin, "this text has no closing \""),
+        (Some(b'"'), Some(0..=31)) => (at, "a control character in a text"),
+        (Some(b'"'), Some(_)) => (at, "no such escape in a text"),
+        (_, None) => return wrong_end(alloc, scan, b"", at),
+        (Some(b'-'), _) if is_second => (begin, "a minus sign is before a digit"),
+        (Some(b'0'), _) if is_second => (begin, "a number has no zero in front"),
+        (Some(b'-' | b'0'..=b'9'), _) => (at, "a number goes on with digits, or ends here"),
+        _ => return no_value(alloc, line.as_bytes().get(begin..)?, begin),
     };
     fault!(alloc, at => "{why}")
 }
 
 /// Something that isn't a value, or not a whole one.
-fn wrong_value(alloc: Global, front: &[u8], rest: &[u8]) -> Option<Fault> {
-    let why = match (rest.first(), front.last()) {
+fn wrong_value(alloc: Global, front: &str, rest: &[u8]) -> Found {
+    let why = match (rest.first(), front.as_bytes().last()) {
         (None, _) => "the line ends here, and a value is missing",
         (Some(b']'), Some(b',')) => "a comma is left over before ]",
         (Some(b'}'), Some(b',')) => "a comma is left over before }",
@@ -106,7 +113,7 @@ fn wrong_value(alloc: Global, front: &[u8], rest: &[u8]) -> Option<Fault> {
 }
 
 /// A word that is no value.
-fn no_value(alloc: Global, rest: &[u8], at: usize) -> Option<Fault> {
+fn no_value(alloc: Global, rest: &[u8], at: usize) -> Found {
     let letters = rest
         .iter()
         .take_while(|byte| byte.is_ascii_alphanumeric() || **byte == b'_');
@@ -114,8 +121,8 @@ fn no_value(alloc: Global, rest: &[u8], at: usize) -> Option<Fault> {
     fault!(alloc, at => "{word} is no value: a text is between \" and \"")
 }
 
-/// Something that can't come behind a value.
-fn wrong_end(alloc: Global, scan: &Scan<'_>, rest: &[u8], at: usize) -> Option<Fault> {
+/// Something that can't come after a value.
+fn wrong_end(alloc: Global, scan: &Scan<'_>, rest: &[u8], at: usize) -> Found {
     let Some((begin, is_object)) = scan.holder() else {
         return fault!(alloc, at => "the object ends before this, and a line has one object");
     };
