@@ -63,7 +63,7 @@ def uses():
 
 
 def below(name, known):
-    """The repository's crates below one, each behind those that it uses."""
+    """The repository's crates below one, each after those that it uses."""
     found = []
     for crate in known[name]:
         if crate in known:
@@ -147,8 +147,8 @@ def static(parts):
 
 
 def shared(compiler):
-    """The same as a library that is loaded as a program runs, which needs nothing but the C library. What is linked
-    with it asks for it by its name with the first number of the version."""
+    """The static library again, as one that is loaded as a program runs and needs nothing but the C library. What is
+    linked with it asks for it by its name with the first number of the version."""
     name = os.path.basename(SHARED) + "." + version().partition(".")[0]
     whole = ["-Wl,--whole-archive", STATIC, "-Wl,--no-whole-archive", "-Wl,--no-undefined", f"-Wl,-soname,{name}"]
     subprocess.run([compiler, "-shared", "-o", SHARED, *whole], check=True)

@@ -114,7 +114,7 @@ def example():
 
 
 def restart():
-    """Whether a site goes on from its journal, and what a crash left behind its last line is cut off."""
+    """Whether a site goes on from its journal, and what a crash left after its last line is cut off."""
     program = compiled("restart")
     if program is None:
         return False
@@ -139,7 +139,7 @@ def restart():
 
 
 def goes_on(words):
-    """Whether a site that is killed behind each answer goes on from its journal's file, and leaves it as the program
+    """Whether a site that is killed after each answer goes on from its journal's file, and leaves it as the program
     would. A new journal has to be asked for, and then there may be none."""
     if words[0] is None:
         return False
@@ -261,19 +261,19 @@ NEEDS = {"C": "C compiler", "Rust": "cargo", "Python": "Python"}
 
 
 def first_line(text):
-    """A fault on standard error without the reason behind it, which the program alone says."""
+    """A fault on standard error without the reason after it, which the program alone says."""
     return re.sub(r"(?m)^  .*\n", "", text)
 
 
 def fault_of(text):
     """A fault on standard error as the library's caller knows it, without the kind of a bad line. That of what a crash
-    left behind the last line is said by the program alone."""
+    left after the last line is said by the program alone."""
     text = re.sub(r"(?m)^rbbank: journal line .* cut off, kept in .*\n", "", first_line(text.decode()))
     return re.sub(r"(?m)^(rbbank: line \d+): .*$", r"\1", text).encode()
 
 
 def cut_off(before, fault):
-    """What a crash left behind a journal's last line, by what the program says of it."""
+    """What a crash left after a journal's last line, by what the program says of it."""
     said = re.search(rb"(?m)^rbbank: journal line \d+: (\d+) bytes behind it cut off, kept in .*$", fault)
     return before[-int(said[1]):] if said else None
 

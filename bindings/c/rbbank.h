@@ -42,11 +42,11 @@ enum {
 };
 
 /* Copies why a line isn't taken, as `rbbank` says it, on one line: "column 47: 25 is out of range: ..". The column
- * counts characters, from 1; the words may change. It is asked after RBBANK_BAD_LINE, with the same line and what it
+ * counts characters, from 1; the words may change. Call it after RBBANK_BAD_LINE, with the same line and what it
  * should have been. `config` is the bank's configuration; for RBBANK_CONFIG it isn't read.
  *
  * 0 if memory ran out, or if the line is an entry, which is another site's then, or has the id of an entry before. "no
- * such kind of line" or "no configuration" if `kind` or `config` is none. */
+ * such kind of line" or "no configuration" if `kind` or `config` isn't one. */
 size_t rbbank_error(uint8_t kind, const char *config, size_t config_length, const char *line, size_t length, char *out,
                     size_t capacity);
 
@@ -77,7 +77,7 @@ int32_t rbbank_open(struct rbbank *bank, const char *config, size_t length);
  * can be read by rbbank_reply; 1; 2 (no command): nothing has changed, the reply that was kept before neither; 4. */
 int32_t rbbank_answer(struct rbbank *bank, const char *line, size_t length);
 
-/* Copies the kept reply, which has one line feed, at its end; 0 if there is none. It is kept until rbbank_answer
+/* Copies the kept reply, which has one line feed, at its end; 0 if no reply is kept. It is kept until rbbank_answer
  * returns 0 or 4, or the bank is opened or closed. */
 size_t rbbank_reply(struct rbbank *bank, char *out, size_t capacity);
 
@@ -127,7 +127,7 @@ size_t rbbank_site_entries(struct rbbank_site *site, char *out, size_t capacity)
 int32_t rbbank_site_send(struct rbbank_site *site, size_t index, char *out, size_t capacity, size_t *length,
                          uint8_t *to);
 
-/* Gives a site that was opened again the next line of its journal, behind the first; it may have an id. 0; 1; 2 (no
+/* Gives a site that was opened again the next line of its journal, after the first; it may have an id. 0; 1; 2 (no
  * entry of this site, or the id of an entry before): nothing has changed; 3 (the site gives another reply than the
  * entry has, or its history is full): the handle is closed; 4. The entry may be spelled in any way, but the program
  * takes a journal's line only as it writes it. */
@@ -150,7 +150,7 @@ struct rbbank_journal {
 /* What rbbank_journal_open returns, beside 0, RBBANK_BAD_LINE, RBBANK_REFUSED and RBBANK_NO_MEMORY. The handle is
  * closed, and the file is to stay as it is. */
 enum {
-    RBBANK_ANOTHER_JOURNAL = 5, /* the file is another bank's journal, or none */
+    RBBANK_ANOTHER_JOURNAL = 5, /* the file is another bank's journal, or isn't a journal */
     RBBANK_BAD_ENTRY = 6,       /* the line is no entry of this site */
     RBBANK_WRONG_REPLY = 7,     /* the site gives another reply than the line has, or its history is full */
     RBBANK_DAMAGED = 8,         /* a byte that no crash leaves is where the line, or the gate before it, should begin */
@@ -159,7 +159,7 @@ enum {
 
 /* Opens site `me` (0 to 15) of the bank of a configuration's line over its journal, of whose file these are all bytes:
  * none if it is new. They are all on the disk, and nobody else writes the file until the handle is closed. Calls are
- * left then, and behind them the reply is what the last `resend` entries sent, a line for each that sent any.
+ * left then, and after them the reply is what the last `resend` entries sent, a line for each that sent any.
  * 0, 2, 3 (no such site), 4 or one of those above. With 6, 7 and 8 `*number` is the line's number in the file, from 1;
  * else 0. */
 int32_t rbbank_journal_open(struct rbbank_journal *journal, uint8_t me, size_t resend, const char *config,
@@ -190,7 +190,7 @@ int32_t rbbank_journal_done(struct rbbank_journal *journal, uint8_t made);
 /* Copies the kept answer, as rbbank_site_reply does; none as long as calls are left. */
 size_t rbbank_journal_reply(struct rbbank_journal *journal, char *out, size_t capacity);
 
-/* Copies a message of the kept answer, as rbbank_site_send does; there is none as long as calls are left. */
+/* Copies a message of the kept answer, as rbbank_site_send does; there is no message as long as calls are left. */
 int32_t rbbank_journal_send(struct rbbank_journal *journal, size_t index, char *out, size_t capacity, size_t *length,
                             uint8_t *to);
 
@@ -234,11 +234,11 @@ enum {
 };
 
 /* The sealed journals of all sites in, the next bank's configuration out: `rbbank close`. A journal is sealed by a TAB
- * behind its last line feed, once its site is ended for good.
+ * after its last line feed, once its site is ended for good.
  *
- * The journals are one behind another in `journals`, in the order of their sites: `count` of them, of `lengths[0]`,
+ * The journals are one after another in `journals`, in the order of their sites: `count` of them, of `lengths[0]`,
  * `lengths[1]`, .. bytes. The next bank has `sites` sites, 2 to 16, or as many as before if it is 0. `names` has the
- * names of the accounts that it has behind the others, each with its line feed (the last one may lack it), such as
+ * names of the accounts that it has after the others, each with its line feed (the last one may lack it), such as
  * "eve\nzed\n"; they start with 0 cents.
  *
  * 0: the line in `out` is the next bank's configuration, with all eight keys. 1: it says why there is none: what an

@@ -105,7 +105,7 @@ static int reserve(struct rbbank_file *file, size_t length) {
     return 0;
 }
 
-/* Makes the calls that are left, one after another, and none behind one that failed. */
+/* Makes the calls that are left, one after another, and none after one that failed. */
 static int32_t make_all(struct rbbank_file *file) {
     for (;;) {
         size_t length;

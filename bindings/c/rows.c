@@ -349,7 +349,7 @@ static void say_fault(int32_t status, uint64_t number, const char *file, char **
     }
 }
 
-/* What was asked of closing the books: the accounts, and the files with what they have. */
+/* How the books are to be closed: the accounts to add, and the files with what they have. */
 struct closing {
     uint8_t sites;
     char **accounts, **files;
@@ -415,7 +415,7 @@ static int closing(int count, char **words) {
     return status;
 }
 
-/* The word behind an option. */
+/* The word after an option. */
 static const char *word(int count, char **words, const char *option, const char *otherwise) {
     for (int i = 1; i + 1 < count; i++)
         if (strcmp(words[i], option) == 0)

@@ -39,7 +39,7 @@ static size_t journal_reply(void *journal, char *out, size_t capacity) {
 }
 
 /* Whether what is kept is this text, by buffers of each size up to its length and one more: each gets as much as fits,
- * and no byte behind that changes. */
+ * and no byte after that changes. */
 static int keeps(copying *call, void *handle, const char *text) {
     size_t length = strlen(text);
     for (size_t size = 0; size <= length + 1; size++) {
@@ -432,7 +432,7 @@ static void whole_runs(void) {
     WANTED(runs(rbbank_migrate, lines, 0, 2, wanted));
 }
 
-/* The texts one behind another, and their lengths, each in memory of just that size. */
+/* The texts one after another, and their lengths, each in memory of just that size. */
 struct journals {
     char *bytes;
     size_t length, *lengths, count;

@@ -118,7 +118,7 @@ def answered(at, number, line, journal):
 
 
 def asked_of(words):
-    """What is asked of a site."""
+    """What the words say of a site."""
     asked = argparse.ArgumentParser()
     asked.add_argument("--me", type=int)
     asked.add_argument("--journal")

@@ -349,7 +349,7 @@ class Site(_Sending):
     Its journal is the caller's: the entries after the opening, and then those after each answer, which are written
     where they last before anyone sees the answer. To go on after a crash, open the site again, see that the journal
     begins with its entries (else it is another bank's, and might be replayed all the same), and give it each line of
-    the journal behind the first by `replay`.
+    the journal after the first by `replay`.
 
     A request or a batch may have a further key `"id"`, 1 to 64 characters of `A-Z a-z 0-9 . _ : -`. Once it is made,
     the same line is answered by `{"again":true,"id":..}` with the same reply and messages, and another request of the
@@ -497,8 +497,8 @@ class Journal(_Sending):
         name, or a disk that isn't mounted, is never a new site, which would make other operations under names that are
         taken. The reply is then what the last `resend` entries sent, a line for each that sent any.
 
-        Raises BadLine if the configuration's line is none; NoSuchSite; JournalFault; BlockingIOError if another process
-        has the journal, or this one; OSError if the file fails; MemoryError.
+        Raises BadLine if the configuration's line isn't one; NoSuchSite; JournalFault; BlockingIOError if another
+        process has the journal, or this one; OSError if the file fails; MemoryError.
         """
         if not 0 <= me <= 255:
             raise NoSuchSite
@@ -523,7 +523,7 @@ class Journal(_Sending):
         self._make_calls()
 
     def _make_calls(self) -> None:
-        """Makes the calls that are left, one after another, and none behind one that failed."""
+        """Makes the calls that are left, one after another, and none after one that failed."""
         length, at, kind = ctypes.c_size_t(), ctypes.c_uint64(), 0
         call, done = _call("rbbank_journal_call"), _call("rbbank_journal_done")
 
@@ -637,7 +637,7 @@ def _name(account: str) -> bytes:
 def close(journals: typing.Iterable[bytes], sites: int | None = None, accounts: typing.Iterable[str] = ()) -> Books:
     """Closes a bank's books by the sealed journals of all its sites, in the order of their numbers.
 
-    The next bank has `sites` sites, 2 to 16, or as many as before, and these accounts behind the others.
+    The next bank has `sites` sites, 2 to 16, or as many as before, and these accounts after the others.
 
     >>> configuration, journals = '{"accounts":[["ann",0]],"sites":2,"version":1}', []
     >>> for me in range(2):
@@ -650,7 +650,7 @@ def close(journals: typing.Iterable[bytes], sites: int | None = None, accounts: 
     rbbank.CloseFault: 1 journals for 2 sites
 
     Raises CloseFault for the first thing that is wrong with the number of sites, with the names, or with a journal and
-    then those behind it; MemoryError.
+    then those after it; MemoryError.
     """
     if isinstance(accounts, (str, bytes)):
         raise TypeError("accounts: a list of names")

@@ -37,7 +37,7 @@ fn lines_of(input: &str) -> impl Iterator<Item = (usize, &str)> {
     numbered.filter(|(_, line)| !line.trim_matches([' ', '\t', '\r']).is_empty())
 }
 
-/// What a whole run wrote, or its fault behind what it wrote before.
+/// What a whole run wrote, or its fault after what it wrote before.
 fn whole(run: Result<String, RunError>) -> Result<(), Stop> {
     match run {
         Ok(text) => write(&text),
@@ -127,7 +127,7 @@ fn replay(site: &mut Site, journal: &[u8], resend: Option<usize>) -> Result<Stri
     Ok(if is_new { config } else { before.to_owned() })
 }
 
-/// What is asked of a site.
+/// What the words say of a site.
 struct Asked<'a> {
     me: u8,
     path: &'a str,

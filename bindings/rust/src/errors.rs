@@ -50,7 +50,7 @@ pub enum JournalError {
     BadConfiguration(LineFault),
     /// The configuration has no site of the number.
     NoSuchSite,
-    /// The file is another bank's journal, or none.
+    /// The file is another bank's journal, or isn't a journal.
     AnotherJournal,
     /// A line is no entry of this site.
     BadEntry {
@@ -255,7 +255,7 @@ impl CloseError {
     }
 }
 
-/// A fault, and behind it why, if that is known.
+/// A fault, and after it why, if that is known.
 fn write(f: &mut fmt::Formatter<'_>, fault: &str, why: &LineFault) -> fmt::Result {
     f.write_str(fault)?;
     if why.why.is_empty() {

@@ -168,7 +168,7 @@ impl Bank {
         Ok(self.reply())
     }
 
-    /// The same, as a text of one's own.
+    /// Answers a command's line as [`answer`](Bank::answer) does, and gives a text of the caller's own.
     ///
     /// # Errors
     ///
@@ -194,7 +194,7 @@ impl Drop for Bank {
 /// then those after each answer, which are written where they last before anyone sees the answer. Dropping it ends it.
 ///
 /// To go on after a crash, open the site again and see that the journal begins with its entries: else it is another
-/// bank's, and might be replayed all the same. Then give it each line of the journal behind the first.
+/// bank's, and might be replayed all the same. Then give it each line of the journal after the first.
 ///
 /// ```
 /// use rbbank::Site;
@@ -295,7 +295,7 @@ impl Site {
         Ok(self.reply())
     }
 
-    /// The same, as a text of one's own.
+    /// Answers an event's line as [`answer`](Site::answer) does, and gives a text of the caller's own.
     ///
     /// # Errors
     ///
@@ -333,7 +333,7 @@ impl Site {
         copy(&mut self.handle, c::rbbank_site_entries, &mut self.text)
     }
 
-    /// Takes the next line of the site's journal, behind the first and in any spelling, and gives the line
+    /// Takes the next line of the site's journal, after the first and in any spelling, and gives the line
     /// `{"sends":[..]}` of what the entry sent, or nothing if it sent nothing.
     ///
     /// # Errors

@@ -192,7 +192,7 @@ impl Journal {
         Ok(messages)
     }
 
-    /// Makes the calls that are left, one after another, and none behind one that failed.
+    /// Makes the calls that are left, one after another, and none after one that failed.
     fn make_calls(&mut self) -> Result<(), JournalError> {
         loop {
             let (mut length, mut at) = (0, 0);

@@ -119,7 +119,7 @@ fn lines_of(names: &[&str]) -> String {
 }
 
 /// Closes a bank's books by the sealed journals of all its sites, in the order of their numbers. The next bank has
-/// `sites` sites, 2 to 16, or as many as before, and these accounts behind the others.
+/// `sites` sites, 2 to 16, or as many as before, and these accounts after the others.
 ///
 /// ```
 /// use rbbank::{close, Books, CloseError, Site};
@@ -140,7 +140,7 @@ fn lines_of(names: &[&str]) -> String {
 /// # Errors
 ///
 /// Any of [`CloseError`]: the first thing that is wrong with the number of sites, with the names, or with a journal and
-/// then those behind it.
+/// then those after it.
 pub fn close(
     journals: &[&[u8]],
     sites: Option<u8>,

@@ -61,7 +61,7 @@ impl fmt::Display for LineFault {
 impl Error for LineFault {}
 
 /// Why a line isn't taken under a configuration, which isn't read if the line should have been one. `BadLine` and
-/// `BadConfiguration` of a bank or a site have it; it is asked of a line of a script or of a history.
+/// `BadConfiguration` of a bank or a site have it already; this is for a line of a script or of a history.
 ///
 /// ```
 /// use rbbank::{fault_of, LineKind};

@@ -37,7 +37,7 @@ pub fn audit(
     }
 }
 
-/// An order for the histories of which that is kept, or why there is none.
+/// An order for the histories of these notes, or why there isn't one.
 pub fn find(
     alloc: Global,
     config: &Config,

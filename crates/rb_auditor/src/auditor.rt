@@ -17,8 +17,8 @@ use rb_site::{Entry, ErasedEntry, Site};
 use std::alloc::{AllocError, Global};
 use std::marker::Model;
 
-/// Histories that are read entry by entry, those of the sites in any order. Clients see the configuration and each
-/// site's entries. It can't be dropped: it finishes or is closed.
+/// Audits histories that are read entry by entry, those of the sites in any order. Clients see the configuration and
+/// each site's entries. It can't be dropped: it finishes or is closed.
 pub struct Auditor {
     alloc: Global,
     config: Config,
@@ -94,7 +94,7 @@ impl Auditor {
         }
     }
 
-    /// The same, with the sites after their histories. They are closed by `close_all`.
+    /// Finds what `finish` does, and gives the sites too, after their histories. They are closed by `close_all`.
     pub fn finish_with_sites(self) -> Result<(Certificate, Vec<Site<ErasedEntry>>), AuditFault>
         ensures certified { IfOk result (λ found. Certifies self.settings self.histories found.0) }
         ensures sites { IfOk result (λ found. found.1.items ≡ ended_sites self.settings 0 self.histories) }

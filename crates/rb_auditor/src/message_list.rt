@@ -19,7 +19,7 @@ use rb_site::Message;
 use std::alloc::{AllocError, Global};
 use std::marker::Model;
 
-/// Messages in their order. Clients see the messages, and for how many there is memory.
+/// Keeps messages in their order, in little memory. Clients see the messages, and for how many there is memory.
 #[derive(Drop)]
 pub struct MessageList {
     compact: OperationList,

@@ -12,7 +12,7 @@ use std::snapshot::Snapshot;
 /// and of which only what is used takes memory.
 const FIRST_STEPS: usize = 16_500;
 
-/// The entries of a site's history, of which no memory is kept but what each that the site records does with messages.
+/// What is kept of a site's history to find an order: of each entry that the site records, what it does with messages.
 #[derive(Drop)]
 pub struct Notes {
     pub entries: Vec<Snapshot<Entry>>,
@@ -21,7 +21,7 @@ pub struct Notes {
 }
 
 impl Notes {
-    /// Those of no entry. `Err` means out of memory.
+    /// The notes of no entry. `Err` means out of memory.
     pub fn new(alloc: Global) -> Result<Notes, AllocError>
         ensures entries { IfOk result (λ notes. notes.entries.items ≡ []) }
         ensures steps { IfOk result (λ notes. notes.steps.items ≡ []) }
@@ -66,7 +66,7 @@ impl Notes {
     }
 }
 
-/// Those of no entry, for as many sites. `Err` means out of memory.
+/// The notes of no entry, for each of this number of sites. `Err` means out of memory.
 pub fn no_notes(alloc: Global, sites: u8) -> Result<Vec<Notes>, AllocError>
     ensures { IfOk result (λ notes. (length notes.items ≡ sites) × HaveNoEntries notes.items) }
 {

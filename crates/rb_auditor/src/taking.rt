@@ -14,8 +14,8 @@ use rb_money::Config;
 use std::alloc::{AllocError, Global};
 use std::marker::Model;
 
-/// Histories that their sites record, and the order in which entries of them were taken so far, each
-/// receipt after its message was sent.
+/// The search for an order: histories that their sites record, and the order in which entries of them were taken
+/// so far, each receipt after its message was sent.
 #[derive(Drop)]
 pub struct Taking<'a> {
     config: &'a Config,

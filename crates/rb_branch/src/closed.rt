@@ -23,8 +23,8 @@ use std::sync::ledger::{Ledger, Share};
 use std::thread;
 use std::thread::Threads;
 
-/// The reports of a branch's sites, once they are closed, and its books. Clients see the reports, one for each
-/// site, and how many seats were given.
+/// A closed branch, to which seats are given back: the reports of its sites, and its books. Clients see the reports,
+/// one for each site, and how many seats were given.
 #[derive(Drop)]
 pub struct Closed<E: Entries, R: Ledger> {
     alloc: Global,
@@ -99,7 +99,7 @@ impl<E: Entries, R: Ledger> Closed<E, R> {
         Ok(reports)
     }
 
-    /// The same, with each site looked at in a thread of its own.
+    /// Settles as `settle` does, with each site looked at in a thread of its own.
     pub fn settle_by<W: Threads + Sync>(
         self,
         rt: &W,

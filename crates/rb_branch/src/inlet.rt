@@ -55,7 +55,7 @@ impl Inlet {
         self.kept.as_slice()
     }
 
-    /// Takes the next message from the link, once there is one, and keeps it behind the others. `false` once
+    /// Takes the next message from the link, once there is one, and keeps it after the others. `false` once
     /// the link is closed. After an `Err`, out of memory, nothing was taken.
     pub(crate) fn take<W: Wait>(&mut self, rt: &W) -> Result<bool, AllocError>
         ensures ok { IfOk result
@@ -70,7 +70,7 @@ impl Inlet {
         Ok(true)
     }
 
-    /// Takes the next message that has come by the link, without waiting, and keeps it behind the others. `false` if
+    /// Takes the next message that has come by the link, without waiting, and keeps it after the others. `false` if
     /// none has come. After an `Err`, out of memory, nothing was taken.
     pub(crate) fn take_come<W: Wait>(&mut self, rt: &W) -> Result<bool, AllocError>
         ensures ok { IfOk result

@@ -5,7 +5,7 @@ ghost use Rattle.rb_branch.specs.Owners.{is_next, is_read};
 use crate::Receipt;
 use std::marker::Model;
 
-/// The site's number and the receipts of a seat that was given back.
+/// A seat that was given back: its site's number and its receipts.
 #[derive(Drop)]
 pub struct ReturnedSeat {
     site: u8,

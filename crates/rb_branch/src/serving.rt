@@ -35,10 +35,10 @@ impl<E: Entries, R: Ledger, G: Gate + Drop> Branch<E, R, G> {
         self.serve_from(rt, seat, &mut inlet)
     }
 
-    /// The same, with an inlet that stays with the caller. A message that the site refuses as its inbox is full is kept
-    /// in the inlet, and all that is kept is received again after each application. After an `Err` the seat has the
-    /// receipts of the events before, the inlet keeps what was taken and not received, and `serve_from` may be
-    /// called again. After Ok the call's own receipts have the refusal of each message that is kept.
+    /// Serves as `serve` does, but the inlet stays with the caller. A message that the site refuses as its inbox is
+    /// full is kept in the inlet, and all that is kept is received again after each application. After an `Err` the
+    /// seat has the receipts of the events before, the inlet keeps what was taken and not received, and `serve_from`
+    /// may be called again. After Ok the call's own receipts have the refusal of each message that is kept.
     pub fn serve_from<W: Wait>(
         &self,
         rt: &W,

@@ -16,7 +16,7 @@ use rb_world::LeanWorld;
 use std::alloc::Global;
 use std::marker::Model;
 
-/// The sites of a bank with their messages, and the line of the last answer.
+/// What a `BankHandle` keeps: the sites of a bank with their messages, and the line of the last answer.
 pub struct Bank {
     world: LeanWorld,
     answer: Vec<u8>,

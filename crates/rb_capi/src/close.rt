@@ -19,7 +19,7 @@ fn may_be_asked(sites: u8) -> bool
     sites == 0 || (2 <= sites && usize::from(sites) <= MOST_SITES)
 }
 
-/// The number of sites, if one is asked for.
+/// The number of sites that the next bank is to have, or `None` for as many as before.
 fn sites_asked(sites: u8) -> Option<u8>
     ensures { result ≡ sites_asked sites }
 {
@@ -41,7 +41,7 @@ fn closed_in_memory(ran: Result<bool, CloseFault>, text: &mut Vec<u8>) -> Result
     }
 }
 
-/// Closes the books by journals one behind another, and writes the line.
+/// Closes the books by journals that follow one another in memory, and writes the line.
 fn close(
     alloc: Global,
     sites: u8,
@@ -73,9 +73,9 @@ fn close(
     }
 }
 
-/// Closes a bank's books: audits its sealed journals, one behind another and of these lengths, in the order of their
+/// Closes a bank's books: audits its sealed journals, one after another and of these lengths, in the order of their
 /// sites, and writes one line. `sites` is how many sites the next bank has, 2 to 16, or 0 for as many as before;
-/// `names` are those of the accounts that it has behind the others, a line each.
+/// `names` are those of the accounts that it has after the others, a line each.
 ///
 /// The result is 0 if the line is the next bank's configuration, and 1 if it says why the books can't be closed, and
 /// then `number` is 1. Else nothing was written:

@@ -1,5 +1,5 @@
 //! How a run in memory ends, and what C finds then. The run's text is kept until the end and then copied, since no
-//! contract of a run says that what is behind its text stays as it was.
+//! contract of a run says that what comes after its text stays as it was.
 ghost use Rattle.std.specs.Prelude.{◌≡◌};
 ghost use Rattle.rb_capi.specs.Endings.{IsEndAtFault, IsEndingOf, IsHandedOver};
 ghost use Rattle.rb_capi.specs.Endings.{number_of_line, result_in_memory, text_in_memory};

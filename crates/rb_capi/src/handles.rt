@@ -107,7 +107,7 @@ impl Drop for BankHandle {
     }
 }
 
-/// The same of a site, C's `struct rbbank_site`.
+/// The handle of a site, C's `struct rbbank_site`, as `BankHandle` is that of a bank.
 #[repr(C)]
 pub struct SiteHandle {
     at: *mut u8,
@@ -151,7 +151,7 @@ impl Drop for SiteHandle {
     }
 }
 
-/// The same of a site with its journal, C's `struct rbbank_journal`.
+/// The handle of a site with its journal, C's `struct rbbank_journal`, as `BankHandle` is that of a bank.
 #[repr(C)]
 pub struct JournalHandle {
     at: *mut u8,

@@ -64,7 +64,7 @@ fn parts(call: &Call) -> (u8, u64, &[u8])
     }
 }
 
-/// Hands over the call that is to be made next: its kind, or 0 if there is none.
+/// Hands over the call that is to be made next: its kind, or 0 if no call is left.
 fn hand_call(kept: &KeptJournal, out: &mut [u8], length: &mut usize, at: &mut u64) -> i32
     ensures { HandsCall kept.now.left out.old out.new length.new at.new result }
 {
@@ -122,7 +122,7 @@ fn answer_boxed(
 
 /// Opens the site `me` (0 to 15) of the configuration on a line, with the history in its journal's file, whose bytes
 /// these are: all that were read, all of them on the disk. A file that isn't there yet has none. A site that was kept
-/// there before is ended. Calls on the file are left then, which repair its end; the reply behind them is what the last
+/// there before is ended. Calls on the file are left then, which repair its end; the reply after them is what the last
 /// `resend` entries sent, to be sent again.
 ///
 /// Statuses: 0; 2 if the line is no configuration; 3 if it has no such site; 4 for want of memory; 5 if the file is
@@ -161,7 +161,7 @@ pub extern "C" fn rbbank_journal_open(
 
 /// Answers a line as `rbbank site` does, and keeps the answer: `number` is the line's, which the answer to a line that
 /// is no event has. Calls on the file are left then, if the site recorded anything, and the reply can be read only
-/// behind them.
+/// after them.
 ///
 /// Statuses: 0; 1 if there is no site; 3 if calls of an answer before are left, and then nothing has changed; 4 for
 /// want of memory, or if the file would have 2^60 bytes, which ends the site.

@@ -16,7 +16,7 @@ use std::alloc::Global;
 /// it has, and `to` the site that it is for, or 255 for each other site. The messages of an answer of several lines, as
 /// that to a `resend`, are counted through all lines.
 ///
-/// As long as calls are left there is none.
+/// As long as calls are left, there is no message.
 ///
 /// Statuses: 0; 1 if there is no site; 3 if the answer has no such message; 4 for want of memory. The site stays as it
 /// was. After 1, 3 and 4 `out` does too, and `length` is 0.

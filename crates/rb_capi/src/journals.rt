@@ -1,4 +1,4 @@
-//! Journals in memory, one behind another.
+//! Journals in memory, one after another.
 //!
 //! An export takes no slice of slices, so the journals are one slice of bytes, and their lengths another. That the two
 //! fit is checked before a journal is read.
@@ -22,7 +22,7 @@ pub fn are_lengths_of(lengths: &[usize], bytes: usize) -> bool
     left == 0
 }
 
-/// Journals one behind another, of these lengths, which are read in their order.
+/// Journals in memory, one after another, of these lengths. They are read in their order.
 #[derive(Drop)]
 pub struct JournalsInMemory<'a> {
     alloc: Global,

@@ -11,7 +11,7 @@ use rb_run_site::{AllEvents, Opened, SiteFault, SiteResponder, open_on_line};
 use std::alloc::Global;
 use std::marker::Model;
 
-/// A site with its journal, and the text of its last answer.
+/// What a `JournalHandle` keeps: a site with its journal, and the text of its last answer.
 pub struct KeptJournal {
     responder: SiteResponder<AllEvents>,
     journal: Journal<Planned>,
@@ -133,7 +133,7 @@ impl KeptJournal {
         self.journal.host.next()
     }
 
-    /// Notes that the next call was made, and succeeded; `false` if there is none, and nothing has changed.
+    /// Notes that the next call was made, and succeeded; `false` if no call is left, and nothing has changed.
     pub fn made(&mut self) -> bool
         ensures made { IsTrue result → HasMade self.old self.new }
         ensures none { IsFalse result → (self.old.left ≡ []) × IsAsBefore self.old self.new }

@@ -15,7 +15,7 @@ use std::alloc::Global;
 use std::marker::Model;
 use std::mem::swap;
 
-/// A site with the text of its last answer and the lines for its journal.
+/// What a `SiteHandle` keeps: a site with the text of its last answer and the lines for its journal.
 pub struct KeptSite {
     node: Node<AllEvents>,
     pub(crate) answer: Vec<u8>,
@@ -79,7 +79,7 @@ impl KeptSite {
     /// event is recorded, but for one whose id is known, and for one that changes nothing and whose entry's line would
     /// be longer than a line may be.
     ///
-    /// Errors: `Bad` if the line is none, and nothing has changed then; `OutOfMemory`.
+    /// Errors: `Bad` if the line is neither, and nothing has changed then; `OutOfMemory`.
     pub fn answer_line(&mut self, line: &[u8]) -> Result<(), LineFault>
         ensures answered { OnOk result (AnswersSiteLine self.old self.new line.now) }
         ensures bad { result ≡ Err LineFault.Bad

@@ -1,5 +1,5 @@
 //! The core for C: a static library. A bank, all sites of a configuration or one of them, lies behind a handle that C
-//! keeps, and is asked and answers by lines; whole scripts, audits, migrations and closings go from bytes to bytes.
+//! keeps, and answers lines by lines; whole scripts, audits, migrations and closings go from bytes to bytes.
 //! Tests: bindings/check.py, by C, Rust and Python (`make bindings`).
 #![tactic(auto)]
 

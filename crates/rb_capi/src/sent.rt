@@ -25,7 +25,7 @@ pub struct Sent {
 enum OnLine {
     /// It is this one.
     Found(Sent),
-    /// It is behind the messages of the line, of which this is the number.
+    /// It isn't among the messages of the line, of which this is the number.
     Behind(usize),
 }
 

@@ -92,7 +92,7 @@ pub extern "C" fn rbbank_site_answer(alloc: Global, site: &mut SiteHandle, line:
     }
 }
 
-/// Replays the line of the site's next entry, as a restart does with each line of the journal behind the first. The
+/// Replays the line of the site's next entry, as a restart does with each line of the journal after the first. The
 /// kept answer is then the line `{"sends":[..]}` of what the entry sent, with its line feed, to be sent again, or empty
 /// if it sent nothing; and there are no kept entries. The line of a request or a batch that was made may have its id,
 /// which is known then; a second entry of one id is a bad line.
@@ -146,8 +146,8 @@ pub extern "C" fn rbbank_site_reply(alloc: Global, site: &mut SiteHandle, out: &
     n
 }
 
-/// The same of the kept entries: the lines for the site's journal of the last answer, each with its line feed; after an
-/// open the line of the configuration.
+/// Copies the kept entries as `rbbank_site_reply` copies the answer: the lines for the site's journal of the last
+/// answer, each with its line feed; after an open the line of the configuration.
 #[unsafe(no_mangle)]
 pub extern "C" fn rbbank_site_entries(alloc: Global, site: &mut SiteHandle, out: &mut [u8]) -> usize
     ensures copied { Copies (kept_entries site.old.value) out.old out.new result }

@@ -64,7 +64,7 @@ pub fn next_sites<'a>(alloc: Global) -> Arg<'a>
     with_numbers(next, 2, MOST_SITES as u32)
 }
 
-/// An account that the next bank has behind the others, given for each.
+/// An account that the next bank has after the others, given for each.
 pub fn account<'a>(alloc: Global) -> Arg<'a>
     ensures rule { rule_of result ≡ repeated_rule (codes "account") }
     ensures local { result.global ≡ false }

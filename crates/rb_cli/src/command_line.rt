@@ -88,7 +88,7 @@ pub fn site<'a>(alloc: Global) -> Result<Command<'a>, AllocError>
     .args(options)
 }
 
-/// The command that closes the books, with its options and the files behind them.
+/// The command that closes the books, with its options and the files after them.
 fn close<'a>(alloc: Global) -> Result<Command<'a>, AllocError>
     ensures shape { IfOk result (λ command. app_of command ≡ close_line) }
     ensures local { IfOk result (λ command. (out-Command command).has_globals ≡ false) }

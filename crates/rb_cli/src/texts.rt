@@ -103,7 +103,7 @@ pub const NEXT_SITES: &str =
 pub const ACCOUNT: &str =
     "An account to add behind the others, which starts with 0; given again for each";
 
-/// The words behind the options of `close`.
+/// The words after the options of `close`.
 pub const JOURNALS: &str = "The sealed journals of all sites, in the order of their numbers";
 
 /// An example of each command.

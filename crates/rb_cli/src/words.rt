@@ -57,7 +57,7 @@ pub enum Words<'a> {
         journal: &'a str,
     },
     /// To close the books by the histories in these files, one or more, for a next bank of 2 to `MOST_SITES` sites, or
-    /// of as many as before, with these accounts behind the others.
+    /// of as many as before, with these accounts after the others.
     Close {
         sites: Option<u8>,
         accounts: Vec<&'a str>,
@@ -102,7 +102,7 @@ fn recorded(given: &ArgMatches) -> Record
     }
 }
 
-/// The values of an option that may be given again, or of the words behind the options, in order.
+/// The values of an option that may be given again, or of the words after the options, in order.
 fn texts<'a>(alloc: Global, given: &ArgMatches<'a>, name: &str) -> Result<Vec<&'a str>, AllocError>
     ensures { IfOk result
         (λ texts. map (λ text. text.now) texts.items ≡ texts_at name.now (rows_of (found_of given.now))) }
@@ -125,7 +125,7 @@ fn of_input<'a>(task: Task) -> Words<'a>
     }
 }
 
-/// To do this with the lines of the files behind the command, or of standard input if there are none.
+/// To do this with the lines of the files after the command, or of standard input if no file is given.
 fn over_lines<'a>(
     alloc: Global,
     given: &ArgMatches<'a>,
@@ -184,7 +184,7 @@ fn site<'a>(given: &ArgMatches<'a>) -> Option<Words<'a>>
     })
 }
 
-/// The books to close that the options and the words behind them ask for.
+/// The books to close that the options and the words after them ask for.
 fn close<'a>(alloc: Global, given: &ArgMatches<'a>) -> Result<Option<Words<'a>>, AllocError>
     requires { AreFit (codes "close") (rows_of (found_of given.now)) }
     ensures { IfOk result

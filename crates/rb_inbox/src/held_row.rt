@@ -9,7 +9,7 @@ use rb_shadow::Shadow;
 use std::alloc::{AllocError, Global};
 use std::marker::Model;
 
-/// Shadows in a row, behind free slots.
+/// A row of held shadows after free slots, so that one is put in or taken out at either end without moving the others.
 #[derive(Drop)]
 pub struct HeldRow {
     slots: Vec<Shadow>,
@@ -28,7 +28,7 @@ impl Model for HeldRow {
 }
 
 impl HeldRow {
-    /// A row of none.
+    /// A row without shadows.
     pub fn open(alloc: Global) -> HeldRow
         ensures { result ≡ [] }
     {
@@ -70,7 +70,7 @@ impl HeldRow {
         Ok(())
     }
 
-    /// Puts a shadow in before all others, which are copied to slots behind them: where they were, the slots are free.
+    /// Puts a shadow in before all others, which are copied to slots at the end. The old ones but one are free then.
     fn insert_first(&mut self, shadow: &Shadow) -> Result<(), AllocError>
         requires { 0 < length self.old }
         ensures ok { OnOk result (self.new ≡ insert self.old 0 shadow.now) }

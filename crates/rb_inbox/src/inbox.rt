@@ -80,7 +80,7 @@ impl Inbox {
         self.put_copy(&shadow, clock)
     }
 
-    /// The same as `put`, for a shadow that stays where it is.
+    /// Holds a shadow as `put` does, but by a copy: the shadow stays with its caller.
     #[inline(always)]
     pub fn put_copy(&mut self, shadow: &Shadow, clock: &Clock) -> Result<PutAnswer, Refusal>
         requires { IsNumbered shadow.now }
@@ -221,7 +221,7 @@ impl Inbox {
 
     /// Takes out the shadow that is held under the name and is ready at the clock.
     ///
-    /// Errors: `NotHeld` if there is none of the name; `NotReady` if there is, but it isn't ready.
+    /// Errors: `NotHeld` if no shadow of the name is held; `NotReady` if one is, but it isn't ready.
     /// Each leaves the inbox as it was.
     #[tactic(auto, unfolding(rb_shadow::specs::Operations::past))]
     pub fn take(&mut self, name: OpName, clock: &Clock) -> Result<Shadow, Refusal>
@@ -320,7 +320,7 @@ fn add_rows(rows: &mut Vec<HeldRow>, index: usize, alloc: Global) -> Result<(), 
     Ok(())
 }
 
-/// The index behind that of the row of a site's blue shadows.
+/// The index after that of the row of a site's blue shadows.
 fn row_after(site: u8) -> usize
     ensures { result ≡ site + 2 }
 {
@@ -328,7 +328,7 @@ fn row_after(site: u8) -> usize
 }
 
 /// The shadow of the row that is applied first of those that are ready, if there is one. It is looked for up to the
-/// number after the clock's entry: none behind that is ready. In the red row a later one may be of an earlier home.
+/// number after the clock's entry: none after that is ready. In the red row a later one may be of an earlier home.
 fn first_ready<'a>(row: &'a [Shadow], clock: &Clock) -> Option<&'a Shadow>
     requires { (r : ℕ) × IsHeldRow r row.now }
     ensures some { IfSome (option_copied result) (IsFirstOf row.now clock.now) }

@@ -1,13 +1,13 @@
 //! Lists.
 //!
-//! A `List` is a `Vec` whose capacity no contract sees, so two of the same items are the same value.
+//! A `List` is a `Vec` whose capacity no contract sees, so two lists with the same items are the same value.
 ghost use Rattle.std.specs.Prelude.{◌≡◌, ◌↔◌, IfOk, IsTrue};
 
 use crate::Exact;
 use std::alloc::{AllocError, Global};
 use std::marker::Model;
 
-/// Items in order. Clients see the items.
+/// A list that is its items, in order, whatever its capacity. Clients see the items.
 #[derive(Debug, Drop)]
 pub struct List<T> {
     items: Vec<T>,
@@ -46,7 +46,7 @@ impl<T> List<T> {
 }
 
 impl<T: Exact> List<T> {
-    /// The same once more. `Err` means out of memory.
+    /// An equal list. `Err` means out of memory.
     pub fn try_copy(&self, alloc: Global) -> Result<List<T>, AllocError>
         ensures { IfOk result (λ copy. copy ≡ self.now) }
     {

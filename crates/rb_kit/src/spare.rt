@@ -3,7 +3,7 @@ ghost use Rattle.std.specs.Prelude.{◌≡◌, ◌+◌, ◌≤◌, IsOk, OnErr, 
 
 use std::alloc::AllocError;
 
-/// Takes memory for one element more, if there is none: it is `Vec::reserve` of one, which is called only then.
+/// Takes memory for one element more if there is no spare capacity, by `Vec::reserve`, which is called only then.
 /// `Err` means out of memory.
 #[inline(always)]
 pub fn reserve_one<T>(list: &mut Vec<T>) -> Result<(), AllocError>

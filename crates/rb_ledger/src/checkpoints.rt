@@ -25,9 +25,9 @@ use std::alloc::{AllocError, Global};
 /// accounts there are, and an account has on average this number of operations from one checkpoint to the next.
 pub const OPERATIONS_PER_ENTRY: u32 = 4;
 
-/// Checkpoints of a list of operations: a row after each stride, which is `OPERATIONS_PER_ENTRY` operations for each
-/// account. A search back along an account begins at the next one. They belong to the whole list, even if the index
-/// is as of a position before its end.
+/// Checkpoints, at which a search back along an account begins: a row after each stride of a list of operations, which
+/// is `OPERATIONS_PER_ENTRY` operations for each account. A search begins at the next one. They belong to the whole
+/// list, even if the index is as of a position before its end.
 #[derive(Drop)]
 pub struct Checkpoints {
     /// The rows, one after another: for each account the position of the last operation on it, or 0.
@@ -39,7 +39,7 @@ pub struct Checkpoints {
 }
 
 impl Checkpoints {
-    /// Those of no operations on this number of accounts, without memory for any.
+    /// The checkpoints of no operations on this number of accounts, without memory for any.
     pub fn new(alloc: Global, accounts: u32) -> Checkpoints
         requires { accounts ≤ MOST_ACCOUNTS }
         ensures lasts { result.lasts.items ≡ [] }

@@ -20,9 +20,9 @@ use rb_shadow::{Deps, OpName, Shadow};
 use std::alloc::{AllocError, Global};
 use std::marker::Model;
 
-/// The entries that are kept of clocks: of each the red one and those of the first sites. An entry is kept in one byte,
-/// as what it is more than that of a base, which is that of the clock before if all entries fit, and else is kept anew.
-/// So there are at most as many bases as clocks.
+/// The clocks of operations in little memory: of each the red entry and those of the first sites. An entry is kept in
+/// one byte, as what it is more than that of a base, which is that of the clock before if all entries fit, and else is
+/// kept anew. So there are at most as many bases as clocks.
 #[derive(Drop)]
 pub struct ClockList {
     /// The bases, one after another.
@@ -98,7 +98,7 @@ impl ClockList {
         self.at_of(index, self.sites + 1)
     }
 
-    /// The same, of this number of counts.
+    /// The `width` counts that are kept of the clock at an index, from 0.
     #[inline(always)]
     pub fn at_of(&self, index: usize, width: usize) -> KeptClock<'_>
         requires near { index < length self.now.items }
@@ -115,7 +115,7 @@ impl ClockList {
     }
 
     /// The number, from 0, of an operation's clock among those that are kept. It is that of the last one, if the two
-    /// differ in the operation's own entry alone, which is implied; else the clock is kept behind the others, in spare
+    /// differ in the operation's own entry alone, which is implied; else the clock is kept after the others, in spare
     /// capacity.
     #[inline(always)]
     pub fn keep(&mut self, shadow: &Shadow) -> usize
@@ -172,7 +172,7 @@ impl ClockList {
         self.push_of(red, blue, FEW_SITES + 1);
     }
 
-    /// The same of any number of sites.
+    /// Adds a clock of a bank of any number of sites, in spare capacity.
     #[inline(never)]
     fn push_many(&mut self, red: u32, blue: &[u32])
         requires all { length blue.now ≡ MOST_SITES }
@@ -185,7 +185,7 @@ impl ClockList {
         self.push_of(red, blue, self.sites + 1);
     }
 
-    /// The same, of this number of counts.
+    /// Adds a clock, of which `width` counts are kept, in spare capacity.
     #[inline(always)]
     fn push_of(&mut self, red: u32, blue: &[u32], width: usize)
         requires all { length blue.now ≡ MOST_SITES }
@@ -208,7 +208,7 @@ impl ClockList {
         self.push_anew(red, blue);
     }
 
-    /// The same, by a base of its own.
+    /// Adds a clock with a base of its own, in spare capacity.
     #[inline(never)]
     fn push_anew(&mut self, red: u32, blue: &[u32])
         requires all { length blue.now ≡ MOST_SITES }

@@ -18,8 +18,8 @@ use rb_shadow::{Deps, OpName};
 /// Of each clock the entries of this many sites are kept at least, so that those of a small bank are copied at once.
 pub const FEW_SITES: usize = 3;
 
-/// By how much an entry of a base is less than that of the clock that it is made for: clocks that come later may lag
-/// behind.
+/// How much less an entry of a base is than that of the clock that it is made for: later clocks whose entries are less
+/// fit it too.
 pub const LESS: u32 = 64;
 
 /// Whether what is kept is that of a clock, but for the entry of a name.
@@ -35,7 +35,7 @@ pub fn is_same(kept: &KeptClock<'_>, deps: &Deps, name: OpName) -> bool
     is_same_of_few(&kept.few(), deps.red, &deps.blue, name)
 }
 
-/// The same for a small bank.
+/// Whether what is kept is that of a clock of a small bank, but for the entry of a name.
 #[inline(always)]
 fn is_same_of_few(kept: &[u32], red: u32, blue: &[u32], name: OpName) -> bool
     requires all { length blue.now ≡ MOST_SITES }
@@ -58,8 +58,8 @@ fn is_same_of_few(kept: &[u32], red: u32, blue: &[u32], name: OpName) -> bool
     }
 }
 
-/// The same of any number of sites, but for the entry of a row. Each entry is looked at, as several are compared at
-/// once.
+/// Whether what is kept is that of a clock of any number of sites, but for the entry of a row. Each entry is looked
+/// at, as several are compared at once.
 #[inline(never)]
 fn is_same_of_many(kept: &KeptClock<'_>, red: u32, blue: &[u32], own: u32) -> bool
     requires all { length blue.now ≡ MOST_SITES }
@@ -184,7 +184,7 @@ fn kept_clock(kept: &KeptClock<'_>) -> Deps
     }
 }
 
-/// The same of any number of sites.
+/// The clock of what is kept, of any number of sites, with the own entry that is kept.
 #[inline(never)]
 fn clock_of_many(kept: &KeptClock<'_>) -> Deps
     ensures { result ≡ clock_of_counts (length kept.now - 1) kept.now }

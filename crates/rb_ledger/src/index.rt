@@ -102,7 +102,7 @@ impl Index {
         }
     }
 
-    /// Whether an operation cancels the one at a position, counted from 1. The position 0 is none.
+    /// Whether an operation cancels the one at a position, counted from 1. `false` if there is no such position.
     pub fn is_cancelled(&self, position: u32) -> bool
         ensures { result ≡ counted_at position self.now.cancels.items }
     {
@@ -192,8 +192,8 @@ impl Index {
     }
 }
 
-/// The second account of an operation of the kind after those before, of which it cancels the one at the target. The
-/// target 0 is none.
+/// The second account of an operation of the kind after those before: that of the one at the target, which it cancels,
+/// or its own if the target is 0.
 #[inline(always)]
 pub fn other_at(before: &Prefix<'_>, kind: Kind, target: u32) -> Option<Place>
     requires { target ≡ position_of before.now (target_of kind) }
@@ -240,7 +240,7 @@ pub fn start(config: &Config, place: Place) -> u64
     }
 }
 
-/// Counts a cancellation at a position, of the entry at the target. The target 0 is none.
+/// Counts a cancellation at a position, of the entry at the target. Nothing changes if the target is 0.
 fn cancel_one_more(cancels: &mut Vec<Cancels>, target: u32, position: u32)
     requires within { target ≤ length cancels.old.items }
     requires fits { (i : ℕ) → (slice_index_or cancels.old.items i no_cancels).count ≤ MOST_OPERATIONS }
@@ -258,7 +258,7 @@ fn cancel_one_more(cancels: &mut Vec<Cancels>, target: u32, position: u32)
     };
 }
 
-/// Leaves the last cancellation of the entry at the target out again. The target 0 is none.
+/// Leaves the last cancellation of the entry at the target out again. Nothing changes if the target is 0.
 fn cancel_one_less(cancels: &mut Vec<Cancels>, target: u32)
     requires within { target ≤ length cancels.old.items }
     requires some { (i : ℕ) → target ≡ i + 1 → 0 < (slice_index_or cancels.old.items i no_cancels).count }

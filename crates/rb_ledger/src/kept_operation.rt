@@ -6,8 +6,8 @@ ghost use Rattle.rb_ledger.specs.OperationLists.{kept_name};
 use rb_money::Place;
 use rb_shadow::{Colour, Kind, OpName, Shadow};
 
-/// An operation without the entries of its clock. The fields lie in this order, in 32 bytes: of the name there is no
-/// site, as a blue one's is the home.
+/// An operation as a list keeps it, without the entries of its clock. The fields lie in this order, in 32 bytes. The
+/// site of a blue name isn't kept, as it is the home.
 #[derive(Clone, Copy)]
 pub struct KeptOperation {
     pub colour: Colour,

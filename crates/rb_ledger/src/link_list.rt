@@ -31,7 +31,7 @@ pub struct OwnLink {
     pub balance: u64,
     /// The position of the last operation before it on its own account, or 0.
     pub earlier: u32,
-    /// The same of its second account, or 0 if there is none.
+    /// The position of the last operation before it on its second account, or 0.
     pub other_earlier: u32,
     /// The number, from 1, of the balance on its second account, or 0.
     pub second: u32,
@@ -116,7 +116,7 @@ impl LinkList {
         own.other_earlier
     }
 
-    /// Whether the operation at an index, from 0, is cancelled, or `false` if there is none.
+    /// Whether the operation at an index, from 0, is cancelled. `false` past the last.
     #[inline(always)]
     pub fn is_cancelled(&self, index: usize) -> bool
         ensures { result ≡ slice_index_or self.now.cancelled index false }
@@ -127,7 +127,7 @@ impl LinkList {
         self.own[index].cancelled
     }
 
-    /// Sets whether the operation at a position, from 1, is cancelled. The position 0 is none.
+    /// Sets whether the operation at a position, from 1, is cancelled. Nothing changes at position 0.
     #[inline(always)]
     pub fn mark(&mut self, position: u32, cancelled: bool)
         requires { position ≤ length self.old.items }

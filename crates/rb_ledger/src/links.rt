@@ -27,7 +27,7 @@ impl Ledger {
     }
 
     /// The position of the last operation on the account before the one at the position, which is on it.
-    /// It is 0 if there is none.
+    /// It is 0 if there is no such operation.
     #[inline(always)]
     pub fn earlier(&self, position: u32, place: Place) -> u32
         requires on { IsOn self.now.entries place position }

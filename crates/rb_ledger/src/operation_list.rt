@@ -1,7 +1,7 @@
 //! The operations of a ledger, in their order.
 //!
-//! Of a clock the red entry and those of the bank's sites are kept beside the operation's other fields: 48 bytes at up
-//! to three sites, 68 at eight, in place of 104. A balance on a second account is in a list of its own. An operation is
+//! Of a clock the red entry and those of the bank's sites are kept beside the operation's other fields: 40 bytes at up
+//! to three sites, 45 at eight, in place of 104. A balance on a second account is in a list of its own. An operation is
 //! given by value, or lent as an `OperationRef`, since a plan of a cancellation and a statement read two fields of one.
 ghost use Rattle.std.specs.Prelude.{◌≡◌, ◌↔◌, ◌-◌, ◌+◌, ◌<◌, ◌≤◌, ◌++◌, ◌∷◌, [], length, take, drop, OnOk, OnErr, IfOk};
 ghost use Rattle.std.specs.Prelude.{IsTrue, Some, false, slice_get, slice_index_or};
@@ -67,7 +67,7 @@ impl OperationList {
         }
     }
 
-    /// How many there are.
+    /// How many operations there are.
     pub fn len(&self) -> usize
         ensures { result ≡ length self.now.items }
     {
@@ -83,7 +83,7 @@ impl OperationList {
         self.clocks.sites()
     }
 
-    /// Whether there are none.
+    /// Whether the list is empty.
     pub fn is_empty(&self) -> bool
         ensures { IsTrue result ↔ (self.now.items ≡ []) }
     {
@@ -98,7 +98,7 @@ impl OperationList {
         Some(self.at(index)?.shadow())
     }
 
-    /// The same, as it is kept.
+    /// The operation at an index, from 0, as it is kept. `None` past the last.
     #[inline(always)]
     pub fn at(&self, index: usize) -> Option<OperationRef<'_>>
         ensures { result ≡ slice_get self.now.items index }
@@ -148,7 +148,7 @@ impl OperationList {
         Ok(shadows)
     }
 
-    /// All of them, as what another one comes after.
+    /// All operations, as what another one comes after.
     #[inline(always)]
     pub(crate) fn all(&self) -> Prefix<'_>
         ensures { result ≡ self.now.items }
@@ -159,7 +159,7 @@ impl OperationList {
         }
     }
 
-    /// The first of them, as what the next one comes after.
+    /// The first operations, up to this number, as what the next one comes after.
     #[inline(always)]
     pub(crate) fn first(&self, count: usize) -> Prefix<'_>
         requires { count ≤ length self.now.items }

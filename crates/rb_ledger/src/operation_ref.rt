@@ -1,7 +1,7 @@
 //! An operation as a list keeps it.
 //!
-//! It is lent, since a plan of a cancellation and a statement read two fields of one. Its clock is put together only if
-//! the whole operation is asked for.
+//! It is lent, since a plan of a cancellation and a statement read two fields of one. Its clock is put together only
+//! where the whole operation is needed.
 ghost use Rattle.std.specs.Prelude.{◌≡◌};
 
 use crate::clock_list::ClockList;

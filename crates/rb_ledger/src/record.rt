@@ -51,7 +51,7 @@ impl Ledger {
         self.balance_at(link.earlier, place)
     }
 
-    /// The same of the second account, or 0 if there is none.
+    /// The balance of the second account just before its entry at the position, in cents, or 0 if there isn't one.
     fn second_before(&self, position: u32, second: Option<Place>) -> u64
         requires valid { IsValid self.now.settings self.now.entries }
         requires on { IfSome second (λ place. IsOn self.now.entries place position) }

@@ -18,8 +18,8 @@ use crate::source::Source;
 use crate::write::flush;
 use std::alloc::Global;
 
-/// The bytes read and not yet answered, the answers not yet written, the number of reads left, and whether the reader
-/// has come to its end.
+/// What a run keeps between its reader and its writer: the bytes read and not yet answered, the answers not yet
+/// written, the number of reads left, and whether the reader has come to its end.
 #[derive(Drop)]
 pub struct Buffers {
     pub pending: Pending,
@@ -53,8 +53,8 @@ impl Buffers {
         self.pending.skip(if n < len { n + 1 } else { n });
     }
 
-    /// Reads once more, to behind what waits. That each whole line was answered before, and each answer written, are
-    /// premises here, since no clause of `next_line` speaks of the moments between: it says that while a line waits
+    /// Reads once more, after the bytes that wait. That each whole line was answered before, and each answer written,
+    /// are premises here, since no clause of `next_line` speaks of the moments between: it says that while a line waits
     /// nothing is read.
     ///
     /// A read that adds nothing is the end of the input, and only such a read is (`end`, `ended`).

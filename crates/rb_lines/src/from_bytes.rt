@@ -63,7 +63,7 @@ impl Source for FromBytes<'_> {
         ensures failed { self.new.failed ≡ (self.old.failed || is_err result) }
         ensures calls { self.new.calls ≡ min (self.old.calls + 1) (2 ^ 64 - 1) }
 
-        // As much as there is, and a failure behind the last byte alone, at each read there.
+        // As much as there is, and a failure after the last byte alone, at each read there.
         ensures count { IfOk result (λ n. n ≡ min (min self.old.piece (length self.old.rest.now)) (length buf.old)) }
         ensures err { OnErr result ((self.old.rest.now ≡ []) × (self.old.fails ≡ true)) }
         ensures fails { self.old.rest.now ≡ [] → self.old.fails ≡ true → IsErr result }

@@ -14,8 +14,8 @@ use crate::source::{ReadFailed, Source};
 use std::alloc::{AllocError, Global};
 use std::marker::Model;
 
-/// A queue of bytes that is read as one slice, from `start` to `end`; what is behind them is space for reads. It
-/// knows how far it was searched for a line feed, so each byte is looked at once.
+/// A queue of the bytes that wait, which is read as one slice, from `start` to `end`; after them is space for reads.
+/// It knows how far it was searched for a line feed, so each byte is looked at once.
 #[derive(Drop)]
 pub struct Pending {
     bytes: Vec<u8>,
@@ -37,7 +37,7 @@ impl Model for Pending {
         × (p.searched ≤ line_len (slice_range p.bytes.items p.start p.end)) };
 }
 
-/// Makes space for a read behind the first bytes, which stay. An `Err` means out of memory.
+/// Makes space for a read after the first `end` bytes, which stay. An `Err` means out of memory.
 fn make_room(bytes: &mut Vec<u8>, end: usize) -> Result<(), AllocError>
     requires { end ≤ length bytes.old.items }
     ensures front { take end bytes.new.items ≡ take end bytes.old.items }
@@ -50,7 +50,7 @@ fn make_room(bytes: &mut Vec<u8>, end: usize) -> Result<(), AllocError>
     bytes.resize(end + READ_SIZE, 0)
 }
 
-/// Reads once, to behind the first bytes, which stay.
+/// Reads once, into the space after the first `end` bytes, which stay.
 fn read_behind<S: Source>(
     bytes: &mut Vec<u8>,
     end: usize,

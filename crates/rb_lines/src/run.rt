@@ -15,7 +15,7 @@ use crate::write::flush;
 use std::alloc::Global;
 
 /// Answers each line, and says how many were answered. Bytes that are buffered at the end, or at a fault, are still to
-/// be written; after a failed write there are none.
+/// be written; after a failed write none are left.
 fn answer_lines<S: Source, W: Sink, R: Responder>(
     alloc: Global,
     reader: &mut S,

@@ -22,8 +22,8 @@ use std::marker::Model;
 /// The most bytes of an account's name.
 pub const LONGEST_NAME: usize = 32;
 
-/// The accounts in order of the configuration: an account's place is its index. Most short names are in a table
-/// too, which is looked at first.
+/// The accounts of a bank, to be found by place or by name. They are in order of the configuration: an account's place
+/// is its index. Most short names are in a table too, which is looked at first.
 #[derive(Drop)]
 pub struct Accounts {
     by_name: IndexMap<String, u64>,
@@ -115,7 +115,7 @@ impl Accounts {
         }
     }
 
-    /// The same, of any name.
+    /// The place of the account with the name, short or long, by the map. `None` if there is no such account.
     #[inline(never)]
     fn find_any(&self, name: &str) -> Option<Place>
         ensures { result ≡ place_in self.now.names name.now }

@@ -16,8 +16,8 @@ use std::alloc::{AllocError, Global};
 use std::marker::Model;
 use std::sync::Arc;
 
-/// The sites, the accounts with their starting balances, the limits, and the version of the lines. Its copies
-/// share the accounts.
+/// What is fixed for a bank: how many sites it has, its accounts with their starting balances, its limits, and the
+/// version of its lines. Copies share the accounts.
 #[derive(Drop)]
 pub struct Config {
     sites: u8,
@@ -133,7 +133,7 @@ impl Config {
         self.version
     }
 
-    /// The same configuration, but for the version, which is 2.
+    /// This configuration in version 2 of its lines, with nothing else changed.
     pub fn to_version2(self) -> Config
         ensures { result ≡ in_version_2 self }
     {

@@ -35,7 +35,7 @@ pub const MOST_OPERATIONS: u32 = MOST_SITES as u32 * MOST_BLUE + MOST_RED;
 /// The most cents of a balance: what an account starts with, and what each operation adds.
 pub const MOST_BALANCE: u64 = MOST_CENTS + MOST_OPERATIONS as u64 * MOST_CENTS;
 
-/// How many of each thing there may be.
+/// The limits of a bank: how many of each thing there may be.
 #[derive(Clone, Copy, Debug, PartialEq, Eq)]
 pub struct Limits {
     /// Blue operations of each site, 1 to `MOST_BLUE`.

@@ -23,7 +23,7 @@ const SLOTS: usize = 2_048;
 /// Spreads words over a table: an odd number near 2^64 by the golden ratio.
 const SPREAD: u64 = 0x9e37_79b9_7f4a_7c15;
 
-/// Most short names of a bank: the word of each with its place, in the slot that `slot_of` gives.
+/// Finds most short names of a bank: the word of each is kept with its place, in the slot that `slot_of` gives.
 #[derive(Drop)]
 pub(crate) struct ShortNames {
     slots: Vec<(u64, Place)>,
@@ -52,7 +52,7 @@ fn slot_of(word: u64, len: usize) -> usize {
 }
 
 impl ShortNames {
-    /// Those of these accounts, of which none is wrong. `Err` means out of memory.
+    /// The short names of these accounts, of which none is wrong. `Err` means out of memory.
     pub(crate) fn of(alloc: Global, accounts: &[(String, u64)]) -> Result<ShortNames, AllocError>
         requires few { length accounts.now ≤ MOST_ACCOUNTS }
         requires proper { account_fault [] 0 (map account_of accounts.now) ≡ None }
@@ -87,7 +87,7 @@ impl ShortNames {
         }
     }
 
-    /// The place of the name, if it is among these.
+    /// The place of the name, if the table has it.
     #[inline(always)]
     pub(crate) fn find(&self, name: &[u8]) -> Option<Place>
         ensures { IfSome result (λ place. (names : List (List ℕ)) → AreShort names self.now.slots.items →

@@ -27,7 +27,7 @@ fn append_parts(
     append_three(out, why, "}\n", "")
 }
 
-/// The same, but out of memory leaves what was there.
+/// Adds what `append_parts` adds, all of it or nothing: out of memory leaves what was there.
 fn append_whole(
     out: &mut Vec<u8>,
     word: &str,

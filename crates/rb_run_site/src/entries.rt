@@ -26,7 +26,7 @@ fn check_new(bytes: &[u8], first: &[u8]) -> Result<(), SiteFault>
     Ok(())
 }
 
-/// The lines of a file behind the line `first`, which has its line feed; `None` if the file is a new journal: it has
+/// The lines of a file after the line `first`, which has its line feed; `None` if the file is a new journal: it has
 /// no whole line, and is empty, or begins with a closed gate and is no longer than a crash of the first write leaves
 /// it.
 ///

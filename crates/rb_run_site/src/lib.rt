@@ -43,10 +43,10 @@ pub fn restart_goes_on()
     rb_node::asked_once();
 }
 
-/// However often a site ran and crashed, no two entries of its journal have one id: a request that is asked again and
+/// However often a site ran and crashed, no two entries of its journal have one id: a request that is sent again and
 /// again with its id is made at most once. A line whose id an entry has is answered by the entry's reply with its
 /// messages, once more, or, if it is another request, by refusal 25, and nothing is recorded. And but for such lines a
-/// site that is asked with ids answers as one that is asked without them, and has the same entries.
+/// site whose requests have ids answers as one whose requests have none, and has the same entries.
 pub fn asked_again()
     ensures once { AskedOnce }
     ensures same { SameAnswer }

@@ -145,7 +145,7 @@ pub fn open_over<M: Records>(
 
 /// Reads the configuration, and opens site `me` of it, of the bank of the name, with the history in the file.
 ///
-/// The number of the line behind the configuration's comes with it. `why` becomes the reason of a fault that has one,
+/// The number of the line after the configuration's comes with it. `why` becomes the reason of a fault that has one,
 /// if memory suffices to say it.
 pub fn open_site<S: Source, M: Records>(
     alloc: Global,

@@ -8,7 +8,7 @@ use crate::fault::SiteFault;
 use rb_lines::first_feed;
 use rb_node::{EntryFault, Node, Records};
 
-/// The first line, without its line feed, and the lines behind it; `None` if there is none.
+/// The first line, without its line feed, and the lines after it; `None` if there is no line.
 fn split_line(lines: &[u8]) -> Option<(&[u8], &[u8])>
     requires { IsBatch lines.now }
     ensures { MatchOption result (recovered lines.now ≡ []) (λ split. IsSplit lines.now split.0.now split.1.now) }

@@ -169,7 +169,7 @@ pub fn run_site<S: Source, H: Host, M: Records>(
     requires durable { H.knows_disk host → Only (H.content host) (H.may_leave host) }
     requires unread { S.calls reader.old ≡ 0 }
 
-    // The site that the input and the journal say has answered the lines behind the configuration, as the end says,
+    // The site that the input and the journal say has answered the lines after the configuration, as the end says,
     // and then the file is whole lines and a closed gate, all of it on the disk. Or the run stopped in the opening: the
     // host is as it was, and the fault comes only for its cause, by the input's first line and the file's lines.
     ensures ended { RunsTo

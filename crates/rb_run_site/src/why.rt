@@ -1,4 +1,4 @@
-//! The reason of a fault with which a site isn't opened, in words behind two spaces. They may change: no clause says
+//! The reason of a fault with which a site isn't opened, in words after two spaces. They may change: no clause says
 //! that they are right.
 
 use crate::fault::SiteFault;

@@ -45,7 +45,7 @@ pub fn run_bank<G: Gate + Drop + Sync, W: Threads + Wait + Sync>(
     run_with::<Brand, Brand, G, W>(rt, alloc, config, gate, tellers, seed, entries, receipts)
 }
 
-/// The same, with these ledgers of the entries and the receipts.
+/// Runs tellers as `run_bank` does, with these ledgers of the entries and the receipts.
 fn run_with<
     E: Entries + Send + Sync,
     R: Ledger + Send + Sync,

@@ -6,7 +6,7 @@ use rb_branch::{CallFault, Entries, Seat};
 use std::sync::ledger::Ledger;
 use std::thread::Promise;
 
-/// A thread gives its seat back after it served this site.
+/// The promise that a thread gives its seat back after it served this site.
 #[derive(Clone, Copy)]
 pub struct ServerOf {
     pub site: u8,

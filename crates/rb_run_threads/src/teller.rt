@@ -89,7 +89,7 @@ fn call_at(x: u64, last: Option<OpName>, site: u8, sites: u8) -> Event
     }
 }
 
-/// A cancellation of the last name, or a deposit of 1 if there is none.
+/// A cancellation of the last name, or a deposit of 1 if there is no name.
 fn cancel_last(account: Place, last: Option<OpName>) -> Request
     ensures { result ≡ cancel_or account last }
 {

@@ -6,8 +6,8 @@ use rb_branch::{CallFault, Entries, Seat};
 use std::sync::ledger::Ledger;
 use std::thread::Promise;
 
-/// A thread gives its seat back after all calls of the teller of this first number, at this site, of a bank
-/// of `sites`.
+/// The promise that a thread gives its seat back after all calls of the teller of this first number, at this site,
+/// of a bank of `sites`.
 #[derive(Clone, Copy)]
 pub struct TellerOf {
     pub first: u64,

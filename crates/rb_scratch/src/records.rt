@@ -1,7 +1,7 @@
 //! The records of what is tried.
 //!
 //! The records of a batch are parts in an array of sixteen, which takes no memory, and are handed to the site's log as
-//! the batch is kept. The array is 320 bytes, so calls that would move it are made in place.
+//! the batch is kept. The array is 640 bytes, so calls that would move it are made in place.
 ghost use Rattle.std.specs.Prelude.{◌≡◌, ◌<◌, ◌≤◌, [], ◌∷◌, ◌++◌, length, MatchOption, IfErr, OnOk, OnErr};
 ghost use Rattle.rb_scratch.specs.declared.request.TheConstants.{MOST_REQUESTS};
 
@@ -9,7 +9,7 @@ use crate::request::MOST_REQUESTS;
 use rb_undo::{Undo, UndoLog, UndoParts};
 use std::marker::Model;
 
-/// Undo records in order, at most as many as a batch has requests, each of which is still to be spent or
+/// The undo records of what is tried, in order, at most as many as a batch has requests, each still to be spent or
 /// sealed. They are kept in the value itself and take no memory: a record is spent into its parts, and made
 /// anew from them. Clients see the parts. They can't be dropped: they go to the end of a log, or are closed.
 pub struct Records {
@@ -57,7 +57,7 @@ impl Records {
         self.len += 1;
     }
 
-    /// Takes the last record out. `None` if there is none.
+    /// Takes the last record out. `None` if there are no records.
     pub fn pop(&mut self) -> Option<Undo>
         ensures { MatchOption result ((self.old.parts ≡ []) × (self.new ≡ self.old)) (λ undo. self.old.parts
             ≡ self.new.parts ++ undo ∷ []) }

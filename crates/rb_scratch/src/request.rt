@@ -6,7 +6,7 @@ use rb_shadow::OpName;
 /// The most requests of a batch.
 pub const MOST_REQUESTS: usize = 16;
 
-/// A teller's request. Any numbers may be asked for: what is out of range is refused.
+/// A teller's request for one operation. Its numbers may be any: what is out of range is refused.
 #[derive(Clone, Copy, Debug, PartialEq, Eq)]
 pub enum Request {
     /// To add an amount in cents, 1 to `MOST_CENTS`.

@@ -2,7 +2,7 @@
 ghost use Rattle.std.specs.Prelude.{◌≡◌};
 ghost use Rattle.rb_shadow.specs.Operations.{same_colour};
 
-/// A blue operation may come in any order; red ones are in one order, the same at every site.
+/// The colour of an operation: blue ones may come in any order, red ones come in one order, the same at every site.
 #[derive(Clone, Copy, Debug, PartialEq, Eq)]
 pub enum Colour {
     Blue,

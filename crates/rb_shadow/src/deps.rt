@@ -14,7 +14,7 @@ use rb_money::{Limits, MOST_SITES};
 /// Of a bank of up to this number of sites each site's entry is tested by itself.
 const FEW: u8 = 3;
 
-/// How many of each site's blue operations, by the site's number, and how many red ones.
+/// What an operation depends on, counted: how many blue operations of each site, by its number, and how many red ones.
 #[derive(Clone, Copy, Debug, PartialEq, Eq)]
 pub struct Deps {
     pub blue: [u32; MOST_SITES],
@@ -22,7 +22,7 @@ pub struct Deps {
 }
 
 impl Deps {
-    /// The entry that counts names such as this one: 0 if the site has none.
+    /// The entry that counts names such as this one: 0 if there is no entry for the name's site.
     pub fn entry(&self, name: OpName) -> u32
         ensures { result ≡ entry_of self.now name }
     {
@@ -61,7 +61,7 @@ fn are_within(entries: &[u32], sites: u8, limit: u32) -> bool
     are_within_many(entries, sites, limit)
 }
 
-/// The same for a small bank.
+/// Whether the entries are within the limit, and 0 past the first `sites` sites, in a bank of up to `FEW` sites.
 #[inline(always)]
 fn are_within_few(entries: &[u32], sites: u8, limit: u32) -> bool
     requires all { length entries.now ≡ MOST_SITES }
@@ -86,7 +86,7 @@ fn are_none(entries: &[u32]) -> bool
     none
 }
 
-/// The same of any number of sites.
+/// Whether the entries are within the limit, and 0 past the first `sites` sites, for any number of sites.
 fn are_within_many(entries: &[u32], sites: u8, limit: u32) -> bool
     ensures { result ≡ are_entries sites limit entries.now }
 {

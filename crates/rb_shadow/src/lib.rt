@@ -21,7 +21,7 @@ pub use name_text::{read_name, write_name};
 pub use op_name::OpName;
 pub use shadow::Shadow;
 
-/// The same operations leave the same balances, numbers of cancellations and names, in whatever order
+/// Operations leave the same balances, numbers of cancellations and names, in whatever order
 /// they were applied.
 pub fn cancellation_commutes()
     ensures { CancellationCommutes }

@@ -27,10 +27,10 @@ impl Shadow {
     ///
     /// 1. the home is no site, or a blue name is of another site than the home;
     /// 2. the name's number is 0, or over the limit of its colour;
-    /// 3. the account is none of the configuration's, or a transfer would go to such a one or to its own;
+    /// 3. the account isn't one of the configuration's, or a transfer would go to one that isn't or to its own;
     /// 4. the amount is over `MOST_CENTS`, or 0 for another kind than an Interest or a Cancel;
     /// 5. a Withdraw or a Transfer has a blue name, or a Deposit, a Declined or an Interest a red one;
-    /// 6. a Cancel's target is none of the operations that the home had applied;
+    /// 6. a Cancel's target isn't one of the operations that the home had applied;
     /// 7. an entry of `deps` is over its limit, one past the sites isn't 0, or the one of the own
     ///    name isn't that name's number less 1.
     #[inline(always)]

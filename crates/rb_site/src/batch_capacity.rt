@@ -14,7 +14,7 @@ use std::alloc::{AllocError, Global};
 use std::marker::Model;
 use std::mem;
 
-/// Memory for the answer to a batch: for the names, and for the same in a history that keeps replies.
+/// Memory for the answer to a batch: for the names, and for their copy in a history that keeps replies.
 /// Clients see for how many operations it is enough, and whether the history keeps replies.
 #[derive(Drop)]
 pub struct BatchCapacity {

@@ -4,7 +4,7 @@ ghost use Rattle.std.specs.Prelude.{◌≡◌, ◌↔◌, IfOk, IsTrue};
 use crate::{Event, Reply};
 use std::alloc::{AllocError, Global};
 
-/// An event with its reply.
+/// An entry of a site's history: an event with its reply.
 #[derive(Debug, Drop)]
 pub struct Entry {
     /// The event.

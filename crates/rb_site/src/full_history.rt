@@ -115,7 +115,7 @@ impl State {
         self.hold_full(shadow, reply);
     }
 
-    /// The same of a sound shadow of another site that isn't applied here.
+    /// A sound shadow of another site, not applied here: `Already`, its own refusal, or else that the history is full.
     fn hold_full(&self, shadow: &Shadow, reply: &mut Reply)
         requires { IsSound self.now.settings shadow.now }
         ensures { reply.new ≡ reply_of self.now.settings self.now.site.ops

@@ -43,8 +43,8 @@ pub fn stuck_final()
     ensures { StuckIsFinal }
 {}
 
-/// A history without the events that left the site as it was but for its history leads to the same site, with the same
-/// replies to the other events and the same messages.
+/// Events that left a site as it was, but for its history, may be left out of the history: it leads to the same site,
+/// with the same replies to the other events and the same messages.
 pub fn unchanging_events_left_out()
     ensures { UnchangingEventsLeftOut }
 {}

@@ -5,7 +5,7 @@ ghost use Rattle.rb_site.specs.States.{Says, noting, plain};
 
 use crate::Reply;
 
-/// A reply, and the same once more if it holds memory and the history keeps replies.
+/// The answer to one event: a reply, and its copy if it holds memory and the history keeps replies.
 #[derive(Drop)]
 pub struct NotedReply {
     pub reply: Reply,

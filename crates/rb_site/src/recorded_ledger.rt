@@ -26,7 +26,7 @@ use rb_vclock::Clock;
 use std::alloc::{AllocError, Global};
 use std::marker::Model;
 
-/// A ledger, and the record to undo each of its operations, in a log. Clients see the settings and the operations.
+/// A ledger that can undo all it applied: a log has the record of each operation. Clients see settings and operations.
 pub struct RecordedLedger {
     ledger: Ledger,
     log: UndoLog,

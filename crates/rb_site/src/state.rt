@@ -29,7 +29,7 @@ use rb_vclock::Clock;
 use std::alloc::{AllocError, Global};
 use std::marker::Model;
 
-/// The operations that a site applied, those that it holds, and its knowledge of the token.
+/// A site's state between two events: what it applied, what it holds, and what it knows of the token.
 pub struct State {
     pub(crate) alloc: Global,
     pub(crate) recorded: RecordedLedger,
@@ -172,7 +172,7 @@ impl State {
         }
     }
 
-    /// The same, and whether the event changed the state.
+    /// Takes one event as `act` does, and answers whether it changed the state.
     #[inline(always)]
     pub fn act_seeing(
         &mut self,
@@ -457,7 +457,7 @@ impl State {
         }
     }
 
-    /// The same of any account.
+    /// An account's statement, with rows or without, for a history that keeps it or doesn't.
     #[inline(never)]
     #[tactic(auto, unfolding(crate::specs::Events::outcome_of))]
     fn any_statement(
@@ -495,7 +495,7 @@ pub fn is_batch(requests: usize) -> bool
     1 <= requests && requests <= MOST_REQUESTS
 }
 
-/// A shadow whose name is known: the same comes again, or it is a conflict.
+/// Answers a shadow whose name is known: `Already` if it is the shadow of that name, and `Conflict` if it is another.
 pub fn again(shadow: &Shadow, same: bool, reply: &mut Reply)
     ensures { Says true (plain reply.new) (if same then Reply.Already shadow.now.name
         else Reply.Refused Refusal.Conflict) }

@@ -64,7 +64,7 @@ impl<E: KeepsEntry> Site<E> {
         self.step_recording(event, false, sent, reply)
     }
 
-    /// The same if the history isn't full, where all events may be recorded, or only those that change the site: memory
+    /// Takes one event at a history that isn't full, and records it if `all` says so or if it changes the site: memory
     /// for the event comes first, and at last it is noted with its reply. The answer is whether it was.
     #[inline(always)]
     pub(crate) fn step_recording(

@@ -5,7 +5,7 @@ use crate::Row;
 use rb_kit::List;
 use std::alloc::{AllocError, Global};
 
-/// An account's start, its entries and its balance.
+/// A statement of an account: what it started with, its entries and its balance.
 #[derive(Debug, Drop)]
 pub struct Statement {
     /// The balance that the account started with, in cents.
@@ -17,7 +17,7 @@ pub struct Statement {
 }
 
 impl Statement {
-    /// The same once more. `Err` means out of memory.
+    /// An equal statement. `Err` means out of memory.
     pub fn try_copy(&self, alloc: Global) -> Result<Statement, AllocError>
         ensures { IfOk result (λ copy. copy ≡ self.now) }
     {

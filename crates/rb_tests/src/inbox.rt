@@ -10,7 +10,7 @@ use rb_money::{MOST_SITES, Place, Refusal};
 use rb_shadow::{Deps, Kind, OpName, Shadow};
 use rb_vclock::Clock;
 
-/// The deposit of site 0 behind this number of others, of an amount in cents.
+/// The deposit of site 0 after this number of others, of an amount in cents.
 fn deposit(before: u8, amount: u64) -> Shadow
     ensures numbered { IsNumbered result }
     ensures entry { HasEntry result.name }

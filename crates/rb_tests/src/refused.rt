@@ -31,7 +31,7 @@ macro_rules! twice {
     };
 }
 
-/// Whether two sites hold the same of the shadows that a world's messages bring.
+/// Whether two sites hold the same shadows, of those that a world's messages bring.
 fn same_held(site: &Site, other: &Site, world: &World) -> bool {
     let mut same = site.inbox().len() == other.inbox().len();
     for message in world.messages() {

@@ -1,4 +1,4 @@
-//! Flags and counts that threads show one another, each behind a lock.
+//! Flags and counts that threads show one another, each under a lock.
 //!
 //! A thread that waits for a flag looks at it once a millisecond, up to a number of looks. So a test whose flag never
 //! comes ends, and fails.

@@ -16,7 +16,7 @@ use std::sync::ledger::Ledger;
 use std::test::Fail;
 use std::thread::{Threads, join};
 
-/// For how many looks the call behind the held one is watched.
+/// For how many looks the call after the held one is watched.
 const WATCHED: u32 = 100;
 
 /// The flags that the gate and the calls show one another. The held call is the first at site 0.

@@ -13,9 +13,9 @@ use std::sync::Wait;
 use std::sync::ledger::Ledger;
 use std::test::Fail;
 
-/// A deposit, a passing of the token to site 2 and a batch of two at site 0 of three: over this number of links, of
-/// which only the first `read` are read, how many of each call's messages weren't taken, and what each of these links
-/// brought.
+/// What comes of three calls at site 0 of three, a deposit, a passing of the token to site 2 and a batch of two: over
+/// this number of links, of which only the first `read` are read, how many of each call's messages weren't taken, and
+/// what each of these links brought.
 struct SentCase {
     links: u8,
     read: usize,

@@ -30,7 +30,7 @@ macro_rules! twice {
     };
 }
 
-/// The seats of two sites, the links between them, the messages that they brought so far, and the bytes of a reply.
+/// What a row is run with: a seat at each of two sites, their links, what these brought so far, and a reply's bytes.
 #[derive(Drop)]
 struct Desks<E: Entries, R: Ledger> {
     seats: Vec<Seat<E, R>>,

@@ -1,6 +1,6 @@
 //! The token on its way.
 
-/// The red token on its way: the number of this passing, from 1; the site that it goes to, from 0; and
+/// The message that passes the red token: the number of this passing, from 1; the site that it goes to, from 0; and
 /// how many red operations that site has to apply before it makes the next.
 #[derive(Clone, Copy, Debug, PartialEq, Eq)]
 pub struct TokenMessage {

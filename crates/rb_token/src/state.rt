@@ -56,7 +56,7 @@ impl TokenState {
         }
     }
 
-    /// The same once more.
+    /// A copy of what the site knows of the token.
     pub fn copy(&self) -> TokenState
         ensures { result ≡ self.now }
     {

@@ -1,11 +1,11 @@
 //! The parts of an undo record.
 //!
-//! A record has what an application changed, in 40 bytes, and no copy of the list. A log of them is a quarter of what a
+//! A record has what an application changed, in 40 bytes, and no copy of the list. A log of them is a third of what a
 //! site keeps of an operation.
 use rb_money::Place;
 use rb_shadow::OpName;
 
-/// The facts of an entry of a ledger, as it is applied.
+/// What is kept to undo an entry of a ledger: the facts of the entry, as it is applied.
 #[derive(Clone, Copy, Debug, PartialEq, Eq)]
 pub struct UndoParts {
     /// The entry's position, from 1.
@@ -20,7 +20,7 @@ pub struct UndoParts {
     pub target: u32,
     /// The entry's second account, or `Place::NOWHERE`.
     pub other: Place,
-    /// The second account's balance before the entry, in cents, or 0 if there is none.
+    /// The second account's balance before the entry, in cents, or 0 if the entry has no second account.
     pub other_balance: u64,
 }
 

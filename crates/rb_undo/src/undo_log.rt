@@ -9,7 +9,7 @@ use crate::Undo;
 use std::alloc::{AllocError, Global};
 use std::marker::Model;
 
-/// Undo records in order, each of which is still to be spent or sealed. A log can't be dropped
+/// Keeps the undo records of a ledger in order, until each is spent or sealed. A log can't be dropped
 /// either: it is closed.
 pub struct UndoLog {
     undos: Vec<Undo>,
@@ -89,7 +89,7 @@ impl UndoLog {
         self.undos.push_reserved(undo)
     }
 
-    /// Takes the last record out. `None` if there is none.
+    /// Takes the last record out. `None` if the log is empty.
     pub fn pop(&mut self) -> Option<Undo>
         ensures { MatchOption result ((self.old.parts ≡ []) × (self.new ≡ self.old))
             (λ undo. (self.old.parts ≡ self.new.parts ++ undo ∷ []) × (self.new.room ≡ self.old.room + 1)) }

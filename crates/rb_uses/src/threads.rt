@@ -41,7 +41,7 @@ pub fn deposit_while_served<W: Threads + Wait + Sync>(
     with_branch::<Brand, Brand, W>(rt, alloc, config, amount, entries, receipts)
 }
 
-/// The same, with these ledgers of the entries and the receipts.
+/// Makes the deposit of `deposit_while_served`, at a branch with these ledgers of the entries and the receipts.
 fn with_branch<E: Entries + Send + Sync, R: Ledger + Send + Sync, W: Threads + Wait + Sync>(
     rt: &W,
     alloc: Global,

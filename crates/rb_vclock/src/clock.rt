@@ -11,7 +11,7 @@ use rb_money::MOST_SITES;
 use rb_shadow::{Deps, OpName, Shadow};
 use std::marker::Model;
 
-/// How many blue operations of each site, and how many red ones of all. Clients see its entries.
+/// Counts what a site applied: how many blue operations of each site, and how many red ones. Clients see its entries.
 #[derive(Drop)]
 pub struct Clock {
     entries: Deps,
@@ -69,7 +69,7 @@ impl Clock {
         are_at_least(&self.entries.blue, &deps.blue) && self.entries.red >= deps.red
     }
 
-    /// Whether the clock has an entry for the shadow's name, which has its next number: what `advance` asks for.
+    /// Whether the clock has an entry for the shadow's name, which has its next number: what `advance` requires.
     pub fn is_next(&self, shadow: &Shadow) -> bool
         ensures { IsTrue result ↔ (HasEntry shadow.now.name ×
             (number_of shadow.now.name ≡ entry_of self.now shadow.now.name + 1)) }

@@ -1,7 +1,7 @@
 //! The sites of a bank, together.
 //!
-//! Sites share nothing but messages, so each has its own list of operations, up to 82 bytes each beside the record. The
-//! world keeps each message for good, in 112 bytes, so that a delivery reads nothing of another site.
+//! Sites share nothing but messages, so each has its own list of operations: at eight sites some 82 bytes each beside
+//! the record. The world keeps each message for good, in 112 bytes, so that a delivery reads nothing of another site.
 ghost use Rattle.std.specs.Prelude.{◌≡◌, ◌<◌, ◌≤◌, Some, IfSome, IfOk, IfErr, OnErr, OnOk, All};
 ghost use Rattle.std.specs.Prelude.{length, true, map, option_map, slice_get, take};
 ghost use Rattle.std.specs.List.{range_with_len};
@@ -20,9 +20,9 @@ use rb_site::{Entry, Event, KeepsEntry, Message, Reply, Site, SiteReport, WorldE
 use std::alloc::{AllocError, Global};
 use std::marker::Model;
 
-/// One site for each site number, every message that was ever sent, in order, and the events that the sites
-/// recorded. Sites share nothing else. A world is always the run of its events. It can't be dropped: it is closed.
-/// `E` is what the sites keep of each entry, and `R` is what the world keeps of each event.
+/// The sites of a bank, together: one for each site number, every message that was ever sent, in order, and the events
+/// that the sites recorded. Sites share nothing else. A world is always the run of its events. It can't be dropped: it
+/// is closed. `E` is what the sites keep of each entry, and `R` is what the world keeps of each event.
 pub struct World<E: KeepsEntry = Entry, R: KeepsEvent = WorldEvent> {
     alloc: Global,
     config: Config,

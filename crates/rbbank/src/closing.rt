@@ -24,7 +24,7 @@ use std::process::ExitCode;
 /// Why the books aren't closed by some files.
 #[derive(Clone, Copy, Debug, PartialEq, Eq)]
 pub enum ClosingFault {
-    /// A file is one before it.
+    /// A file is given twice.
     Same(SameFile),
     /// The books aren't closed by what the files contain.
     Books(CloseFault),
@@ -71,7 +71,7 @@ fn report_closing(
     }
 }
 
-/// Says behind that why a line of a journal isn't taken, if that is the fault.
+/// Says, after the message of a fault, why a line of a journal isn't taken, if that is the fault.
 fn report_why_not(rt: &HostRuntime, journals: &[&str], fault: CloseFault) {
     if let CloseFault::Journal { site, fault } = fault {
         report_why(rt, reason_of_file(rt, journals, site, fault));

@@ -64,7 +64,7 @@ fn of_site(ran: RanOnDisk) -> Ended
     Ended { done, code }
 }
 
-/// Does what is asked for. Tellers, a seal, closing the books and a task with files read nothing from the reader.
+/// Does what the words ask for. Tellers, a seal, closing the books and a task with files read nothing from the reader.
 fn do_asked<H: Threads + Wait + Sync, S: Source, W: Sink>(
     rt: &HostRuntime,
     handle: &H,

@@ -1,4 +1,4 @@
-//! Files as one input: of each behind the first the lines behind its first one, which has to be the first file's.
+//! Files as one input: of each after the first the lines after its first one, which has to be the first file's.
 ghost use Rattle.std.specs.Prelude.{◌≡◌, ◌≢◌, ◌==◌, ◌+◌, ◌-◌, ◌^◌, ◌++◌, ◌∷◌, ◌<◌, ◌≤◌, ℕ, List, [], true, length, min};
 ghost use Rattle.std.specs.Prelude.{IfOk, MatchOption, MatchResult, if◌then◌else◌, slice_get};
 ghost use Rattle.std.specs.Option.{option_map_or};
@@ -17,7 +17,7 @@ pub enum FilesFault {
     Unread { file: u64 },
     /// The first line of the file isn't the first file's.
     AnotherBank { file: u64 },
-    /// A file is one before it.
+    /// A file is given twice.
     Same(SameFile),
     /// There was no memory to go on.
     OutOfMemory,
@@ -31,7 +31,7 @@ impl From<AllocError> for FilesFault {
     }
 }
 
-/// The lines of a file behind its first one, if that is the input's.
+/// The lines of a file after its first one, if that is the input's.
 fn behind_head<'a>(input: &[u8], file: &'a [u8]) -> Option<&'a [u8]>
     ensures { MatchOption result (first_line file.now ≢ first_line input.now)
         (λ rest. (first_line file.now ≡ first_line input.now) × (lines_of rest.now ≡ lines_behind file.now)) }
@@ -57,7 +57,7 @@ fn is_ended(text: &[u8]) -> bool
     }
 }
 
-/// Adds lines behind those of the input. If the last line there has no line feed, it is given one.
+/// Adds lines after those of the input. If the last line there has no line feed, it is given one.
 fn add_lines(input: &mut Vec<u8>, lines: &[u8]) -> Result<(), AllocError>
     ensures { IfOk result (λ _. lines_of input.new.items ≡ lines_of input.old.items ++ lines_of lines.now) }
 {

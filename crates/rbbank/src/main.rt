@@ -73,7 +73,7 @@ pub(crate) fn report_fault(rt: &HostRuntime, fault: ScriptFault) -> ExitCode
     print_line(rt, message(rt.alloc(), fault), status(fault))
 }
 
-/// Says, behind the line that says which line a run stopped at, why that line is bad.
+/// Says, after the line that says which line a run stopped at, why that line is bad.
 pub(crate) fn report_why(rt: &HostRuntime, why: Option<String>) {
     if let Some(why) = why {
         let _ = rt.eprintln(why.as_str());
@@ -138,14 +138,14 @@ pub(crate) fn end_of_threads(rt: &HostRuntime, ran: Result<(), ScriptFault>) -> 
     }
 }
 
-/// The text about a name that is none of a bank.
+/// The text about a name that no bank may have.
 fn bank_message(alloc: Global, name: &str) -> Result<String, AllocError>
     ensures { IfOk result (λ text. string_bytes text ≡ bank_message_of name.now) }
 {
     format!(in alloc; "rbbank: bank {name}: 1 to 64 of A-Z a-z 0-9 . _ : -")
 }
 
-/// Says that the name is none of a bank.
+/// Says that no bank may have the name.
 pub(crate) fn report_bank(rt: &HostRuntime, name: &str) -> ExitCode
     ensures { IsReportedStatus 2 (exit_status result) }
 {

@@ -21,7 +21,7 @@ pub struct FileId {
     pub number: u64,
 }
 
-/// A file that is one before it. They are numbered from 0.
+/// A file that is given twice: as `file`, and as `before` before that. They are numbered from 0.
 #[derive(Clone, Copy, Debug, PartialEq, Eq)]
 pub struct SameFile {
     pub file: u64,

@@ -1,4 +1,4 @@
-//! The reason of a fault of journals, in words behind two spaces. They may change: no clause says that they are right.
+//! The reason of a fault of journals, in words after two spaces. They may change: no clause says that they are right.
 
 use crate::files_on_disk::name_of;
 use rb_history::open_config;
@@ -14,7 +14,7 @@ fn read_again(rt: &HostRuntime, name: &str) -> Option<Vec<u8>> {
     fs::read(rt, name).ok()
 }
 
-/// Why a file isn't taken behind those before it, if it is for a line. It is read once more, as is the first file.
+/// Why a file isn't taken with those before it, if a line is why. It is read once more, as is the first file.
 pub fn reason_of_file(
     rt: &HostRuntime,
     names: &[&str],

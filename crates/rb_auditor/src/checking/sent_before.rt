@@ -7,7 +7,7 @@ use rb_site::{Event, Message};
 use std::alloc::{AllocError, Global};
 use std::collections::HashMap;
 
-/// Messages in the order in which they were sent.
+/// The messages sent so far, to find whether one is among them, in the order in which they were sent.
 #[derive(Drop)]
 pub struct SentBefore {
     pub messages: Vec<Message>,
