@@ -4,18 +4,20 @@ starts each again with all that it sends: nothing freezes, and in the end all ha
 
 usage: wires.py [--quiet] [--gate] [--deposits N] [--stop SECONDS] [--wire PATH] [--alone] [--patience SECONDS] PROGRAM
 
-Two sites, and then three, have N deposits each, 20,000 if it isn't given, which come all at once. The last site is
-stopped by SIGSTOP for a time, 2 seconds if it isn't given, and the others have to answer all of their deposits
-meanwhile. More messages than may wait for it are dropped, and have to come again without a restart: at two sites all
-are applied then. At three, a site that held as many operations as it may refuses more (16), so that some are lost; when
-their sender starts again it sends them all again. At the end an audit orders the journals.
+Two sites, and then three, have N deposits each, 20,000 if it isn't given, which come all at once. The last site has
+its own first, and is stopped by SIGSTOP as it has answered one, for 2 seconds if it isn't given; the others get theirs
+then, and have to answer all of them meanwhile. More messages than the pipes take and may wait are dropped, and have to
+come again without a restart: at two sites all are applied then. At three, a site that held as many operations as it may
+refuses more (16), so that some are lost; when their sender starts again it sends them all again. At the end an audit
+orders the journals.
 
 Before that, wire.py alone: a command that ends over and over, of its own accord or by SIGKILL; a reader of the replies
 and a command that take nothing for a while; messages that are dropped, and asked for again; whose each reply is.
 --wire names another wire.py to be tried, and --patience the seconds after which something counts as frozen, 60.
-tests/wire_mutants.py tries wrong ones. --gate takes 1,000 deposits and half a second, and only two sites.
+tests/wire_mutants.py tries wrong ones. --gate takes 2,000 deposits and half a second, and only two sites.
 """
 import argparse
+import fcntl
 import json
 import os
 import re
@@ -33,8 +35,9 @@ WIRE = os.path.join(ROOT, "examples", "tools", "wire.py")
 PATIENCE = [60.0]  # seconds without anything new, after which all of it counts as frozen
 MAY_WAIT = 10  # the part of a site's deposits that may wait for another one as messages
 PIPE_BUF = 4096  # bytes that a pipe takes whole, whoever else writes into it
-DEPOSIT = b'{"deposit":["ann",1]}\n'
-BALANCE = b'{"balance":"ann"}\n'
+NAME = "a" * 32  # of the one account: long, so that the pipes take few messages
+DEPOSIT = b'{"deposit":["%s",1]}\n' % NAME.encode()
+BALANCE = b'{"balance":"%s"}\n' % NAME.encode()
 WHOSE = {"kind": "client", "balance": "client", "held": "peer", "already": "peer", "refused 16": "peer",
          "applied": "then"}
 
@@ -94,6 +97,7 @@ class Site:
         self.path = os.path.join(bank.folder, f"to{number}")
         os.mkfifo(self.path)
         self.pipe = os.open(self.path, os.O_RDWR)
+        fcntl.fcntl(self.pipe, fcntl.F_SETPIPE_SZ, PIPE_BUF)  # so that few messages wait in it for a stopped site
         self.journal = os.path.join(bank.folder, f"{number}.journal")
         self.replies = Replies(os.path.join(bank.folder, f"{number}.replies"))
         self.said = os.path.join(bank.folder, f"{number}.said")  # by its wire
@@ -156,7 +160,7 @@ class Bank:
     def __init__(self, asked, folder, sites):
         self.program, self.wire, self.folder, self.sites = os.path.abspath(asked.program), asked.wire, folder, sites
         self.deposits, self.seconds = asked.deposits, asked.stop
-        self.config = compact({"accounts": [["ann", 0]], "sites": sites, "version": 1})
+        self.config = compact({"accounts": [[NAME, 0]], "sites": sites, "version": 1})
         self.all = [Site(self, number) for number in range(sites)]
 
     def replies(self):
@@ -168,18 +172,22 @@ class Bank:
         while not done():
             clock.look(self.replies(), what)
 
+    def give(self, sites):
+        """Begins to give these sites their deposits."""
+        for site in sites:
+            threading.Thread(target=site.give, args=(DEPOSIT, self.deposits), daemon=True).start()
+
     def deposit(self):
-        """Gives all sites their deposits, and stops the last one until the others have answered theirs."""
+        """Gives the last site its deposits and stops it, and starts it again when the others have answered theirs."""
         *others, last = self.all
         for site in self.all:
             site.start()
-        givers = [threading.Thread(target=site.give, args=(DEPOSIT, self.deposits), daemon=True) for site in self.all]
-        for giver in givers:
-            giver.start()
+        self.give([last])
         self.wait(lambda: last.replies.of("kind") > 0, "the first reply")
         last.signal(signal.SIGSTOP)
         before, until = last.replies.of("kind"), time.monotonic() + self.seconds
         try:
+            self.give(others)
             self.wait(lambda: all(site.replies.of("kind") == self.deposits for site in others)
                       and time.monotonic() > until, f"site {last.number} is stopped, and the others go on")
         finally:
@@ -442,7 +450,7 @@ def options():
     reader.add_argument("--gate", action="store_true", help="take less of all")
     asked = reader.parse_args()
     if asked.gate:
-        asked.deposits, asked.stop = 1_000, 0.5
+        asked.deposits, asked.stop = 2_000, 0.5
     if not os.access(asked.program, os.X_OK) or os.path.isdir(asked.program):
         reader.error(f"{asked.program}: no program")
     return asked
