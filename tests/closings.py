@@ -168,9 +168,9 @@ class Folder:
     def answers(self, case: Case) -> Case:
         words = [self.program, "close", *case.words.split()]
         if "pipe.1" in case.words:  # another bank's journal, which waits for its one reader
-            subprocess.Popen(["timeout", "10", "cp", "full.1", "pipe.1"], cwd=self.path)
+            subprocess.Popen(["timeout", "60", "cp", "full.1", "pipe.1"], cwd=self.path)
         try:
-            run = subprocess.run(words, capture_output=True, text=True, cwd=self.path, timeout=10)
+            run = subprocess.run(words, capture_output=True, text=True, cwd=self.path, timeout=60)
         except subprocess.TimeoutExpired as late:
             return case._replace(out="", err=f"{(late.stderr or b'').decode()}no end\n", status=-1)
         return case._replace(out=run.stdout, err=run.stderr, status=run.returncode)

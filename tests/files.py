@@ -102,10 +102,10 @@ class Folder:
     def ran(self, words: str, given: str = "") -> tuple[str, str, int]:
         """What the program writes and says, and its status."""
         if "pipe" in words.split():
-            subprocess.Popen(["timeout", "10", "cp", PIPE, "pipe"], cwd=self.path)
+            subprocess.Popen(["timeout", "60", "cp", PIPE, "pipe"], cwd=self.path)
         try:
             run = subprocess.run([self.program, *words.split()], input=given, capture_output=True, text=True,
-                                 cwd=self.path, timeout=10)
+                                 cwd=self.path, timeout=60)
         except subprocess.TimeoutExpired:
             return "", "no end", -1
         return run.stdout, run.stderr, run.returncode

@@ -853,14 +853,17 @@ def of_the_page(sites):
     given, out = (re.sub("(?m)^    ", "", block) for block in blocks[at:at + 2])
     if shutil.which("bash") is None:
         return
-    with tempfile.TemporaryDirectory() as folder:
-        os.makedirs(os.path.join(folder, "bin"))
-        os.symlink(sites.program, os.path.join(folder, "bin", "rbbank"))
-        path = os.pathsep.join([os.path.join(folder, "bin"), os.path.join(EXAMPLES, "tools"), os.environ["PATH"]])
-        # As in an interactive shell, each job is a process group of its own, which `kill %1` ends.
-        script = "set -m; trap 'kill %1 %2' EXIT\n" + given
-        run = subprocess.run(["timeout", "60", "bash", "-c", script], cwd=folder, stdout=subprocess.PIPE,
-                             stderr=subprocess.DEVNULL, env={**os.environ, "PATH": path})
+    # As in an interactive shell, each job is a process group of its own, which `kill %1` ends. A loaded machine gets
+    # longer pauses than the page has.
+    for seconds in (1, 4, 16):
+        script = f"set -m; trap 'kill %1 %2' EXIT; sleep() {{ command sleep {seconds}; }}\n" + given
+        with tempfile.TemporaryDirectory() as folder:
+            os.symlink(sites.program, os.path.join(folder, "rbbank"))
+            path = os.pathsep.join([folder, os.path.join(EXAMPLES, "tools"), os.environ["PATH"]])
+            run = subprocess.run(["timeout", "60", "bash", "-c", script], cwd=folder, stdout=subprocess.PIPE,
+                                 stderr=subprocess.DEVNULL, env={**os.environ, "PATH": path})
+        if run.stdout.decode() == out:
+            break
     yield "the pipes of docs/RUNNING.md", run.stdout.decode() == out
 
 
