@@ -13,12 +13,14 @@ import subprocess
 import sys
 import tempfile
 
+sys.dont_write_bytecode = True
+sys.path.append(os.path.join(os.path.dirname(os.path.abspath(__file__)), "..", "..", "examples", "tools"))
+from bank import KINDS, REQUESTS, TAKES, command  # noqa: E402
+
 NAMES = ["ann", "bob", "c", "d.e_f-9", "a-name-of-32-bytes-0123456789.ab", "eight-88", "nine-bytes"]
 AMOUNTS = [0, 1, 2, 5, 50, 100, 500, 99_999_999_999, 100_000_000_000, 100_000_000_001]
 LIMITS = {"blue": 1_000_000, "red": 1_000_000, "inbox": 4_096, "history": 100_000_000, "epoch": 4_000_000_000}
-KINDS = ["deposit", "withdraw", "declined", "interest", "cancel", "transfer"]
-COMMANDS = ["deposit"] * 4 + ["cancel"] * 2
-COMMANDS += ["withdraw", "interest", "transfer", "batch", "balance", "asof", "statement"]
+COMMANDS = ["deposit"] * 3 + ["cancel"] + [verb for verb in TAKES if verb not in ("deliver", "apply", "pass")]
 
 
 class Fuzz:
@@ -50,26 +52,20 @@ class Fuzz:
         site = self.random.randrange(self.sites + (1 if self.one_in(20) else 0))
         return f"R{number}" if self.one_in(2) else f"B{site}.{number}"
 
-    def request(self, kind):
-        if kind == "interest":
-            return {kind: [self.account(), self.pick([0, 1, 150, 9_999, 10_000, 10_001, 4_294_967_295])]}
-        if kind == "cancel":
-            return {kind: self.name()}
-        if kind == "transfer":
-            return {kind: [self.account(), self.account(), self.amount()]}
-        return {kind: [self.account(), self.amount()]}
+    def rate(self):
+        return self.pick([0, 1, 150, 9_999, 10_000, 10_001, 4_294_967_295])
+
+    def requests(self):
+        count = self.pick([0, 17]) if self.one_in(20) else self.random.randint(1, 4)
+        return [self.asked(self.pick(["deposit", *REQUESTS])) for _ in range(count)]
+
+    def asked(self, verb):
+        values = {"account": self.account, "to": self.account, "cents": self.amount, "rate": self.rate,
+                  "name": self.name, "requests": self.requests, "position": lambda: self.random.randint(0, 30)}
+        return command(verb, {field: values[field]() for field in TAKES[verb]})
 
     def event(self):
-        kind = self.pick(COMMANDS)
-        if kind == "batch":
-            count = self.pick([0, 17]) if self.one_in(20) else self.random.randint(1, 4)
-            return {kind: [self.request(self.pick(["deposit", "deposit", "withdraw", "interest", "cancel", "transfer"]))
-                           for _ in range(count)]}
-        if kind in ("balance", "statement"):
-            return {kind: self.account()}
-        if kind == "asof":
-            return {kind: [self.account(), self.random.randint(0, 30)]}
-        return self.request(kind)
+        return self.asked(self.pick(COMMANDS))
 
     def command(self):
         turn = self.random.randrange(10)
