@@ -16,6 +16,7 @@ import subprocess
 import sys
 import tempfile
 
+import report
 from site_process import read, whole_lines
 from sites import AT_REST, BANK, EVENTS, LINE_LIMIT, Sites, stored, without_why, write
 
@@ -320,20 +321,5 @@ def results(program):
             yield f"{part.__name__}: {why}", False
 
 
-def main():
-    words = [word for word in sys.argv[1:] if word != "--quiet"]
-    if len(words) != 1 or words[0].startswith("-"):
-        print(__doc__)
-        return 0 if words in (["--help"], ["-h"]) else 2
-    if not os.access(words[0], os.X_OK) or os.path.isdir(words[0]):
-        sys.exit(f"banks: {words[0]}: no program")
-    fine = True
-    for name, same in results(words[0]):
-        fine = fine and same
-        if not same or "--quiet" not in sys.argv:
-            print("same     " if same else "DIFFERENT", name)
-    return 0 if fine else 1
-
-
 if __name__ == "__main__":
-    sys.exit(main())
+    sys.exit(report.run(__doc__, results))

@@ -32,6 +32,7 @@ import tty
 from typing import NamedTuple, Optional
 
 import one_teller
+import report
 
 HERE = os.path.dirname(os.path.abspath(__file__))
 EXAMPLES = os.path.join(os.path.dirname(HERE), "examples")
@@ -371,21 +372,15 @@ def is_example():
         return file.read() == one_teller.text(2, 0)
 
 
-def main():
-    words = [word for word in sys.argv[1:] if word != "--quiet"]
-    if len(words) != 1:
-        sys.exit(__doc__)
-    results = [(case.name, passes(words[0], case)) for case in [*written_down(), *made_here()]]
+def results(program):
+    """Each case with whether it is as wanted."""
+    for case in [*written_down(), *made_here()]:
+        yield case.name, passes(program, case)
     for name, *run in TELLERS:
-        results.append((name, tellers_run(words[0], *run)))
-    results += read_and_written(words[0])
-    results.append(("example of one teller", is_example()))
-    for name, same in results:
-        if not same or "--quiet" not in sys.argv:
-            print("same     " if same else "DIFFERENT", name)
-    if not all(same for _, same in results):
-        sys.exit(1)
+        yield name, tellers_run(program, *run)
+    yield from read_and_written(program)
+    yield "example of one teller", is_example()
 
 
 if __name__ == "__main__":
-    main()
+    sys.exit(report.run(__doc__, results))

@@ -15,6 +15,8 @@ import sys
 import tempfile
 from collections.abc import Iterator
 
+import report
+
 CONFIG = (
     '{"accounts":[["ann",0]],"blue":1000000,"epoch":4000000000,"history":100000000,"inbox":4096,'
     '"red":1000000,"sites":2,"version":1}\n'
@@ -127,18 +129,5 @@ def results(program: str) -> Results:
         yield words, (out, status) == ("", 2) and said.startswith("error: ")
 
 
-def main() -> int:
-    words = [word for word in sys.argv[1:] if word != "--quiet"]
-    if len(words) != 1 or words[0].startswith("-"):
-        print(__doc__)
-        return 0 if words in (["--help"], ["-h"]) else 2
-    fine = True
-    for name, same in results(words[0]):
-        fine = fine and same
-        if not same or "--quiet" not in sys.argv:
-            print("same     " if same else "DIFFERENT", name, flush=True)
-    return 0 if fine else 1
-
-
 if __name__ == "__main__":
-    sys.exit(main())
+    sys.exit(report.run(__doc__, results))

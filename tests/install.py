@@ -17,6 +17,8 @@ import sys
 import tempfile
 from collections.abc import Iterator
 
+import report
+
 ROOT = os.path.dirname(os.path.dirname(os.path.abspath(__file__)))
 TOOLS = ("draw", "explain", "wire", "close", "rebuild")
 PAGES = ("rbbank(1)", "rbbank(5)", "rbbank-running(7)", "rbbank-periods(7)")
@@ -128,19 +130,12 @@ def examples(there: Installed) -> Results:
     yield "twelve commands", len(lines) == 12 and (errors, status) == ("", 0) and out.count("\n") == 12
 
 
-def main() -> int:
-    words = [word for word in sys.argv[1:] if word != "--quiet"]
-    if len(words) != 1 or words[0] in ("-h", "--help"):
-        print(__doc__)
-        return 0 if words in (["-h"], ["--help"]) else 2
-    there, wrong = Installed(words[0]), 0
+def results(program: str) -> Results:
+    """Each case with whether it is as wanted."""
+    there = Installed(program)
     for test in (tools, periods, pages, examples):
-        for name, fine in test(there):
-            wrong += not fine
-            if not fine or "--quiet" not in sys.argv:
-                print(f"{'same     ' if fine else 'DIFFERENT'} install: {name}")
-    return 1 if wrong else 0
+        yield from ((f"install: {name}", fine) for name, fine in test(there))
 
 
 if __name__ == "__main__":
-    sys.exit(main())
+    sys.exit(report.run(__doc__, results))

@@ -18,6 +18,7 @@ import tempfile
 from collections.abc import Iterator
 from typing import Any
 
+import report
 from site_process import compact, name_of, read, words_of_start
 
 HERE = os.path.dirname(os.path.abspath(__file__))
@@ -130,21 +131,10 @@ def results(program: str) -> Iterator[tuple[str, bool]]:
 
 
 def main() -> int:
-    words = [word for word in sys.argv[1:] if word != "--quiet"]
-    if not (len(words) == 1 and words[0][0] != "-" or len(words) == 3 and words[0] == "--store"):
-        print(__doc__)
-        return 0 if words in (["--help"], ["-h"]) else 2
-    program = os.path.abspath(words[-1])
-    if not os.access(program, os.X_OK) or os.path.isdir(program):
-        sys.exit(f"older: {program}: no program")
-    if len(words) == 3:
-        store(program, words[1])
-    fine = True
-    for name, same in results(program):
-        fine = fine and same
-        if not same or "--quiet" not in sys.argv:
-            print("same     " if same else "DIFFERENT", name)
-    return 0 if fine else 1
+    if sys.argv[1:2] == ["--store"] and len(sys.argv) == 4:
+        store(report.program_of(sys.argv[3:], __doc__), sys.argv[2])
+        del sys.argv[1:3]
+    return report.run(__doc__, results)
 
 
 if __name__ == "__main__":

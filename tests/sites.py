@@ -28,6 +28,7 @@ import tempfile
 import time
 
 sys.path.insert(0, os.path.join(os.path.dirname(os.path.dirname(os.path.abspath(__file__))), "examples", "tools"))
+import report  # noqa: E402
 from bank import without_why  # noqa: E402
 from site_process import read, whole_lines  # noqa: E402
 
@@ -881,20 +882,5 @@ def results(program):
             yield f"{part.__name__}: {why}", False
 
 
-def main():
-    words = [word for word in sys.argv[1:] if word != "--quiet"]
-    if len(words) != 1 or words[0].startswith("-"):
-        print(__doc__)
-        return 0 if words in (["--help"], ["-h"]) else 2
-    if not os.access(words[0], os.X_OK) or os.path.isdir(words[0]):
-        sys.exit(f"sites: {words[0]}: no program")
-    fine = True
-    for name, same in results(words[0]):
-        fine = fine and same
-        if not same or "--quiet" not in sys.argv:
-            print("same     " if same else "DIFFERENT", name)
-    return 0 if fine else 1
-
-
 if __name__ == "__main__":
-    sys.exit(main())
+    sys.exit(report.run(__doc__, results))
