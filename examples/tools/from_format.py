@@ -13,7 +13,8 @@ import os
 import re
 import sys
 
-ROOT = os.path.dirname(os.path.dirname(os.path.dirname(os.path.abspath(__file__))))
+import bank
+
 PAGES = {"docs/FORMAT.md": ("rbbank", 5), "docs/RUNNING.md": ("rbbank-running", 7),
          "docs/PERIODS.md": ("rbbank-periods", 7)}
 TOOL = re.compile(r"\b(?:examples/tools/)?(draw|explain|wire|close|rebuild)\.py\b")
@@ -22,10 +23,6 @@ PLACE = re.compile(r" \(examples/tools(?:, installed as `[\w-]+`)?\)")
 ELSEWHERE = re.compile(r"\(([\w/]+\.(?:md|py))\)")
 PIECE = re.compile(r"`([^`]+)`|\*\*([^*]+)\*\*")
 CELLS = re.compile(r"(?<!\\)\|")
-
-
-class Stop(Exception):
-    """Why a script can't go on, in words for its user."""
 
 
 def roff(text):
@@ -96,7 +93,7 @@ def page(path, text):
     """The manual page of a page of docs/, whose first line is its title."""
     title, *blocks = [block.split("\n") for block in installed(text).strip("\n").split("\n\n")]
     if len(title) != 1 or not title[0].startswith("# "):
-        raise Stop(f"{path}: the first line is no title")
+        raise bank.Stop(f"{path}: the first line is no title")
     name, section = PAGES[path]
     others = [("rbbank", 1), *(other for other in PAGES.values() if other != (name, section))]
     lines = [f'.\\" Made by examples/tools/from_format.py from {path}.', f".TH {name.upper()} {section}", ".nh",
@@ -109,11 +106,9 @@ def page(path, text):
 def write(prefix):
     for path, (name, section) in PAGES.items():
         folder = os.path.join(prefix, "share", "man", f"man{section}")
-        with open(os.path.join(ROOT, path), encoding="utf-8") as file:
-            text = file.read()
         os.makedirs(folder, exist_ok=True)
-        with open(os.path.join(folder, f"{name}.{section}"), "w", encoding="utf-8") as file:
-            file.write(page(path, text))
+        text = page(path, bank.read(os.path.join(bank.ROOT, path)).decode())
+        bank.write(os.path.join(folder, f"{name}.{section}"), text)
 
 
 def main(words):
@@ -126,12 +121,9 @@ def main(words):
     try:
         write(words[0])
     except OSError as error:
-        raise Stop(f"{error.filename}: {error.strerror}") from None
+        raise bank.Stop(f"{error.filename}: {error.strerror}") from None
     return 0
 
 
 if __name__ == "__main__":
-    try:
-        sys.exit(main(sys.argv[1:]))
-    except Stop as why:
-        sys.exit(f"from_format: {why}")
+    bank.stops_in_words("from_format", lambda: main(sys.argv[1:]))

@@ -19,8 +19,7 @@ from typing import NamedTuple, Optional
 
 import bank
 
-ROOT = os.path.dirname(os.path.dirname(os.path.dirname(os.path.abspath(__file__))))
-STORED = os.path.join(ROOT, "tests", "help")
+STORED = os.path.join(bank.ROOT, "tests", "help")
 MADE_BY = "Made by examples/tools/from_help.py from the help of the program."
 COMMAND = re.compile(r"  (\S+)(?:\s+(.*))?$")
 VALUE = re.compile(r"  [<\[]([^>\]]+)[>\]](?:\.\.\.)?(?:\s\s+(.*))?$")
@@ -51,10 +50,6 @@ class Page(NamedTuple):
     rest: str
 
 
-class Stop(Exception):
-    """Why a script can't go on, in words for its user."""
-
-
 def rows_of(lines):
     """The rows of a section, each in one line: what is further in than ten spaces belongs to the row above it."""
     rows = []
@@ -69,7 +64,7 @@ def rows_of(lines):
 def matched(pattern, line):
     found = pattern.match(line)
     if not found:
-        raise Stop(f"no row of clap's help: {line}")
+        raise bank.Stop(f"no row of clap's help: {line}")
     return found.groups(default=None)
 
 
@@ -78,7 +73,7 @@ def parsed(text):
     parts = text.strip("\n").split("\n\n")
     about = " ".join(parts.pop(0).split("\n"))
     if not parts or not parts[0].startswith("Usage: "):
-        raise Stop("no line of clap's help begins with 'Usage: '")
+        raise bank.Stop("no line of clap's help begins with 'Usage: '")
     usage = parts.pop(0).removeprefix("Usage: ")
     commands, values, options = [], [], []
     while parts and parts[0].split("\n")[0] in ("Commands:", "Arguments:", "Options:"):
@@ -263,9 +258,9 @@ def help_of(program, *words):
         words_of_run = [program, *words, "--help"]
         run = subprocess.run(words_of_run, capture_output=True, encoding="utf-8", stdin=subprocess.DEVNULL)
     except OSError as error:
-        raise Stop(f"{program}: {error.strerror}") from None
+        raise bank.Stop(f"{program}: {error.strerror}") from None
     if run.returncode != 0:
-        raise Stop(f"{program} {' '.join(words)} --help: status {run.returncode}")
+        raise bank.Stop(f"{program} {' '.join(words)} --help: status {run.returncode}")
     return run.stdout
 
 
@@ -280,16 +275,11 @@ def written(folder, files):
     for place, text in files.items():
         path = os.path.join(folder, place)
         os.makedirs(os.path.dirname(path), exist_ok=True)
-        with open(path, "w", encoding="utf-8") as file:
-            file.write(text)
+        bank.write(path, text)
 
 
 def read(path):
-    try:
-        with open(path, encoding="utf-8") as file:
-            return file.read()
-    except OSError as error:
-        raise Stop(f"{path}: {error.strerror}") from None
+    return bank.read(path).decode()
 
 
 def stored():
@@ -331,9 +321,10 @@ def other_commands(page):
              for verb, value in json.loads(line).items() if verb != "site"}
     types = {"account": str, "to": str, "name": str, "requests": list}
     known = {verb: tuple(types.get(field, int) for field in takes) for verb, takes in bank.TAKES.items()}
-    kinds = re.search("is no kind: there are: (.*)", read(os.path.join(ROOT, "tests", "cases", "reasons.cases")))[1]
+    reasons = read(os.path.join(bank.ROOT, "tests", "cases", "reasons.cases"))
+    kinds = re.search("is no kind: there are: (.*)", reasons)[1]
     others = {verb for verb, _ in shown.items() ^ known.items()} | set(kinds.split(", ")) ^ set(bank.KINDS)
-    lists = {path: re.search(f"(?s){of}", read(os.path.join(ROOT, path)))[1] for path, of in SERVICE.items()}
+    lists = {path: re.search(f"(?s){of}", read(os.path.join(bank.ROOT, path)))[1] for path, of in SERVICE.items()}
     lacks = [f"{verb} of {path}" for path, text in lists.items() for verb in bank.REQUESTS if verb not in text]
     return [f"{verb} of commands.json" for verb in others] + lacks
 
@@ -370,7 +361,4 @@ def main(words):
 
 
 if __name__ == "__main__":
-    try:
-        sys.exit(main(sys.argv[1:]))
-    except Stop as why:
-        sys.exit(f"from_help: {why}")
+    bank.stops_in_words("from_help", lambda: main(sys.argv[1:]))
