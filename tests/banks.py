@@ -314,11 +314,7 @@ PARTS = [of_the_bank, of_others, received, by_ids, sent_again, however_read, kil
 
 def results(program):
     """Each case with whether it is as wanted."""
-    for part in PARTS:
-        try:
-            yield from part(Sites(program))
-        except (OSError, subprocess.TimeoutExpired, ValueError, IndexError, KeyError, TypeError) as why:
-            yield f"{part.__name__}: {why}", False
+    return report.of_parts(PARTS, lambda: Sites(program))
 
 
 if __name__ == "__main__":

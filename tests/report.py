@@ -1,6 +1,9 @@
 """How a test of a built program is run: its words, a line for each case, and its status."""
 import os
+import subprocess
 import sys
+
+ERRORS = (OSError, subprocess.SubprocessError, ValueError, IndexError, KeyError, TypeError)
 
 
 def program_of(words, doc):
@@ -11,6 +14,15 @@ def program_of(words, doc):
     if not os.access(words[0], os.X_OK) or os.path.isdir(words[0]):
         sys.exit(f"{os.path.basename(sys.argv[0])}: {words[0]}: no program")
     return os.path.abspath(words[0])
+
+
+def of_parts(parts, given):
+    """The cases of each part. A part that an error ends has one that isn't as wanted, by its words."""
+    for part in parts:
+        try:
+            yield from part(given())
+        except ERRORS as why:
+            yield f"{part.__name__}: {why}", False
 
 
 def run(doc, results):

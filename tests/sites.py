@@ -875,11 +875,7 @@ PARTS = [same_however_read, ready_at_once, torn, kept, kept_nowhere, longest_nam
 
 def results(program):
     """Each case with whether it is as wanted."""
-    for part in PARTS:
-        try:
-            yield from part(Sites(program))
-        except (OSError, subprocess.TimeoutExpired, ValueError, IndexError) as why:
-            yield f"{part.__name__}: {why}", False
+    return report.of_parts(PARTS, lambda: Sites(program))
 
 
 if __name__ == "__main__":
