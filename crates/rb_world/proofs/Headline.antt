@@ -11,6 +11,7 @@ use Rattle.rb_world.proofs.CaughtUp
 use Rattle.rb_world.proofs.Good
 use Rattle.rb_world.proofs.Lawful
 use Rattle.rb_world.proofs.Ready
+use Rattle.rb_world.proofs.Reversal
 use Rattle.rb_world.proofs.Stepping.{IsRunSoFar, next_run}
 use Rattle.rb_world.proofs.Token
 
@@ -20,6 +21,7 @@ holds s es some few own =
     let w = world_of_run s es in
     let g = Good.good_run s es some few own in
     record {
+      exact_reversal = Reversal.exact_reversal s w;
       one_token = Token.one_holder s w g.place;
       red_blue = Lawful.red_blue s w g;
       clocks = Lawful.clocks s w g;

@@ -1,6 +1,6 @@
 -- Laws over every run.
-use Rattle.std.specs.Prelude.{◌≡◌, ℕ, ◌+◌, if◌then◌else◌, ◌≤◌, Bool, true, false, List, [], ◌∷◌, ◌++◌, length, Some}
-use Rattle.std.specs.Prelude.{slice_get, ◌⊎◌, ◌&&◌, pos, ◌≤ℤ◌}
+use Rattle.std.specs.Prelude.{◌≡◌, ℕ, zero, suc, ◌+◌, if◌then◌else◌, ◌≤◌, Bool, true, false, List, [], ◌∷◌, ◌++◌, length, Some}
+use Rattle.std.specs.Prelude.{slice_get, ◌⊎◌, ◌&&◌, pos, ◌≤ℤ◌, ◌-◌, take, None}
 use Rattle.rb_money.specs.Settings.{Settings}
 use Rattle.rb_money.specs.declared.limits.TheConstants.{MOST_SITES}
 use Rattle.rb_money.specs.declared.place.Place.{Place}
@@ -9,7 +9,9 @@ use Rattle.rb_shadow.specs.declared.shadow.Shadow.{Shadow}
 use Rattle.rb_shadow.specs.Operations.{Agree, Among, AreSame, IsLawful, IsSerialization, IsUnique, IsWithin, bal}
 use Rattle.rb_shadow.specs.Operations.{clock_of, names, names_of_clock, past}
 use Rattle.rb_shadow.specs.Laws.{IsClosed, IsFunded, IsPart}
-use Rattle.rb_ledger.specs.Valid.{IsValid}
+use Rattle.rb_ledger.specs.Checks.{refusal_of}
+use Rattle.rb_ledger.specs.Records.{records_of}
+use Rattle.rb_ledger.specs.Valid.{IsValid, parts_of}
 use Rattle.rb_site.specs.declared.event.Event.{Event}
 use Rattle.rb_site.specs.declared.event.Event.TheVariants.{Receive, Apply}
 use Rattle.rb_site.specs.declared.message.Message.{Message}
@@ -30,6 +32,24 @@ EachSite w P = (i : ℕ) (t : ModelSite) → slice_get w.sites i ≡ Some t → 
 abbrev pub Always : (Settings → World → Type 0) → Type 0
 Always P = (s : Settings) (es : List WorldEvent) → 1 ≤ s.sites → s.sites ≤ MOST_SITES → AreOwn es
     → P s (world_after_all s (first_world s) es)
+
+-- the last operation of us is undone, which leaves vs: it is the last of the list, and its record the last of the log
+-- (`Ledger::undo`: `entries`; the log of a site has the records of its list, `Site::log`: `records`)
+pub record IsUndone (s : Settings) (us vs : List Shadow) : Type 0 where
+  pub last : Shadow
+  pub list : us ≡ vs ++ last ∷ []
+  pub log : records_of s us ≡ records_of s vs ++ parts_of s vs last ∷ []
+
+-- that many operations are undone, each the last of what those before it left, which leaves vs
+abbrev pub AreUndone : Settings → List Shadow → ℕ → List Shadow → Type 0
+AreUndone s us zero vs = us ≡ vs
+AreUndone s us (suc k) vs = (between : List Shadow) × AreUndone s us k between × IsUndone s between vs
+
+-- at each site undoing an operation that was just applied, any that the ledger accepts, leaves the exact operations and
+-- records of before, and so does undoing all after any position
+pub record ExactReversal (s : Settings) (w : World) : Type 0 where
+  pub there_and_back : EachSite w (λ i t. (v : Shadow) → refusal_of s t.ops v ≡ None → IsUndone s (t.ops ++ v ∷ []) t.ops)
+  pub tail : EachSite w (λ i t. (n : ℕ) → n ≤ length t.ops → AreUndone s t.ops (length t.ops - n) (take n t.ops))
 
 -- at most one site has the token
 abbrev pub OneToken : Settings → World → Type 0
@@ -137,6 +157,7 @@ RefusedReceive = (s : Settings) (me : ℕ) (es : List Event) → length es ≤ s
 
 -- what holds of every world that a bank's own events lead to
 pub record Holds (s : Settings) (w : World) : Type 0 where
+  pub exact_reversal : ExactReversal s w
   pub one_token : OneToken s w
   pub red_blue : RedBlue s w
   pub clocks : Clocks s w

@@ -15,8 +15,8 @@ ghost use Rattle.rb_world.specs.CrashLaws.{AfterSteps, HidesCrashes, CrashesLose
 ghost use Rattle.rb_world.specs.CrashLaws.{ForgetsTheReported, HeadlineHolds, KeepsTheReported, ReportsTheDurable};
 
 use crate::{
-    agreement, can_catch_up, clocks, funds, never_negative, never_stuck, one_token, red_blue,
-    trusts_its_own, valid_lists,
+    agreement, can_catch_up, clocks, exact_reversal, funds, never_negative, never_stuck, one_token,
+    red_blue, trusts_its_own, valid_lists,
 };
 
 /// Whatever crashed when, the sites' histories are one world's, in which nothing crashed.
@@ -25,10 +25,12 @@ pub fn crashes_are_invisible()
 {}
 
 /// All laws of worlds hold of a world with just these sites and just the messages that they sent, at 1 to `MOST_SITES`
-/// sites: no balance is negative, sites that applied the same operations agree, and each of the others.
+/// sites: operations are undone exactly, no balance is negative, sites that applied the same operations agree, and each
+/// of the others.
 pub fn headline_holds()
     ensures { AfterSteps HeadlineHolds }
 {
+    exact_reversal();
     one_token();
     red_blue();
     clocks();

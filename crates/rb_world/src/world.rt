@@ -2,7 +2,7 @@
 //!
 //! Sites share nothing but messages, so each has its own list of operations: at eight sites some 82 bytes each beside
 //! the record. The world keeps each message for good, in 112 bytes, so that a delivery reads nothing of another site.
-ghost use Rattle.std.specs.Prelude.{◌≡◌, ◌<◌, ◌≤◌, Some, IfSome, IfOk, IfErr, OnErr, OnOk, All};
+ghost use Rattle.std.specs.Prelude.{◌≡◌, ◌<◌, ◌≤◌, ◌⊎◌, Some, IfSome, IfOk, IfErr, OnErr, OnOk, All};
 ghost use Rattle.std.specs.Prelude.{length, true, map, option_map, slice_get, take};
 ghost use Rattle.std.specs.List.{range_with_len};
 ghost use Rattle.rb_money.specs.declared.limits.TheConstants.{MOST_SITES};
@@ -64,13 +64,15 @@ impl World {
     }
 
     /// A list of events, and their replies. After running out of memory the world is as after as many
-    /// events as `Stopped` says.
+    /// events as `Stopped` says, and the next one is one that a site would record. Memory for the replies comes first.
     pub fn run(&mut self, events: &[WorldEvent]) -> Result<Vec<Reply>, Stopped>
         requires { All IsCommand events.now }
         ensures ok { IfOk result (λ replies. (replies.items ≡ next_replies self.old events.now)
             × (self.new ≡ next_worlds self.old events.now)) }
         ensures stopped { IfErr result (λ stopped. (stopped.answered ≤ length events.now)
             × (self.new ≡ next_worlds self.old (take stopped.answered events.now))) }
+        ensures why { IfErr result (λ stopped. (stopped.answered ≡ 0) ⊎ IfSome (slice_get events.now stopped.answered)
+            (λ event. is_recorded self.new.settings self.new.world event ≡ true)) }
         ensures holds { Holds self.new.settings self.new.world }
     {
         // For a fact alone: the world is the run of its events.

@@ -8,6 +8,7 @@ returns c s w led some few =
     let x : IsWorldOf s w = Cuts.itself s w (Invisible.safe s w led) in (
       x,
       record {
+        exact_reversal = c.exact_reversal.ensures s x.events some few x.own;
         one_token = c.one_token.ensures s x.events some few x.own;
         red_blue = c.red_blue.ensures s x.events some few x.own;
         clocks = c.clocks.ensures s x.events some few x.own;
