@@ -4,14 +4,12 @@ use Rattle.std.proofs.Common.{refl, sym, ap, subst, ◌∙◌, append_assoc, app
 use Rattle.std.specs.Prelude.{IfSome}
 use Rattle.std.proofs.Math.Seq.{take-append-add}
 use Rattle.serde_json.specs.Written.{compact_text}
-use Rattle.rb_money.specs.Settings.{IsConfigured}
 use Rattle.rb_journal.specs.Host.{AddsPrefix}
 use Rattle.rb_journal.specs.Journal.{HasClosedGate, IsAppended, IsDurable, IsLeftAs, IsRepaired}
-use Rattle.rb_journal.specs.Lines.{IsBatch, IsIntact, at_rest, recovered}
+use Rattle.rb_journal.specs.Lines.{IsBatch, IsIntact, IsLine, at_rest, recovered}
 use Rattle.rb_journal.proofs.Public.Lines.{line_alone, recovered-append, short_nothing, still_lines}
 use Rattle.rb_node.specs.Asked.{SeenAsked}
 use Rattle.rb_history.specs.ConfigLines.{config_json}
-use Rattle.rb_history.specs.OneLine.{ConfigsAreLines}
 use Rattle.rb_journal.specs.Ends.{EndsAs, IsPutOut}
 use Rattle.rb_journal.specs.Run.{AreFirst, IsRunOfTurns}
 use Rattle.rb_journal.specs.Turns.{Turn, texts, to_answer}
@@ -26,11 +24,11 @@ use Rattle.rb_run_site.specs.Openings.{IsToBegin}
 use Rattle.rb_run_site.specs.Runs.{HasAnswered, IsNewOrAnswered}
 use Rattle.rb_run_site.specs.Starts.{IsJournalOf}
 use Rattle.rb_run_site.specs.declared.fault.SiteFault.TheVariants.{Journal as DiskFailed}
-use Rattle.rb_run_site.proofs.EntryLines.{config_is_line}
 use Rattle.rb_run_site.proofs.NewFiles.{closed_new, repaired_new}
 
 -- what a journal is to begin with is whole lines, and with them it is the site's
 pub record Begins (lines : List (List ℕ)) (x : SeenAsked) (first : List ℕ) : Type 0 where
+  pub begin : IsToBegin lines x first
   pub batch : IsBatch first
   pub whole : lines ++ recovered first ≡ journal_of x
 
@@ -39,21 +37,21 @@ no_entries : (lines : List (List ℕ)) (x : SeenAsked) → lines ≡ [] → IsJo
 no_entries lines x none (inl is) = ap (λ (y : SeenAsked). y.asked) is.1
 no_entries lines x none (inr is) = absurd (cc (none, is))
 
--- so it is with what a configured site's journal is still to begin with, if a configuration's line is one line
-pub begins : ConfigsAreLines → (lines : List (List ℕ)) (x : SeenAsked) (first : List ℕ) → IsConfigured x.settings
-    → IsJournalOf lines x
-    → IsToBegin lines x first → Begins lines x first
-begins are lines x first ok of (inl is) =
+-- so it is with what a site's journal is still to begin with, if its configuration's line is a line
+pub begins : (lines : List (List ℕ)) (x : SeenAsked) (first : List ℕ) → IsLine (compact_text (config_json x.settings))
+    → IsJournalOf lines x → IsToBegin lines x first → Begins lines x first
+begins lines x first one of (inl is) =
     let line : List ℕ = compact_text (config_json x.settings) in
-    let one = config_is_line are x.settings ok in
     let none : x.asked ≡ [] = no_entries lines x is.0 of in
     let alone : recovered first ≡ journal_head x.settings ∷ [] = ap recovered is.1 ∙ line_alone line one in
     record {
+      begin = inl is;
       batch = subst IsBatch (sym is.1) (still_lines [] line refl one);
       whole = ap (λ ls. ls ++ recovered first) is.0 ∙ alone
           ∙ ap (λ xs. journal_head x.settings ∷ lines_of_entries x.settings x.me xs) (sym none);
     }
-begins are lines x first ok of (inr is) = record {
+begins lines x first one of (inr is) = record {
+  begin = inr is;
   batch = subst IsBatch (sym is.1) refl;
   whole = ap (λ f. lines ++ recovered f) is.1 ∙ append-nil lines ∙ is.0;
 }
@@ -121,11 +119,11 @@ begun_file all lines x first sends number input output c d is (inr whole) same s
 -- and while what is sent again goes out, no turn is made
 pub begun : (all : Bool) (lines : List (List ℕ)) (x : SeenAsked) (first sends reply : List ℕ) (number : ℕ)
     (input : Option (List ℕ)) (output c d : List ℕ)
-    → Begins lines x first → IsToBegin lines x first → reply ≡ sends → IsDurable lines (recovered first) output reply c d
+    → Begins lines x first → reply ≡ sends → IsDurable lines (recovered first) output reply c d
     → IsAppended lines first c → IsIntact c → IsNewOrAnswered all lines x sends number input output c d
-begun all lines x first sends reply number input output c d is begin same (inl at) appended intact =
-    begun_file all lines x first sends number input output c d is begin at.0 at.1 appended intact
-begun all lines x first sends reply number input output c d is begin same (inr at) appended intact =
+begun all lines x first sends reply number input output c d is same (inl at) appended intact =
+    begun_file all lines x first sends number input output c d is is.begin at.0 at.1 appended intact
+begun all lines x first sends reply number input output c d is same (inr at) appended intact =
     inr (no_turn all x sends number input output c d (at.0 ∙ is.whole) intact (subst (λ l. AddsPrefix output l d) same at.1))
 
 -- turns behind what was sent again

@@ -8,6 +8,7 @@ ghost use Rattle.rb_run_site.specs.Journals.{AddsBadLine, bad_json};
 
 use rb_history::spell;
 use rb_history::write::append::{append_number, append_three};
+use rb_lines::whole_or_none;
 use serde_json::Value;
 use std::alloc::{AllocError, Global};
 
@@ -40,13 +41,7 @@ fn append_whole(
     ensures err { OnErr result (out.new.items ≡ out.old.items) }
 {
     let before = out.len();
-    match append_parts(out, word, number, key, why) {
-        Ok(()) => Ok(()),
-        Err(error) => {
-            out.truncate(before);
-            Err(error)
-        }
-    }
+    whole_or_none(append_parts(out, word, number, key, why), out, before)
 }
 
 /// The reason in quotes, if there is one, and memory for it.

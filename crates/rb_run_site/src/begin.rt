@@ -10,7 +10,8 @@ ghost use Rattle.rb_run_site.specs.Starts.{IsJournalOf};
 
 use crate::fault::SiteFault;
 use crate::opening::{Opened, open_over};
-use rb_history::{BankName, lines_are_single};
+use crate::responder::settings_are_configured;
+use rb_history::BankName;
 use rb_journal::{Host, HostError, Journal, is_sealed};
 use rb_node::Records;
 use std::alloc::Global;
@@ -64,10 +65,7 @@ impl<M: Records> Opened<M> {
             × (d ≡ H.output host))) }
         ensures no_output_fault { IfErr result (λ e. e.0 ≡ HostError.OutputFailed → ⊥) }
     {
-        // For a fact alone: the line of a configuration is a line.
-        lines_are_single();
-        // For a fact alone: the settings are those of a configuration.
-        let _sites = self.responder.node.config().sites();
+        settings_are_configured(&self.responder.node);
         match Journal::open(host, bytes) {
             Ok(mut journal) => match journal.append(&self.first) {
                 Ok(()) => Ok(journal),

@@ -20,9 +20,9 @@ use crate::entries::entries_in;
 use crate::fault::SiteFault;
 use crate::first_line::first_line;
 use crate::replay::{count_lines, replay_all};
-use crate::responder::SiteResponder;
+use crate::responder::{SiteResponder, settings_are_configured};
 use crate::why::{reason_of_config, reason_of_journal};
-use rb_history::{BankName, lines_are_single};
+use rb_history::BankName;
 use rb_journal::damaged_line;
 use rb_lines::{Buffers, Source, ToBytes};
 use rb_node::{Node, OpenFault, Records};
@@ -83,10 +83,7 @@ pub fn replay_file<M: Records>(
         (λ first. OpensFile node.old.site node.new.site bytes.now first.items sends.new.items resend)
         (EndsFile node.old.site bytes.now) }
 {
-    // For a fact alone: the line of a configuration is a line.
-    lines_are_single();
-    // For a fact alone: the settings are those of a configuration.
-    let _sites = node.config().sites();
+    settings_are_configured(node);
     let first = node.config_line()?;
     match entries_in(bytes, &first)? {
         Some(entries) => {

@@ -13,10 +13,8 @@ fn split_line(lines: &[u8]) -> Option<(&[u8], &[u8])>
     requires { IsBatch lines.now }
     ensures { MatchOption result (recovered lines.now ≡ []) (λ split. IsSplit lines.now split.0.now split.1.now) }
 {
-    match first_feed(lines) {
-        Some(n) => Some((&lines[..n], &lines[n + 1..])),
-        None => None,
-    }
+    let n = first_feed(lines)?;
+    Some((&lines[..n], &lines[n + 1..]))
 }
 
 /// How many lines there are.
@@ -52,8 +50,8 @@ fn replay_one<M: Records>(
         Err(EntryFault::WrongReply) => return Err(SiteFault::WrongReply { line: number }),
         Err(EntryFault::OutOfMemory) => return Err(SiteFault::OutOfMemory),
     }
-    if again && node.append_sent(sends).is_err() {
-        return Err(SiteFault::OutOfMemory);
+    if again {
+        node.append_sent(sends)?;
     }
     Ok(())
 }

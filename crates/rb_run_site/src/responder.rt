@@ -3,13 +3,27 @@
 //! The entries of a line are written apart, and then added to the batch at once. If memory for that runs out, the text
 //! of the answer is taken back, so no answer is put out whose entries aren't in the batch.
 ghost use Rattle.std.specs.Prelude.{◌≡◌};
+ghost use Rattle.serde_json.specs.Written.{compact_text};
+ghost use Rattle.rb_money.specs.Settings.{IsConfigured};
+ghost use Rattle.rb_history.specs.ConfigLines.{config_json};
+ghost use Rattle.rb_journal.specs.Lines.{IsLine};
 
 use crate::bad_line::{append_bad_line, append_long_line};
 use rb_history::{LineFault, lines_are_single, read_events_fit};
 use rb_journal::{JournaledResponder, LineBatch};
+use rb_lines::whole_or_none;
 use rb_node::{Node, Records};
 use rb_reasons::reason_at_site;
 use std::alloc::{AllocError, Global};
+
+/// For facts alone: a site's settings are those of a configuration, and its line is a line of a journal.
+pub fn settings_are_configured<M: Records>(node: &Node<M>)
+    ensures configured { IsConfigured node.now.site.settings }
+    ensures line { IsLine (compact_text (config_json node.now.site.settings)) }
+{
+    lines_are_single();
+    let _sites = node.config().sites();
+}
 
 /// A site whose history is in a journal.
 pub struct SiteResponder<M: Records> {
@@ -60,11 +74,10 @@ impl<M: Records> JournaledResponder for SiteResponder<M> {
         batch: &mut LineBatch,
         text: &mut Vec<u8>,
     ) -> Result<(), AllocError> {
+        settings_are_configured(&self.node);
         // For a fact alone: lines of entries are lines if the id that was read is one.
         lines_are_single();
         read_events_fit();
-        // For a fact alone: the settings are those of a configuration.
-        let _sites = self.node.config().sites();
         let before = text.len();
         self.entries.clear();
         match self.node.answer(line, text, &mut self.entries) {
@@ -75,18 +88,11 @@ impl<M: Records> JournaledResponder for SiteResponder<M> {
             }
             Err(LineFault::OutOfMemory) => return Err(AllocError),
         }
-        match batch.extend(&self.entries) {
-            Ok(()) => Ok(()),
-            Err(error) => {
-                text.truncate(before);
-                Err(error)
-            }
-        }
+        whole_or_none(batch.extend(&self.entries), text, before)
     }
 
     fn answer_long(&mut self, number: u64, text: &mut Vec<u8>) -> Result<(), AllocError> {
-        // For a fact alone: the settings are those of a configuration.
-        let _sites = self.node.config().sites();
+        settings_are_configured(&self.node);
         append_long_line(text, number)
     }
 }

@@ -22,7 +22,8 @@ ghost use Rattle.rb_run_site.specs.declared.fault.SiteFault.TheVariants.{Sealed,
 
 use crate::fault::SiteFault;
 use crate::opening::{Opened, open_site};
-use rb_history::{BankName, lines_are_single};
+use crate::responder::settings_are_configured;
+use rb_history::BankName;
 use rb_journal::{Host, Journal, ServeFault, is_sealed, serve};
 use rb_lines::{Buffers, Source};
 use rb_node::Records;
@@ -67,10 +68,7 @@ fn go_on<S: Source, H: Host, M: Records>(
         opened.old.responder.node.site (journal_of opened.old.responder.node.site) }
     ensures calls { S.calls reader.new ≤ MOST_READS }
 {
-    // For a fact alone: the line of a configuration is a line.
-    lines_are_single();
-    // For a fact alone: the settings are those of a configuration.
-    let _sites = opened.responder.node.config().sites();
+    settings_are_configured(&opened.responder.node);
     journal.commit_and_put_out(&opened.first, &opened.sends)?;
     // All that was sent again is given back before the first read of events.
     opened.sends = Vec::new(alloc);

@@ -29,7 +29,7 @@ fn replay_alone(
     let mut reader = FromBytes::new(&bytes[..end_of_lines(bytes)]);
     let mut buffers = Buffers::new(alloc);
     let bank = BankName::none(alloc);
-    match open_site::<FromBytes, AllEvents>(
+    let (opened, _number) = open_site::<FromBytes, AllEvents>(
         alloc,
         &mut buffers,
         &mut reader,
@@ -38,13 +38,9 @@ fn replay_alone(
         bank,
         0,
         why,
-    ) {
-        Ok((opened, _number)) => {
-            opened.close();
-            Ok(())
-        }
-        Err(fault) => Err(fault),
-    }
+    )?;
+    opened.close();
+    Ok(())
 }
 
 /// Opens a journal that has a line and isn't damaged, whose file's bytes these are, and seals it.
@@ -64,10 +60,7 @@ fn seal_file<H: Host>(host: H, bytes: &[u8]) -> Result<H, (HostError, H)>
         (IsSealRun bytes.now (H.output host))) }
     ensures cause { IfErr result (λ e. IsDiskError (H.faults host) (H.faults e.1) e.0) }
 {
-    match Journal::open(host, bytes) {
-        Ok(journal) => journal.seal(),
-        Err(stopped) => Err(stopped),
-    }
+    Journal::open(host, bytes)?.seal()
 }
 
 /// Seals the journal of site `me`, over the file of the host, whose bytes these are: no later run goes on with it. No

@@ -1,21 +1,20 @@
 use Rattle.std.proofs.Common.{◌≡◌, ◌-◌, ◌∙◌, sym, subst}
 use Rattle.serde_json.specs.Written.{compact_text}
-use Rattle.rb_money.specs.Settings.{IsConfigured}
 use Rattle.rb_history.specs.ConfigLines.{config_json}
 use Rattle.rb_journal.specs.Lines.{recovered}
 use Rattle.rb_run_site.specs.Files.{BeginsWith}
 use Rattle.rb_run_site.specs.Journals.{journal_head}
 use Rattle.rb_run_site.specs.Openings.{OpensFile}
 use Rattle.rb_run_site.specs.Replays.{ReplaysLines}
-use Rattle.rb_run_site.proofs.EntryLines.{config_is_line}
 use Rattle.rb_run_site.proofs.OpenedFiles.{replayed_file}
 use Rattle.rb_run_site.proofs.opening.replay_file.Goals as goal
 
 pub entries_in-requires : goal.entries_in-requires
-entries_in-requires g c =
-    let s = c.args.node.now.site.settings in
-    let ok = subst IsConfigured c.config.ensures c.sites-sites.ensures.configured in
-    (compact_text (config_json s), config_is_line c.lines_are_single.ensures.configs s ok, c.deref.ensures.value ∙ c.in_ok-first.ensures)
+entries_in-requires g c = (
+  compact_text (config_json c.args.node.now.site.settings),
+  c.settings_are_configured.ensures.line,
+  c.deref.ensures.value ∙ c.in_ok-first.ensures,
+)
 
 pub returns-in-Some : goal.returns-in-Some
 returns-in-Some g c =

@@ -1,6 +1,5 @@
 -- A site's file is repaired, and its journal begins.
 use Rattle.std.proofs.Common.{◌≡◌, ◌∙◌, ◌++◌, ⊎_elim, inl, inr, sym, ap, subst}
-use Rattle.rb_money.specs.Settings.{IsConfigured}
 use Rattle.rb_journal.specs.Alone.{AreEither}
 use Rattle.rb_journal.specs.Host.{LeavesOnly}
 use Rattle.rb_journal.specs.Journal.{IsBeforeOrAfter, IsLeftAs}
@@ -8,30 +7,27 @@ use Rattle.rb_journal.specs.Lines.{recovered}
 use Rattle.rb_journal.proofs.Public.Moments.{runs_on, weaker}
 use Rattle.rb_run_site.specs.Journals.{journal_of}
 use Rattle.rb_run_site.specs.Openings.{IsToBegin}
-use Rattle.rb_run_site.proofs.Going.{begins}
+use Rattle.rb_run_site.proofs.Going.{Begins, begins}
 use Rattle.rb_run_site.proofs.opening.Opened.begin.Given.{Over}
-use Rattle.rb_run_site.proofs.opening.Opened.begin.Goals.{After-append}
+use Rattle.rb_run_site.proofs.opening.Opened.begin.Goals.{After-append, After-deref}
 use Rattle.rb_run_site.proofs.opening.Opened.begin.Goals as goal
 
-pub append-requires-clause-lines : goal.append-requires-clause-lines
-append-requires-clause-lines g c =
+-- what the journal is to begin with makes it the site's
+adds : (g : Over) (c : After-deref g) → Begins (recovered c.args.bytes.now) c.args.self.now.responder.node.site c.deref.result.now
+adds g c =
     let x = c.args.self.now.responder.node.site in
     let lines = recovered c.args.bytes.now in
-    let is = begins c.lines_are_single.ensures.configs lines x c.deref.result.now
-    (subst IsConfigured c.config.ensures c.sites-sites.ensures.configured)
-    c.requires.journal (subst (λ f. IsToBegin lines x f) (sym c.deref.ensures.value) c.requires.begins) in
-    is.batch
+    begins lines x c.deref.result.now c.settings_are_configured.ensures.line c.requires.journal
+    (subst (λ f. IsToBegin lines x f) (sym c.deref.ensures.value) c.requires.begins)
 
--- what is added makes the file's lines those of the site's journal
+pub append-requires-clause-lines : goal.append-requires-clause-lines
+append-requires-clause-lines g c = (adds g (goal.at.append-requires-clause-lines g c).After-deref).batch
+
+-- so it is once that is added
 whole : (g : Over) (c : After-append g) → recovered (g.H.Host.content c.in-Ok.journal.host) ++ recovered c.deref.result.now
     ≡ journal_of c.args.self.now.responder.node.site
 whole g c =
-    let x = c.args.self.now.responder.node.site in
-    let lines = recovered c.args.bytes.now in
-    let is = begins c.lines_are_single.ensures.configs lines x c.deref.result.now
-    (subst IsConfigured c.config.ensures c.sites-sites.ensures.configured)
-    c.requires.journal (subst (λ f. IsToBegin lines x f) (sym c.deref.ensures.value) c.requires.begins) in
-    ap (λ ls. ls ++ recovered c.deref.result.now) c.in-Ok.ensures.lines ∙ is.whole
+    ap (λ ls. ls ++ recovered c.deref.result.now) c.in-Ok.ensures.lines ∙ (adds g (goal.at.After-append g c).After-deref).whole
 
 -- a crash leaves the lines from before, or the journal's
 moments : (g : Over) (c : After-append g) → LeavesOnly g.H.Host.moment g.H.Host.left_since c.args.host c.append.new.self.host
