@@ -17,23 +17,27 @@ use Rattle.rb_run_site.proofs.Going.{from_same, only_journal, opened}
 use Rattle.rb_run_site.proofs.Stopped.{never_read, not_begun, only_disk, stopped}
 use Rattle.rb_journal.proofs.Public.Moments.{both as two, runs_on, weaker}
 use Rattle.rb_run_site.proofs.run.run_opened.Given.{Over}
-use Rattle.rb_run_site.proofs.run.run_opened.Goals.{After-go_on-ended, After-from-in-Err-2}
+use Rattle.rb_run_site.proofs.run.run_opened.Goals.{After-deref, After-from-in-Err-2, After-go_on-ended}
 use Rattle.rb_run_site.proofs.run.run_opened.Goals as goal
 
 -- while the file is opened, a crash leaves a new journal, or the site's
-over_file : (g : Over) (c : After-go_on-ended g) → LeavesOnly g.H.Host.moment g.H.Host.left_since c.args.host c.in-Ok.journal.host
+over_file : (g : Over) (c : After-deref g) (new : _) → LeavesOnly g.H.Host.moment g.H.Host.left_since c.args.host new
+    (IsLeftAs (recovered c.deref.result.now) (g.H.Host.output c.args.host))
+    → LeavesOnly g.H.Host.moment g.H.Host.left_since c.args.host new
+    (λ e _. IsRepaired c.deref.result.now e × (IsIntact c.deref.result.now → IsIntact e))
+    → LeavesOnly g.H.Host.moment g.H.Host.left_since c.args.host new
     (IsNewOrAnswered g.M.Records.ALL (recovered c.args.bytes.items) c.args.opened.responder.node.site c.args.opened.sends.items
     c.args.number (served_input c.args.buffers.now.pending (g.S.Source.remaining c.args.reader.now)) (g.H.Host.output c.args.host))
-over_file g c =
+over_file g c new left repaired =
     let host = g.H.Host in
     let was = c.args.host in
-    let file = c.args.bytes.items in
-    let both = subst (λ f. LeavesOnly host.moment host.left_since was c.in-Ok.journal.host
+    let of = c.args.opened in
+    let both = subst (λ f. LeavesOnly host.moment host.left_since was new
     (λ e d. IsLeftAs (recovered f) (host.output was) e d × (IsRepaired f e × (IsIntact f → IsIntact e)))) c.deref.ensures.value
-    (two host.moment host.left_since was c.in-Ok.journal.host _ _ c.in-Ok.ensures.any_moment c.in-Ok.ensures.repaired) in
-    weaker host.moment host.left_since was c.in-Ok.journal.host _ _ both
-    (λ e d at. opened g.M.Records.ALL file c.args.opened.responder.node.site c.args.opened.first.items
-    c.args.opened.sends.items _ _ (host.output was) e d c.requires.begins c.requires.undamaged at.0 at.1.0 at.1.1)
+    (two host.moment host.left_since was new _ _ left repaired) in
+    weaker host.moment host.left_since was new _ _ both
+    (λ e d at. opened g.M.Records.ALL c.args.bytes.items of.responder.node.site of.first.items of.sends.items _ _ (host.output was) e d
+    c.requires.begins c.requires.undamaged at.0 at.1.0 at.1.1)
 
 -- a crash leaves a new journal, or the site's with some of the lines answered
 run : (g : Over) (c : After-go_on-ended g) → LeavesOnly g.H.Host.moment g.H.Host.left_since c.args.host
@@ -42,7 +46,9 @@ run : (g : Over) (c : After-go_on-ended g) → LeavesOnly g.H.Host.moment g.H.Ho
     c.args.number (served_input c.args.buffers.now.pending (g.S.Source.remaining c.args.reader.now)) (g.H.Host.output c.args.host))
 run g c =
     let host = g.H.Host in
-    runs_on host.moment host.left_since _ c.in-Ok.journal.host _ _ _ (over_file g c) c.go_on-ended.ensures.any_moment
+    runs_on host.moment host.left_since _ c.in-Ok.journal.host _ _ _
+    (over_file g (goal.at.After-go_on-ended g c).After-deref _ c.in-Ok.ensures.any_moment c.in-Ok.ensures.repaired)
+    c.go_on-ended.ensures.any_moment
     (λ f d run. from_same g.M.Records.ALL _ _ _ _ _ _ _ _ f d
     (c.in-Ok.ensures.lines ∙ ap recovered c.deref.ensures.value) c.in-Ok.ensures.output run)
 
@@ -110,18 +116,7 @@ returns-in-Err-clause-ended g c =
 
 pub returns-in-Err-clause-any_moment : goal.returns-in-Err-clause-any_moment
 returns-in-Err-clause-any_moment g c =
-    let host = g.H.Host in
-    let was = c.args.host in
-    let file = c.args.bytes.items in
-    let of = c.args.opened in
-    let input = served_input c.args.buffers.now.pending (g.S.Source.remaining c.args.reader.now) in
-    let both = subst (λ f. LeavesOnly host.moment host.left_since was c.in-Err.host
-    (λ e d. IsLeftAs (recovered f) (host.output was) e d × (IsRepaired f e × (IsIntact f → IsIntact e)))) c.deref.ensures.value
-    (two host.moment host.left_since was c.in-Err.host _ _ c.in-Err.ensures.any_moment_err c.in-Err.ensures.repaired_err) in
-    weaker host.moment host.left_since was c.in-Err.host _
-    (IsNewOrAnswered g.M.Records.ALL (recovered file) of.responder.node.site of.sends.items c.args.number input (host.output was)) both
-    (λ e d at. opened g.M.Records.ALL file of.responder.node.site of.first.items of.sends.items c.args.number input (host.output was) e d
-    c.requires.begins c.requires.undamaged at.0 at.1.0 at.1.1)
+    over_file g (goal.at.returns-in-Err-clause-any_moment g c).After-deref _ c.in-Err.ensures.any_moment_err c.in-Err.ensures.repaired_err
 
 pub returns-in-Err-clause-read : goal.returns-in-Err-clause-read
 returns-in-Err-clause-read g c = λ failed.

@@ -45,12 +45,14 @@ run g c =
     c.in-Ok.opened.sends.items (opens g c) is.2)
 
 -- a crash before the run leaves the file and the output as they were
-still : (g : Over) (c : After-is_sealed g) (f d : List ℕ)
-    → g.H.Host.left_since c.args.host (g.H.Host.moment c.args.host) f d
-    → (f ≡ c.args.bytes.items) × (d ≡ g.H.Host.output c.args.host)
-still g c f d left =
-    let now = g.met.H.Host.only_now c.args.host f d left in
-    (c.requires.durable now.0 f now.1 ∙ sym c.requires.bytes, now.2)
+still : (g : Over) (c : After-is_sealed g) (P : List ℕ → List ℕ → Type 0) → P c.args.bytes.items (g.H.Host.output c.args.host)
+    → LeavesOnly g.H.Host.moment g.H.Host.left_since c.args.host c.args.host P
+still g c P now =
+    let host = g.H.Host in
+    started host.moment host.left_since c.args.host P
+    (λ f d left. let only = g.met.H.Host.only_now c.args.host f d left in
+    subst (λ e. P e d) (sym (c.requires.durable only.0 f only.1 ∙ sym c.requires.bytes))
+    (subst (P c.args.bytes.items) (sym only.2) now))
 
 pub returns-in-Ok-clause-ended : goal.returns-in-Ok-clause-ended
 returns-in-Ok-clause-ended g c =
@@ -121,32 +123,16 @@ returns-in-Err-clause-ended g c =
 
 pub returns-in-Err-clause-any_moment : goal.returns-in-Err-clause-any_moment
 returns-in-Err-clause-any_moment g c =
-    let host = g.H.Host in
-    let input = g.S.Source.remaining c.args.reader.now in
-    started host.moment host.left_since c.args.host
-    (IsSiteRun (run_of g.M.Records.ALL c.args.me c.args.bank c.args.resend input) (found c.args.bytes.items (host.output c.args.host)))
-    (λ f d left. inl (inl (still g (goal.at.returns-in-Err-clause-any_moment g c).After-is_sealed f d left)))
+    still g (goal.at.returns-in-Err-clause-any_moment g c).After-is_sealed _ (inl (inl (refl, refl)))
 
 pub returns-in-Err-clause-steps : goal.returns-in-Err-clause-steps
 returns-in-Err-clause-steps g c =
-    let host = g.H.Host in
-    let input = g.S.Source.remaining c.args.reader.now in
-    started host.moment host.left_since c.args.host
-    (IsRunOfSteps (run_of g.M.Records.ALL c.args.me c.args.bank c.args.resend input) (found c.args.bytes.items (host.output c.args.host)))
-    (λ f d left. inl (inl (still g (goal.at.returns-in-Err-clause-steps g c).After-is_sealed f d left)))
+    still g (goal.at.returns-in-Err-clause-steps g c).After-is_sealed _ (inl (inl (refl, refl)))
 
 pub returns-then-is_sealed-clause-any_moment : goal.returns-then-is_sealed-clause-any_moment
 returns-then-is_sealed-clause-any_moment g c =
-    let host = g.H.Host in
-    let input = g.S.Source.remaining c.args.reader.now in
-    started host.moment host.left_since c.args.host
-    (IsSiteRun (run_of g.M.Records.ALL c.args.me c.args.bank c.args.resend input) (found c.args.bytes.items (host.output c.args.host)))
-    (λ f d left. inl (inl (still g (goal.at.returns-then-is_sealed-clause-any_moment g c).After-is_sealed f d left)))
+    still g (goal.at.returns-then-is_sealed-clause-any_moment g c).After-is_sealed _ (inl (inl (refl, refl)))
 
 pub returns-then-is_sealed-clause-steps : goal.returns-then-is_sealed-clause-steps
 returns-then-is_sealed-clause-steps g c =
-    let host = g.H.Host in
-    let input = g.S.Source.remaining c.args.reader.now in
-    started host.moment host.left_since c.args.host
-    (IsRunOfSteps (run_of g.M.Records.ALL c.args.me c.args.bank c.args.resend input) (found c.args.bytes.items (host.output c.args.host)))
-    (λ f d left. inl (inl (still g (goal.at.returns-then-is_sealed-clause-steps g c).After-is_sealed f d left)))
+    still g (goal.at.returns-then-is_sealed-clause-steps g c).After-is_sealed _ (inl (inl (refl, refl)))
