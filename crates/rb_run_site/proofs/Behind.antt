@@ -14,9 +14,8 @@ use Rattle.rb_run_site.specs.Openings.{OpensSite}
 use Rattle.rb_run_site.specs.Runs.{AreBytesBehind, Found, HasAnswered, IsNewOrAnswered, IsSiteRun, SiteRun}
 use Rattle.rb_run_site.specs.Starts.{IsBehind, Starts, WaitsBehind}
 use Rattle.rb_run_site.specs.declared.fault.SiteFault.{SiteFault}
-use Rattle.rb_run_site.specs.declared.fault.SiteFault.TheVariants.{NoConfig, BadConfig, NoSite, AnotherJournal, BadEntry, WrongReply}
-use Rattle.rb_run_site.specs.declared.fault.SiteFault.TheVariants.{Damaged, NoJournal, JournalThere, InUse, Sealed}
-use Rattle.rb_run_site.specs.declared.fault.SiteFault.TheVariants.{LongLine, Read, Write, Journal, OutOfMemory}
+use Rattle.rb_run_site.specs.declared.fault.SiteFault.TheVariants.{NoJournal, JournalThere, InUse}
+use Rattle.rb_run_site.specs.declared.fault.SiteFault.TheVariants.{Read, Write, Journal, OutOfMemory}
 
 -- the bytes behind the configuration's line are what waits and what is still to be read
 pub behind_known : (input : Option (List ℕ)) (config : List ℕ) (number : ℕ) (pending : List ℕ) (left : Option (List ℕ))
@@ -89,36 +88,21 @@ module _ (run : SiteRun) (old : Found) (number : ℕ) (left : Option (List ℕ))
 pub ran : (A B : Result ℕ ServeFault → Type 0) (stops : SiteFault → Type 0) (r : Result ℕ SiteFault)
     → ((e : Result ℕ ServeFault) → A e → B e) → RunsTo A (λ _. ⊥) r → RunsTo B stops r
 ran A B stops (Ok n) so a = so (Ok n) a
-ran A B stops (Err (LongLine k)) so a = absurd a
 ran A B stops (Err Read) so (inl a) = inl (so _ a)
 ran A B stops (Err Read) so (inr none) = absurd none
-ran A B stops (Err NoConfig) so a = absurd a
-ran A B stops (Err (BadConfig k)) so a = absurd a
-ran A B stops (Err NoSite) so a = absurd a
-ran A B stops (Err AnotherJournal) so a = absurd a
-ran A B stops (Err (BadEntry k)) so a = absurd a
-ran A B stops (Err (WrongReply k)) so a = absurd a
-ran A B stops (Err (Damaged k)) so a = absurd a
-ran A B stops (Err Sealed) so a = absurd a
 ran A B stops (Err Write) so a = tt
 ran A B stops (Err Journal) so a = tt
 ran A B stops (Err OutOfMemory) so a = tt
-ran A B stops (Err NoJournal) so a = absurd a
-ran A B stops (Err JournalThere) so a = absurd a
-ran A B stops (Err InUse) so a = absurd a
+ran A B stops (Err _) so a = absurd a
 
 -- a run that stopped in the opening
 pub stopped_there : (A : Result ℕ ServeFault → Type 0) (stops : SiteFault → Type 0) (fault : SiteFault) → IsOpeningFault fault → stops fault
     → RunsTo A stops (Err fault)
-stopped_there A stops NoConfig is at = at
-stopped_there A stops (BadConfig k) is at = at
-stopped_there A stops NoSite is at = at
-stopped_there A stops AnotherJournal is at = at
-stopped_there A stops (BadEntry k) is at = at
-stopped_there A stops (WrongReply k) is at = at
-stopped_there A stops (Damaged k) is at = at
-stopped_there A stops Sealed is at = at
-stopped_there A stops (LongLine k) is at = at
 stopped_there A stops Read is at = inr at
 stopped_there A stops OutOfMemory is at = tt
-stopped_there A stops _ is at = absurd is
+stopped_there A stops Write is at = tt
+stopped_there A stops Journal is at = tt
+stopped_there A stops NoJournal is at = absurd is
+stopped_there A stops JournalThere is at = absurd is
+stopped_there A stops InUse is at = absurd is
+stopped_there A stops _ is at = at

@@ -10,7 +10,7 @@ use Rattle.rb_lines.specs.declared.limits.TheConstants.{LINE_LIMIT}
 use Rattle.rb_lines.proofs.Public.LongLines.{long_line}
 use Rattle.rb_lines.proofs.Public.Walks.{Walks}
 use Rattle.rb_lines.proofs.Public.Walks as walk
-use Rattle.rb_run_site.specs.declared.fault.SiteFault.TheVariants.{NoConfig, LongLine, Read, OutOfMemory}
+use Rattle.rb_run_site.specs.declared.fault.SiteFault.TheVariants.{NoConfig, LongLine, Read}
 use Rattle.rb_run_site.specs.FirstLines.{FindsFirst, not_blank}
 
 -- blank lines were taken, and the next line has this number
@@ -123,8 +123,3 @@ known_stop (Some all) (Some x) n p e f going none = record {
   whole = f.walks.bytes;
   are_blank = ap not_blank (walk.at_rest all f.done p x e f.walks going none) ∙ f.are_blank;
 }
-
--- there was no memory
-pub known_out_of_memory : (a b : Option (List ℕ)) (p : List ℕ) → IfSome a (λ input. FindsFirst (Err OutOfMemory) input p b)
-known_out_of_memory None b p = tt
-known_out_of_memory (Some all) b p = tt

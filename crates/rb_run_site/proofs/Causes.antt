@@ -46,15 +46,8 @@ module _ (me : ℕ) (bank : List ℕ) (input left : Option (List ℕ)) (file : L
   pub node_cause : (why : SiteFault) → EndsNode line number me why → IsOpeningCause me bank input left file why
   node_cause (BadConfig n) ends = record { number = number; line = line; first = first; holds = ends }
   node_cause NoSite ends = record { number = number; line = line; first = first; holds = ends }
-  node_cause NoConfig ends = absurd ends
-  node_cause AnotherJournal ends = absurd ends
-  node_cause (BadEntry n) ends = absurd ends
-  node_cause (WrongReply n) ends = absurd ends
-  node_cause (Damaged n) ends = absurd ends
-  node_cause Sealed ends = absurd ends
-  node_cause (LongLine n) ends = absurd ends
-  node_cause Read ends = absurd ends
-  node_cause _ ends = tt
+  node_cause OutOfMemory ends = tt
+  node_cause _ ends = absurd ends
 
   -- the file isn't replayed
   pub file_cause : (why : SiteFault) → EndsOpening me bank file why number line → IsOpeningCause me bank input left file why
@@ -63,12 +56,8 @@ module _ (me : ℕ) (bank : List ℕ) (input left : Option (List ℕ)) (file : L
   file_cause (WrongReply n) ends = record { number = number; line = line; first = first; holds = ends }
   file_cause (Damaged n) ends = record { number = number; line = line; first = first; holds = ends }
   file_cause Sealed ends = ends.3
-  file_cause NoConfig ends = absurd ends.3
-  file_cause (BadConfig n) ends = absurd ends.3
-  file_cause NoSite ends = absurd ends.3
-  file_cause (LongLine n) ends = absurd ends.3
-  file_cause Read ends = absurd ends.3
-  file_cause _ ends = tt
+  file_cause OutOfMemory ends = tt
+  file_cause _ ends = absurd ends.3
 
   -- the line is at fault, or the file
   pub over_cause : (why : SiteFault) → EndsOver me bank file number line why → IsOpeningCause me bank input left file why

@@ -24,7 +24,7 @@ use Rattle.rb_reasons.specs.Reasons.{IsPlain}
 use Rattle.rb_node.specs.Answers.{IsKnownAnswer, IsOtherBankAnswer, IsSiteAnswer, asked_event_on, line_of, other_bank_on}
 use Rattle.rb_node.specs.Asked.{SeenAsked, with_id, with_more}
 use Rattle.rb_node.specs.LineAnswers.{IsLineAnswer, IsQuestionAnswer, question_on}
-use Rattle.rb_run_site.specs.Journals.{HasNoReason, IsAnswer, IsBadAnswer, MayHaveReason, SiteAnswers}
+use Rattle.rb_run_site.specs.Journals.{IsAnswer, IsBadAnswer, MayHaveReason, SiteAnswers}
 use Rattle.rb_run_site.specs.Journals.{bad_json, journal_head, journal_of, lines_of_entries}
 use Rattle.rb_run_site.proofs.EntryLines.{are_theirs, fed, ids_had, joined_lines}
 
@@ -140,28 +140,6 @@ module _ (all : Bool) (old new : SeenAsked) (number : ℕ) (line words entries t
   turned are fit (inr (inr (inr a))) =
       same_turned a.after a.entries_are (λ none. inr (inr (inr (subst (IsOtherBankAnswer old new line words) none a))))
 
--- the site answered that a line is bad, with this reason: it is a turn that changes nothing
-not_taken : (all : Bool) (old new : SeenAsked) (number : ℕ) (word : List ℕ) (may_be : Option (List ℕ) → Type 0)
-    (why : Option (List ℕ)) (line text text_after : List ℕ) (batch batch_after : List (List ℕ)) → IsConfigured old.settings
-    → may_be why → (IsBadAnswer word may_be old new number [] (line_of (bad_json word number why))
-    → IsAnswer all (is_long line) old number line [] (line_of (bad_json word number why)) new)
-    → new ≡ old → text_after ≡ text ++ line_of (bad_json word number why) → batch_after ≡ batch
-    → IsTurn (SiteAnswers all) old new (journal_of old) (journal_of new) batch batch_after number line text text_after
-not_taken all old new number word may_be why line text text_after batch batch_after ok reason is same said kept =
-    let grown : journal_of new ≡ journal_of old ++ [] = ap journal_of same ∙ sym (append-nil (journal_of old)) in
-    record {
-      added = [];
-      words = line_of (bad_json word number why);
-      answered = record {
-        configured = ok;
-        answered = is (record { why = why; reason = reason; text_is = refl; same = same; none = refl });
-        after = grown;
-      };
-      lines_are = grown;
-      batch_is = kept ∙ sym (append-nil batch);
-      text_is = said;
-    }
-
 -- the answer has the reason that there is, which is plain, or none
 pub may_have : {S : Type 0} (bytes : S → List ℕ) (why : Option S) (said : Option (List ℕ)) → IfSome why (λ s. IsPlain (bytes s))
     → (said ≡ option_map bytes why) ⊎ (said ≡ None) → MayHaveReason said
@@ -169,7 +147,7 @@ may_have bytes (Some s) said plain (inl is) = subst MayHaveReason (sym is) plain
 may_have bytes None said plain (inl is) = subst MayHaveReason (sym is) tt
 may_have bytes why said plain (inr is) = subst MayHaveReason (sym is) tt
 
--- the line is no event, no question and of no other bank
+-- the line is no event, no question and of no other bank: it is a turn that changes nothing
 pub bad_line : (all : Bool) (old new : SeenAsked) (number : ℕ) (why : Option (List ℕ)) (line text text_after : List ℕ)
     (batch batch_after : List (List ℕ)) → IsConfigured old.settings → MayHaveReason why
     → is_long line ≡ false → asked_event_on old.settings old.bank line ≡ None
@@ -177,17 +155,19 @@ pub bad_line : (all : Bool) (old new : SeenAsked) (number : ℕ) (why : Option (
     → text_after ≡ text ++ line_of (bad_json (codes "line") number why) → batch_after ≡ batch
     → IsTurn (SiteAnswers all) old new (journal_of old) (journal_of new) batch batch_after number line text text_after
 bad_line all old new number why line text text_after batch batch_after ok reason short none own unasked same said kept =
-    not_taken all old new number (codes "line") MayHaveReason why line text text_after batch batch_after ok reason
-    (λ bad. subst (λ b. IsAnswer all b old number line [] (line_of (bad_json (codes "line") number why)) new)
-    (sym short) (inr (none, own, unasked, bad)))
-    same said kept
-
--- the line is too long
-pub long_line : (all : Bool) (old new : SeenAsked) (number : ℕ) (line text text_after : List ℕ) (batch : List (List ℕ))
-    → IsConfigured old.settings
-    → is_long line ≡ true → new ≡ old → text_after ≡ text ++ line_of (bad_json (codes "long") number None)
-    → IsTurn (SiteAnswers all) old new (journal_of old) (journal_of new) batch batch number line text text_after
-long_line all old new number line text text_after batch ok long same said =
-    not_taken all old new number (codes "long") HasNoReason None line text text_after batch batch ok refl
-    (λ bad. subst (λ b. IsAnswer all b old number line [] (line_of (bad_json (codes "long") number None)) new) (sym long) bad)
-    same said refl
+    let words = line_of (bad_json (codes "line") number why) in
+    let grown : journal_of new ≡ journal_of old ++ [] = ap journal_of same ∙ sym (append-nil (journal_of old)) in
+    let bad : IsBadAnswer (codes "line") MayHaveReason old new number [] words =
+    record { why = why; reason = reason; text_is = refl; same = same; none = refl } in
+    record {
+      added = [];
+      words = words;
+      answered = record {
+        configured = ok;
+        answered = subst (λ b. IsAnswer all b old number line [] words new) (sym short) (inr (none, own, unasked, bad));
+        after = grown;
+      };
+      lines_are = grown;
+      batch_is = kept ∙ sym (append-nil batch);
+      text_is = said;
+    }

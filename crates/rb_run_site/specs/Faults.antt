@@ -18,22 +18,12 @@ fault_of_serve NoMemory = OutOfMemory
 -- a fault that is found before the file is changed: of the configuration, of the journal's lines, of a read, or of
 -- memory
 abbrev pub IsOpeningFault : SiteFault → Type 0
-IsOpeningFault NoConfig = Unit {0}
-IsOpeningFault (BadConfig n) = Unit {0}
-IsOpeningFault NoSite = Unit {0}
-IsOpeningFault AnotherJournal = Unit {0}
-IsOpeningFault (BadEntry n) = Unit {0}
-IsOpeningFault (WrongReply n) = Unit {0}
-IsOpeningFault (Damaged n) = Unit {0}
-IsOpeningFault Sealed = Unit {0}
-IsOpeningFault (LongLine n) = Unit {0}
-IsOpeningFault Read = Unit {0}
-IsOpeningFault OutOfMemory = Unit {0}
 IsOpeningFault NoJournal = ⊥
 IsOpeningFault JournalThere = ⊥
 IsOpeningFault InUse = ⊥
 IsOpeningFault Write = ⊥
 IsOpeningFault Journal = ⊥
+IsOpeningFault _ = Unit {0}
 
 -- a fault of finding the input's first line, or of memory
 abbrev pub IsFirstLineFault : SiteFault → Type 0

@@ -109,21 +109,8 @@ pub fn site_status(fault: SiteFault) -> u8
     ensures { result ≡ site_status_of fault }
 {
     match fault {
-        SiteFault::NoConfig => 2,
-        SiteFault::BadConfig { line: _ } => 2,
-        SiteFault::NoSite => 2,
-        SiteFault::AnotherJournal => 2,
-        SiteFault::BadEntry { line: _ } => 2,
-        SiteFault::WrongReply { line: _ } => 2,
-        SiteFault::Damaged { line: _ } => 2,
-        SiteFault::NoJournal => 2,
-        SiteFault::JournalThere => 2,
-        SiteFault::InUse => 2,
-        SiteFault::Sealed => 2,
-        SiteFault::LongLine { line: _ } => 2,
-        SiteFault::Read => 3,
-        SiteFault::Write => 3,
-        SiteFault::Journal => 3,
+        SiteFault::Read | SiteFault::Write | SiteFault::Journal => 3,
         SiteFault::OutOfMemory => 4,
+        _ => 2,
     }
 }
