@@ -1,5 +1,5 @@
 -- When histories are made of receipts.
-use Rattle.std.specs.Prelude.{◌≡◌, ℕ, ◌+◌, ◌<◌, ◌≤◌, ◌^◌, List, [], ◌∷◌, All, ◌==◌, if◌then◌else◌, Some, map, length}
+use Rattle.std.specs.Prelude.{◌≡◌, ◌≢◌, ℕ, ◌+◌, ◌<◌, ◌≤◌, ◌^◌, List, [], ◌∷◌, All, ◌==◌, if◌then◌else◌, Some, map, length}
 use Rattle.std.specs.Prelude.{slice_get, slice_set, sum_by, vec_len, Bool, Err, IsTrue, OnOk, Result}
 use Rattle.rb_money.specs.Settings.{Settings}
 use Rattle.rb_money.specs.declared.limits.TheConstants.{MOST_SITES}
@@ -128,3 +128,13 @@ LooksSo reports seats b k found =
     × ((s : ℕ) → found ≡ Err (Missing s)
     → (s ≡ k) × (r.me ≡ k) × IsTrue b × (receipts_at s seats < vec_len r.history))
     × ((s : ℕ) → found ≡ Err (Mixed s) → (s ≡ k) × ¬ IsGathered s r.history.items seats)
+
+-- a fault that closed sites of this configuration explain, beside the seats that were given back: it is of the first
+-- site at fault, and if every seat was given back, none is missing
+pub record IsGatherFault (s : Settings) (seats : List SeenSeat) (fault : GatherFault) : Type 0 where
+  pub closed : SeenClosed
+  pub all : length closed.reports ≡ s.sites
+  pub replayed : All (IsClosedReport s) closed.reports
+  pub explains : Explains closed.reports seats fault
+  pub first : IsFirst closed.reports seats fault
+  pub every : length seats ≡ closed.seats → (site : ℕ) → fault ≢ Missing site

@@ -104,6 +104,19 @@ pub record IsCall (s : Settings) (event : Event) (before now : SeenSeat) (number
 abbrev pub CannotRecord : SeenSite → SeenSeat → Type 0
 CannotRecord desk seat = (seat.site ≢ desk.me) ⊎ ((is_full desk.settings (state_of desk) ≡ true) ⊎ (MOST_RECEIPTS ≤ length seat.receipts))
 
+-- it holds of a site of the configuration, whose history replays and is within its limit
+pub record AtDesk (s : Settings) (P : SeenSite → Type 0) : Type 0 where
+  pub desk : SeenSite
+  pub settings : desk.settings ≡ s
+  pub within : desk.me < s.sites
+  pub replays : Replays s (first_site desk.me) desk.entries
+  pub room : length desk.entries ≤ s.limits.history
+  pub holds : P desk
+
+-- a site of the configuration, whose history replays, can't record for the seat
+abbrev pub CannotCall : Settings → SeenSeat → Type 0
+CannotCall s seat = AtDesk s (λ desk. CannotRecord desk seat)
+
 -- the seat has one receipt more, at its end, of such an event; the number is its position, from 1
 pub record HasOneMore (old new : SeenSeat) (P : Event → Type 0) (number : ℕ) : Type 0 where
   pub last : Receipt
@@ -118,6 +131,17 @@ IsReadyAt x name = (u : Shadow) × (find_in (state_of x).held name ≡ Some u) �
 -- it is the first of these: they go by home, of one home the blue ones before the red ones, and of one colour by number
 abbrev pub IsNextAt : SeenSite → OpName → Type 0
 IsNextAt x name = IsFirstReady (state_of x).held (clock_of (state_of x).ops) name
+
+-- no held operation is ready at the site
+abbrev pub NoneIsReady : SeenSite → Type 0
+NoneIsReady x = (name : OpName) → ¬ IsReadyAt x name
+
+-- the next held operation that is ready at the site was applied there: the seat has its receipt, at this number
+pub record AppliesNext (old new : SeenSite) (before now : SeenSeat) (number : ℕ) : Type 0 where
+  pub name : OpName
+  pub messages : List Message
+  pub next : IsNextAt old name
+  pub records : Records old new (Apply name) before now number messages
 
 -- a held operation is to be applied
 abbrev pub IsApply : Event → Type 0

@@ -1,6 +1,7 @@
 //! The calls that a seat makes at its site.
-ghost use Rattle.std.specs.Prelude.{◌≡◌, IfOk, OnErr};
-ghost use Rattle.rb_branch.specs.Seats.{HasOneMore};
+ghost use Rattle.std.specs.Prelude.{◌≡◌, Err, IfOk, OnErr};
+ghost use Rattle.rb_branch.specs.Seats.{CannotCall, HasOneMore};
+ghost use Rattle.rb_branch.specs.declared.call_fault.CallFault.TheVariants.{HistoryFull};
 
 use crate::{Branch, CallFault, Entries, Gate, Outbox, Seat};
 use rb_kit::List;
@@ -24,6 +25,7 @@ impl<E: Entries, R: Ledger, G: Gate + Drop> Branch<E, R, G> {
     ) -> Result<u32, CallFault>
         ensures ok { IfOk result (λ n. HasOneMore seat.old seat.new (λ e. e ≡ Event.Submit request) n) }
         ensures err { OnErr result (seat.new ≡ seat.old) }
+        ensures full { result ≡ Err HistoryFull → CannotCall E.settings seat.old }
     {
         self.make(rt, seat, Some(outbox), Event::Submit(request))
     }
@@ -38,6 +40,7 @@ impl<E: Entries, R: Ledger, G: Gate + Drop> Branch<E, R, G> {
     ) -> Result<u32, CallFault>
         ensures ok { IfOk result (λ n. HasOneMore seat.old seat.new (λ e. e ≡ Event.Submit (Request.Cancel target)) n) }
         ensures err { OnErr result (seat.new ≡ seat.old) }
+        ensures full { result ≡ Err HistoryFull → CannotCall E.settings seat.old }
     {
         self.make(
             rt,
@@ -57,6 +60,7 @@ impl<E: Entries, R: Ledger, G: Gate + Drop> Branch<E, R, G> {
     ) -> Result<u32, CallFault>
         ensures ok { IfOk result (λ n. HasOneMore seat.old seat.new (λ e. e ≡ Event.Batch requests) n) }
         ensures err { OnErr result (seat.new ≡ seat.old) }
+        ensures full { result ≡ Err HistoryFull → CannotCall E.settings seat.old }
     {
         self.make(rt, seat, Some(outbox), Event::Batch(requests))
     }
@@ -71,6 +75,7 @@ impl<E: Entries, R: Ledger, G: Gate + Drop> Branch<E, R, G> {
     ) -> Result<u32, CallFault>
         ensures ok { IfOk result (λ n. HasOneMore seat.old seat.new (λ e. e ≡ Event.Pass to) n) }
         ensures err { OnErr result (seat.new ≡ seat.old) }
+        ensures full { result ≡ Err HistoryFull → CannotCall E.settings seat.old }
     {
         self.make(rt, seat, Some(outbox), Event::Pass(to))
     }
@@ -85,6 +90,7 @@ impl<E: Entries, R: Ledger, G: Gate + Drop> Branch<E, R, G> {
     ) -> Result<u32, CallFault>
         ensures ok { IfOk result (λ n. HasOneMore seat.old seat.new (λ e. e ≡ event) n) }
         ensures err { OnErr result (seat.new ≡ seat.old) }
+        ensures full { result ≡ Err HistoryFull → CannotCall E.settings seat.old }
     {
         self.make(rt, seat, Some(outbox), event)
     }
@@ -99,6 +105,7 @@ impl<E: Entries, R: Ledger, G: Gate + Drop> Branch<E, R, G> {
     ) -> Result<u32, CallFault>
         ensures ok { IfOk result (λ n. HasOneMore seat.old seat.new (λ e. e ≡ event) n) }
         ensures err { OnErr result (seat.new ≡ seat.old) }
+        ensures full { result ≡ Err HistoryFull → CannotCall E.settings seat.old }
     {
         let (number, posted) = self.call(rt, seat, event)?;
         let Some(outbox) = outbox else {
@@ -118,6 +125,7 @@ impl<E: Entries, R: Ledger, G: Gate + Drop> Branch<E, R, G> {
     ) -> Result<u32, CallFault>
         ensures ok { IfOk result (λ n. HasOneMore seat.old seat.new (λ e. e ≡ Event.Receive message) n) }
         ensures err { OnErr result (seat.new ≡ seat.old) }
+        ensures full { result ≡ Err HistoryFull → CannotCall E.settings seat.old }
     {
         self.make(rt, seat, None, Event::Receive(message))
     }
@@ -131,6 +139,7 @@ impl<E: Entries, R: Ledger, G: Gate + Drop> Branch<E, R, G> {
     ) -> Result<u32, CallFault>
         ensures ok { IfOk result (λ n. HasOneMore seat.old seat.new (λ e. e ≡ Event.Balance place) n) }
         ensures err { OnErr result (seat.new ≡ seat.old) }
+        ensures full { result ≡ Err HistoryFull → CannotCall E.settings seat.old }
     {
         self.make(rt, seat, None, Event::Balance(place))
     }
@@ -145,6 +154,7 @@ impl<E: Entries, R: Ledger, G: Gate + Drop> Branch<E, R, G> {
     ) -> Result<u32, CallFault>
         ensures ok { IfOk result (λ n. HasOneMore seat.old seat.new (λ e. e ≡ Event.AsOf place position) n) }
         ensures err { OnErr result (seat.new ≡ seat.old) }
+        ensures full { result ≡ Err HistoryFull → CannotCall E.settings seat.old }
     {
         self.make(rt, seat, None, Event::AsOf(place, position))
     }
@@ -158,6 +168,7 @@ impl<E: Entries, R: Ledger, G: Gate + Drop> Branch<E, R, G> {
     ) -> Result<u32, CallFault>
         ensures ok { IfOk result (λ n. HasOneMore seat.old seat.new (λ e. e ≡ Event.Statement place) n) }
         ensures err { OnErr result (seat.new ≡ seat.old) }
+        ensures full { result ≡ Err HistoryFull → CannotCall E.settings seat.old }
     {
         self.make(rt, seat, None, Event::Statement(place))
     }

@@ -2,8 +2,10 @@
 //!
 //! A message that finds the inbox full stays in the inlet. All that is kept is received again after each application,
 //! as a later one may be ready first. Until then each is received once: the index says which were refused already.
-ghost use Rattle.std.specs.Prelude.{◌≡◌, ◌<◌, ◌+◌, ◌^◌, ℕ, IfNone, IfOk, IfSome, MatchOption, OnErr, OnOk, length};
-ghost use Rattle.rb_branch.specs.Seats.{HasOneMore, HasServed, IsApply, RefusesOn};
+ghost use Rattle.std.specs.Prelude.{◌≡◌, ◌<◌, ◌+◌, ◌^◌, ℕ, Err, IfNone, IfOk, IfSome, MatchOption, OnErr, OnOk, length};
+ghost use Rattle.rb_branch.specs.Seats.{AppliesNext, CannotRecord, HasOneMore, HasServed, IsApply, NoneIsReady};
+ghost use Rattle.rb_branch.specs.Seats.{RefusesOn};
+ghost use Rattle.rb_branch.specs.declared.call_fault.CallFault.TheVariants.{HistoryFull};
 
 use crate::{Books, CallFault, Desk, Entries, Inlet, Seat, record, record_ready};
 use rb_site::Event;
@@ -90,7 +92,10 @@ pub(crate) fn apply_at<E: Entries, R: Ledger, W: Wait>(
 ) -> Result<Option<u32>, CallFault>
     ensures ok { IfOk result
         (λ o. MatchOption o (seat.new ≡ seat.old) (λ n. HasOneMore seat.old seat.new IsApply n)) }
+    ensures next { IfOk result (λ o. IfSome o (λ n. AppliesNext desk.old desk.new seat.old seat.new n)) }
+    ensures none { IfOk result (λ o. IfNone o (NoneIsReady desk.old)) }
     ensures err { OnErr result (seat.new ≡ seat.old) }
+    ensures full { result ≡ Err HistoryFull → CannotRecord desk.old seat.old }
 {
     match record_ready(rt, desk, seat, books)? {
         Some((number, _posted)) => Ok(Some(number)),
