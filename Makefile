@@ -1,4 +1,4 @@
-.PHONY: help demo try play play-test build install install-libs test gate-cases toolchain check \
+.PHONY: help demo try play play-test build install install-libs uninstall dist test gate-cases toolchain check \
 	examples bench bindings refuse mutants crash disk wires broker service service-setup service-test service-page \
 	service-mutants
 
@@ -19,6 +19,9 @@ help:
 	@echo '                     rbbank-explain, rbbank-wire, rbbank-close and rbbank-rebuild, after make build'
 	@echo '  make install-libs PREFIX=/usr/local'
 	@echo '                     copies the library for C with its headers and a file for pkg-config, after make bindings'
+	@echo '  make uninstall PREFIX=/usr/local'
+	@echo '                     removes what these two copied'
+	@echo '  make dist          all of it in one file, out/$(RELEASE).tar.gz, after make bindings'
 	@echo '  make examples      every example, and every case of tests/cases, through the program, after make build'
 	@echo '  make test          the gate; about an hour; some minutes if nothing changed since'
 	@echo '                     (docs/CHANGING.md)'
@@ -56,8 +59,12 @@ try:
 	@test -n "$(FILE)" || { echo 'usage: make try FILE=examples/scripts/stale_token.jsonl'; exit 2; }
 	@examples/tools/bank.py --try "$(FILE)"
 
+# Without what proves and builds, one line says so.
+WITH_RT = command -v rt > /dev/null || { echo "rt isn't on PATH: the Rattle toolchain (README.md, Start)"; exit 1; }
+
 # Proves and builds the program, and prints its path.
 build:
+	@$(WITH_RT)
 	@echo 'Proving and building: less than an hour the first time, seconds if nothing changed since (four processors).'
 	@cd crates/rbbank && rt run -- script < stdin > /dev/null
 	@echo $(CURDIR)/crates/rbbank/out/rbbank
@@ -93,19 +100,42 @@ install:
 	@install -m 755 $(TOOLS:%=examples/tools/%.py) "$(UNDER)/share/rbbank"
 	@for tool in $(TOOLS); do ln -sf "../share/rbbank/$$tool.py" "$(UNDER)/bin/rbbank-$$tool" || exit 1; done
 
-# The library for C, its headers and what pkg-config says of it, below PREFIX. The version is the library's.
-LIBRARY_VERSION := $(shell sed -n 's/.*VERSION: &str = "\(.*\)";/\1/p' crates/rb_capi/src/version.rt)
-SHARED := librbbank.so.$(firstword $(subst ., ,$(LIBRARY_VERSION)))
+# The library for C, its headers and what pkg-config says of it, below PREFIX. There is one version, the library's, whose
+# first number `rbbank --version` says.
+VERSION := $(shell sed -n 's/.*VERSION: &str = "\(.*\)";/\1/p' crates/rb_capi/src/version.rt)
+SHARED := librbbank.so.$(firstword $(subst ., ,$(VERSION)))
+HEADERS = rbbank.h rbbank_file.h
+ARCHIVES = librbbank.a librbbank_file.a
+FOUND_AT ?= $(PREFIX)
 install-libs:
 	@test -f bindings/out/librbbank_file.a || { echo 'there is no library yet: make bindings'; exit 1; }
-	@install -d "$(DESTDIR)$(PREFIX)/include" "$(DESTDIR)$(PREFIX)/lib"
-	@install -m 644 bindings/c/rbbank.h bindings/c/rbbank_file.h "$(DESTDIR)$(PREFIX)/include"
-	@install -m 644 bindings/out/librbbank.a bindings/out/librbbank_file.a "$(DESTDIR)$(PREFIX)/lib"
-	@install -m 755 bindings/out/librbbank.so "$(DESTDIR)$(PREFIX)/lib/$(SHARED)"
-	@ln -sf $(SHARED) "$(DESTDIR)$(PREFIX)/lib/librbbank.so"
-	@install -d "$(DESTDIR)$(PREFIX)/lib/pkgconfig"
-	@sed -e 's|@PREFIX@|$(PREFIX)|' -e 's|@VERSION@|$(LIBRARY_VERSION)|' bindings/c/rbbank.pc.in \
-		> "$(DESTDIR)$(PREFIX)/lib/pkgconfig/rbbank.pc"
+	@install -d "$(UNDER)/include" "$(UNDER)/lib/pkgconfig"
+	@install -m 644 $(HEADERS:%=bindings/c/%) "$(UNDER)/include"
+	@install -m 644 $(ARCHIVES:%=bindings/out/%) "$(UNDER)/lib"
+	@install -m 755 bindings/out/librbbank.so "$(UNDER)/lib/$(SHARED)"
+	@ln -sf $(SHARED) "$(UNDER)/lib/librbbank.so"
+	@sed -e 's|@PREFIX@|$(FOUND_AT)|' -e 's|@VERSION@|$(VERSION)|' bindings/c/rbbank.pc.in \
+		> "$(UNDER)/lib/pkgconfig/rbbank.pc"
+
+# What both put below PREFIX; tests/help has the manual page and the completions that are made from the program's help.
+uninstall:
+	@find tests/help/share -type f -printf 'share/%P\n' | while read -r path; do rm -f "$(UNDER)/$$path"; done
+	@rm -f "$(UNDER)/bin/rbbank" $(TOOLS:%="$(UNDER)/bin/rbbank-%") "$(UNDER)"/share/man/man[57]/rbbank*
+	@rm -rf "$(UNDER)/share/rbbank"
+	@rm -f $(HEADERS:%="$(UNDER)/include/%") $(ARCHIVES:%="$(UNDER)/lib/%") "$(UNDER)"/lib/librbbank.so* \
+		"$(UNDER)/lib/pkgconfig/rbbank.pc"
+
+# What both copy, in one file that is unpacked anywhere.
+RELEASE = rbbank-$(VERSION)-linux-x86-64
+PARTS ?= install install-libs
+OUT ?= $(CURDIR)/out
+dist:
+	@rm -rf "$(OUT)/$(RELEASE)"
+	@$(MAKE) --no-print-directory $(PARTS) DESTDIR= PREFIX="$(OUT)/$(RELEASE)" FOUND_AT='$$$${pcfiledir}/../..'
+	@install -m 644 LICENSE CHANGELOG.md SECURITY.md "$(OUT)/$(RELEASE)"
+	@tar -C "$(OUT)" --owner=0 --group=0 --sort=name -czf "$(OUT)/$(RELEASE).tar.gz" $(RELEASE)
+	@rm -r "$(OUT)/$(RELEASE)"
+	@echo "$(OUT)/$(RELEASE).tar.gz"
 
 # Every script, all histories and migrations of examples/, and the cases of tests/cases, through the program.
 examples: build
@@ -163,10 +193,12 @@ gate-cases:
 
 # Whether README.md names this machine's toolchain, as one that every crate was proved with.
 toolchain:
+	@$(WITH_RT)
 	@grep -qF "\`$$(rt version)\`" README.md || { echo "README.md names no toolchain '$$(rt version)'"; exit 1; }
 
 # Every crate, over what earlier checks kept.
 check:
+	@$(WITH_RT)
 	rt all check
 
 # The measurements of bench/README.md.

@@ -1,11 +1,14 @@
 #!/usr/bin/env python3
-"""Installs the program below a temporary folder, and runs what is there, from a folder that isn't the repository.
+"""Unpacks what `make dist` makes into a temporary folder, and runs what is there, from outside the repository.
 
 usage: install.py [--quiet] PROGRAM      (--quiet prints only what is different)
+       ARCHIVE=FILE install.py PROGRAM
 
-The program and each tool run; a tool finds the installed program and what the refusals mean; books are closed and a
-lost journal made again by the tools that are there; the manual pages have no fault in the eyes of groff, if it is
-there; and whatever help or a manual page names is there too.
+Without ARCHIVE one is made of PROGRAM, without the library. The program and each tool run; a tool finds the installed
+program and what the refusals mean; books are closed and a lost journal made again by the tools that are there; the
+manual pages have no fault in the eyes of groff, if it is there; whatever help or a manual page names is there too; and
+a program in C is built with the library, if the archive has it. All has one version. `make uninstall` leaves nothing of
+what `make install` copied, and without the toolchain one line says so.
 """
 from __future__ import annotations
 
@@ -32,15 +35,27 @@ SHADOW = ('{"bank":"0001","shadow":{"account":"ann","amount":500,"deps":[[0,0,0,
 Results = Iterator[tuple[str, bool]]
 
 
-class Installed:
-    """What `make install` made below a folder, and an empty folder to run it in."""
+def made(*words: str, **more: str) -> subprocess.CompletedProcess[str]:
+    """What `make` does in the repository, with these variables in its environment."""
+    make = [shutil.which("make") or "make", "-s", "--no-print-directory", "-C", ROOT]
+    return subprocess.run([*make, *words], env=os.environ | more, capture_output=True, text=True)
 
-    def __init__(self, program: str) -> None:
+
+class Installed:
+    """What is unpacked of an archive below a folder, and an empty folder to run it in."""
+
+    def __init__(self, program: str, archive: str | None) -> None:
         self.kept = tempfile.TemporaryDirectory()
-        self.prefix, self.empty = os.path.join(self.kept.name, "there"), os.path.join(self.kept.name, "empty")
+        self.program, self.empty = f"PROGRAM={os.path.abspath(program)}", os.path.join(self.kept.name, "empty")
         os.mkdir(self.empty)
-        words = ["make", "-s", "-C", ROOT, "install", f"PREFIX={self.prefix}", f"PROGRAM={os.path.abspath(program)}"]
-        subprocess.run(words, check=True)
+        if archive is None:
+            run = made("dist", "PARTS=install", self.program, f"OUT={self.kept.name}")
+            archive = run.stdout.strip()
+            if run.returncode:
+                sys.exit(f"install: {run.stderr}")
+        shutil.unpack_archive(archive, self.kept.name)
+        self.name = os.path.basename(archive).removesuffix(".tar.gz")
+        self.prefix = os.path.join(self.kept.name, self.name)
 
     def path(self, *names: str) -> str:
         return os.path.join(self.prefix, *names)
@@ -130,10 +145,64 @@ def examples(there: Installed) -> Results:
     yield "twelve commands", len(lines) == 12 and (errors, status) == ("", 0) and out.count("\n") == 12
 
 
+def version(there: Installed) -> Results:
+    """All has the library's version: the program says its first number."""
+    with open(os.path.join(ROOT, "crates", "rb_capi", "src", "version.rt"), encoding="utf-8") as file:
+        number = re.findall(r'VERSION: &str = "(.*)"', file.read())[0]
+    yield "the archive's name", there.name == f"rbbank-{number}-linux-x86-64"
+    yield "rbbank --version", there.ran("rbbank", "--version") == (f"rbbank {number.split('.')[0]}\n", "", 0)
+    with open(there.path("CHANGELOG.md"), encoding="utf-8") as file:
+        newest = next(line for line in file if line.startswith("## "))
+    yield "the newest in CHANGELOG.md", newest.startswith(f"## {number},")
+
+
+def library(there: Installed) -> Results:
+    """A program in C is built with the library that is there, and is answered."""
+    if not os.path.exists(there.path("lib")):
+        return
+    source = os.path.join(there.empty, "version.c")
+    with open(source, "w", encoding="utf-8") as file:
+        file.write('#include "rbbank.h"\n#include <stdio.h>\nint main(void) { char out[16];\n'
+                   '    printf("%.*s", (int)rbbank_version(out, sizeof out), out); return 0; }\n')
+    found = os.environ | {"PKG_CONFIG_PATH": there.path("lib", "pkgconfig"), "LD_LIBRARY_PATH": there.path("lib")}
+    build = "cc -o version version.c $(pkg-config --cflags --libs rbbank) && ./version"
+    run = subprocess.run(["sh", "-c", build], cwd=there.empty, env=found, capture_output=True, text=True)
+    yield "the library", (f"rbbank-{run.stdout}-linux-x86-64", run.stderr, run.returncode) == (there.name, "", 0)
+
+
+def uninstalls(there: Installed) -> Results:
+    """What `make install` copied, and what an archive with the library has, is gone after `make uninstall`."""
+    prefix = os.path.join(there.kept.name, "installed")
+    made("install", there.program, f"PREFIX={prefix}")
+    was_there = os.path.exists(os.path.join(prefix, "bin", "rbbank-wire"))
+    for name in ("include/rbbank.h", "lib/librbbank.so.2", "lib/librbbank.a", "share/man/man1/other.1"):
+        os.makedirs(os.path.dirname(os.path.join(prefix, name)), exist_ok=True)
+        with open(os.path.join(prefix, name), "w", encoding="utf-8"):
+            pass
+    run = made("uninstall", f"PREFIX={prefix}")
+    left = [name for _, folders, files in os.walk(prefix) for name in (*files, *folders) if "rbbank" in name]
+    yield "uninstall", was_there and (left, run.stderr, run.returncode) == ([], "", 0)
+    yield "... leaves what is another's", os.path.exists(os.path.join(prefix, "share", "man", "man1", "other.1"))
+
+
+def toolchain(there: Installed) -> Results:
+    """Where `rt` isn't on PATH, `make build` and `make test` say so in one line."""
+    path = os.path.join(there.kept.name, "few")
+    os.mkdir(path)
+    os.symlink(shutil.which("sed") or "", os.path.join(path, "sed"))
+    for goal in ("build", "test"):
+        run = made(goal, PATH=path)
+        said = "rt isn't on PATH: the Rattle toolchain (README.md, Start)\n"
+        yield f"make {goal} without rt", (run.stdout, run.returncode != 0) == (said, True)
+
+
+PARTS = (tools, periods, pages, examples, version, library, uninstalls, toolchain)
+
+
 def results(program: str) -> Results:
     """Each case with whether it is as wanted."""
-    there = Installed(program)
-    for test in (tools, periods, pages, examples):
+    there = Installed(program, os.environ.get("ARCHIVE"))
+    for test in PARTS:
         yield from ((f"install: {name}", fine) for name, fine in test(there))
 
 
