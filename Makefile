@@ -100,7 +100,7 @@ install:
 	@install -m 755 $(TOOLS:%=examples/tools/%.py) "$(UNDER)/share/rbbank"
 	@for tool in $(TOOLS); do ln -sf "../share/rbbank/$$tool.py" "$(UNDER)/bin/rbbank-$$tool" || exit 1; done
 
-# The library for C, its headers and what pkg-config says of it, below PREFIX. There is one version, the library's, whose
+# The library for C, its headers and what pkg-config says of it, below PREFIX. The one version is the library's, whose
 # first number `rbbank --version` says.
 VERSION := $(shell sed -n 's/.*VERSION: &str = "\(.*\)";/\1/p' crates/rb_capi/src/version.rt)
 SHARED := librbbank.so.$(firstword $(subst ., ,$(VERSION)))

@@ -22,6 +22,7 @@ import sys
 import tempfile
 import time
 import types
+import unittest.mock
 from collections.abc import AsyncIterator, Awaitable, Callable
 from typing import Any
 
@@ -547,6 +548,14 @@ async def keeps(folder: str) -> None:
     with contextlib.suppress(ConnectionError):
         await made.publish(Lost(), 0)
     same("what isn't confirmed", (made.unconfirmed(), made.confirmed()), (1, 3))
+    site.refusals = [18, 18]
+    await made.take(b'{"shadow":{"home":0,"name":"B0.2"}}\n{"shadow":{"home":0,"name":"B0.3"}}')
+    other = wires(folder, 0, [])[0].desk
+    with unittest.mock.patch("logging.error") as error:
+        for _ in range(2):
+            await other.hears(message(made.desk.says()))
+    found = [call.args[0] % call.args[1:] for call in error.call_args_list]
+    same("an older copy", found, ["site 1 has another B0.2: an older copy of this journal was started"])
 
 
 async def queues(folder: str) -> None:

@@ -255,6 +255,8 @@ class Desk:
         self.site, self.view, self.waiters = site, site.view, 0  # requests that wait for the token
         self.wanted = dict[int, float]()  # by other site: until when it is taken to want the token
         self.clocks = dict[int, Counter[str]]()  # by other site: what it said last that it applied
+        self.others = dict[int, str]()  # by other site: the first operation that it sent and this one has another of
+        self.told = set[int]()  # sites of which it was said that they have another operation of this one's
         self.closing = bool(site.period.kept("closing"))  # clients have to wait
 
     def behind(self) -> dict[int, int]:
@@ -264,7 +266,7 @@ class Desk:
     def says(self) -> Json:
         """What the other services hear of this one."""
         wants = self.waiters > 0 and not self.view.token["here"]
-        return {"applied": self.view.clock, "site": self.site.me, "wants": wants}
+        return {"applied": self.view.clock, "others": self.others, "site": self.site.me, "wants": wants}
 
     async def hears(self, message: Any) -> None:
         """A message of the broker with what another service has applied, and whether it wants the token."""
@@ -272,6 +274,9 @@ class Desk:
         if (other := said["site"]) != self.site.me:
             self.clocks[other] = Counter(said["applied"])
             self.wanted[other] = time.monotonic() + HEARD if said["wants"] else 0
+            if (name := said.get("others", {}).get(str(self.site.me))) and other not in self.told:
+                self.told.add(other)
+                logging.error("site %d has another %s: an older copy of this journal was started", other, name)
 
     async def ask(self, ask: Callable[[], asyncio.Future[Json]], patience: float) -> Json:
         """Asks the site, and again while it lacks the token, for this number of seconds at most."""

@@ -26,6 +26,7 @@ SILENCE = 20.0  # seconds after which a queue is given another consumer
 LONG = 60  # seconds that a queue may wait for an operation that others bring
 SAY = 0.1  # seconds between two times that a service says where it is
 FULL = (16, 23)  # refusals of a message that isn't lost by them: its queue waits
+ANOTHER = 18  # the refusal of a message with the name of another operation
 FAULTS = (aio_pika.exceptions.AMQPError, OSError, asyncio.TimeoutError, RuntimeError)
 
 
@@ -141,6 +142,9 @@ class Wires:
                 seen, future = view.clock.total(), self.site.ask(message_of(line))
             if "refused" in answer.get("reply", {"refused"}):
                 logging.error("the site doesn't take %r: %s", line[:500], compact(answer)[:200])
+            if answer.get("reply", {}).get("refused") == ANOTHER:
+                shadow = message_of(line)["shadow"]
+                self.desk.others.setdefault(shadow["home"], shadow["name"])
 
     async def talk(self, connection: AbstractConnection) -> None:
         """Says again and again where this service is, hears the others, and writes down what is confirmed."""

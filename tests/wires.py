@@ -12,15 +12,17 @@ refuses more (16), so that some are lost; when their sender starts again it send
 orders the journals.
 
 Before that, wire.py alone: a command that ends over and over, of its own accord or by SIGKILL; a reader of the replies
-and a command that take nothing for a while; messages that are dropped, and asked for again; whose each reply is.
---wire names another wire.py to be tried, and --patience the seconds after which something counts as frozen, 60.
-tests/wire_mutants.py tries wrong ones. --gate takes 2,000 deposits and half a second, and only two sites.
+and a command that take nothing for a while; messages that are dropped, and asked for again; whose each reply is; an
+older copy of a journal. --wire names another wire.py to be tried, and --patience the seconds after which something
+counts as frozen, 60. tests/wire_mutants.py tries wrong ones. --gate takes 2,000 deposits and half a second, and only
+two sites.
 """
 import argparse
 import fcntl
 import json
 import os
 import re
+import shutil
 import signal
 import subprocess
 import sys
@@ -435,7 +437,29 @@ def whose_replies(asked, folder):
     return alone.run("cat > OUT", "--apart") == ([], True)
 
 
-ALONE = [ended_command, killed_command, slow_readers, dropped_messages, whose_replies]
+def older_copy(asked, folder):
+    """That a site was started from an older copy of its journal is said once, where its messages are refused."""
+    config = compact({"accounts": [["ann", 0]], "sites": 2, "version": 1})
+    journals = [os.path.join(folder, f"{number}.journal") for number in (0, 1)]
+
+    def answers(number, *events):
+        given = "".join(compact(event) + "\n" for event in events)
+        return subprocess.run(words_of_start(asked.program, number, journals[number], 0), input=f"{config}\n{given}",
+                              capture_output=True, text=True, timeout=PATIENCE[0]).stdout
+
+    answers(0)
+    copy = shutil.copy(journals[0], os.path.join(folder, "copy"))
+    first = json.loads(answers(0, {"deposit": ["ann", 5]}))["sends"]
+    shutil.copy(copy, journals[0])
+    second = json.loads(answers(0, {"deposit": ["ann", 7]}))["sends"]
+    words = [sys.executable, asked.wire, "--me", "1", "--sites", "2", "--to", "cat"]
+    run = subprocess.run(words, input=answers(1, *first, *first, *second, *second), capture_output=True, text=True,
+                         timeout=PATIENCE[0])
+    return run.stdout.count('{"refused":18}') == 2 and re.fullmatch(
+        r"wire: site 1 has another operation .* \(18\): an older copy .*\n", run.stderr) is not None
+
+
+ALONE = [ended_command, killed_command, slow_readers, dropped_messages, whose_replies, older_copy]
 
 
 def options():

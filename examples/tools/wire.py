@@ -28,6 +28,8 @@ the command has read it whole; with --confirm, once the command has written a li
 for each that it delivered. What it read and lost is made up for when the site starts again, since a site then sends all
 its messages again.
 
+If the site refuses a message with 18, standard error says so once: an older copy of its sender's journal was started.
+
 After the site's last line, what still waits is given on. The status is 1 if a command, or the reader of the replies,
 takes nothing for the seconds of --wait, or ended in another status than 0 behind its last line, or if a message was
 dropped and didn't come again.
@@ -59,6 +61,7 @@ LONGEST_PAUSE = 16  # times --resend, between two questions if none is answered
 LEAVE_NO_ENTRY = {"refused", "balance", "already", "stale", "about", "resent"}  # keys of replies
 OF_PEERS = {"held", "already", "taken", "stale"}  # keys of replies to messages
 REFUSED_PEERS = (16, 17, 18, 21)  # refusals of messages alone
+ANOTHER = 18  # that of a message with the name of another operation
 AT_ONCE = 1 << 16  # bytes that are taken from those that wait at a time
 MOST_UNCONFIRMED = 1 << 20  # bytes that a command is given before it has confirmed any, with --confirm
 MOMENT = 0.05  # seconds between two looks at a process
@@ -497,9 +500,10 @@ def parsed(line: bytes) -> Answer:
 class Carrier:
     """Has each message wait for the sites that it is for, and each reply for its reader."""
 
-    def __init__(self, ways: List[Way], replies: Replies, asker: Asker, apart: bool) -> None:
-        self.ways, self.replies, self.asker, self.apart = ways, replies, asker, apart
+    def __init__(self, ways: List[Way], replies: Replies, asker: Asker, asked: argparse.Namespace) -> None:
+        self.ways, self.replies, self.asker, self.apart, self.me = ways, replies, asker, asked.apart, asked.me
         self.has_begun = False  # a site's first lines are the messages that it sent before
+        self.has_told = False  # of another operation's name
 
     def carry(self, lines: BinaryIO) -> None:
         """Carries what lines say, to their end."""
@@ -515,7 +519,16 @@ class Carrier:
                 if way.dropped:
                     way.came_again()
             for reply in [] if own else answer.replies:
-                self.replies.lines.put(compact(reply if self.apart else next(iter(reply.values()))))
+                whose = next(iter(reply.values()))
+                self.tell(whose)
+                self.replies.lines.put(compact(reply if self.apart else whose))
+
+    def tell(self, reply: Dict) -> None:
+        """Says once that a message has the name of another operation, as a site's that forgot what it had made."""
+        if reply.get("refused") == ANOTHER and not self.has_told:
+            self.has_told = True
+            say(f"site {self.me} has another operation of a name that came ({ANOTHER}): an older copy of its sender's "
+                "journal was started")
 
     def send(self, answer: Answer) -> None:
         """Has the messages of a line wait."""
@@ -559,7 +572,7 @@ def main() -> int:
     for thread in (*takers, asker):
         thread.start()
     try:
-        Carrier(ways, replies, asker, asked.apart).carry(sys.stdin.buffer)
+        Carrier(ways, replies, asker, asked).carry(sys.stdin.buffer)
     except OSError as why:
         sys.exit(f"wire: {why}")
     finally:
