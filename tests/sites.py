@@ -860,8 +860,9 @@ def of_the_page(sites):
         script = f"set -m; trap 'kill %1 %2' EXIT; sleep() {{ command sleep {seconds}; }}\n" + given
         with tempfile.TemporaryDirectory() as folder:
             os.symlink(sites.program, os.path.join(folder, "rbbank"))
-            path = os.pathsep.join([folder, os.path.join(EXAMPLES, "tools"), os.environ["PATH"]])
-            run = subprocess.run(["timeout", "60", "bash", "-c", script], cwd=folder, stdout=subprocess.PIPE,
+            os.symlink(os.path.join(EXAMPLES, "tools", "wire.py"), os.path.join(folder, "rbbank-wire"))
+            path = os.pathsep.join([folder, os.environ["PATH"]])
+            run = subprocess.run(["timeout", "120", "bash", "-c", script], cwd=folder, stdout=subprocess.PIPE,
                                  stderr=subprocess.DEVNULL, env={**os.environ, "PATH": path})
         if run.stdout.decode() == out:
             break

@@ -6,8 +6,7 @@ usage: from_format.py PREFIX     writes them below PREFIX: share/man
 It reads the Markdown that the page is written in: headings, paragraphs, tables, lines that are indented as they are,
 `code` and **what matters**. A row of a table becomes a paragraph: its first cell, and the others below it, each behind
 the name of its column if there are several or it is a number. A table of two halves that have the same columns is read
-half by half. A script of examples/tools that is installed has the name that it has then, and a page that of its manual
-page.
+half by half. A page that is named here has the name of its manual page.
 """
 import os
 import re
@@ -17,9 +16,7 @@ import bank
 
 PAGES = {"docs/FORMAT.md": ("rbbank", 5), "docs/RUNNING.md": ("rbbank-running", 7),
          "docs/PERIODS.md": ("rbbank-periods", 7)}
-TOOL = re.compile(r"\b(?:examples/tools/)?(draw|explain|wire|close|rebuild)\.py\b")
-# in brackets: where these are in the sources, and a file that only the sources have
-PLACE = re.compile(r" \(examples/tools(?:, installed as `[\w-]+`)?\)")
+# in brackets: a file that only the sources have
 ELSEWHERE = re.compile(r"\(([\w/]+\.(?:md|py))\)")
 PIECE = re.compile(r"`([^`]+)`|\*\*([^*]+)\*\*")
 CELLS = re.compile(r"(?<!\\)\|")
@@ -35,7 +32,7 @@ def installed(text):
     """A text with the names that are there once it is installed."""
     for page, (name, section) in PAGES.items():
         text = text.replace(page, f"{name}({section})")
-    return ELSEWHERE.sub(r"(in the sources \1)", TOOL.sub(r"rbbank-\1", PLACE.sub("", text)))
+    return ELSEWHERE.sub(r"(in the sources \1)", text)
 
 
 def code(text):

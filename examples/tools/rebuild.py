@@ -272,7 +272,9 @@ def rebuilt(program: str, asked: argparse.Namespace, folder: str) -> str:
     journals.store(fresh, asked.to)
     operations, passed = work.count
     return (f"{asked.to} is the journal of site {asked.site} by what others received. Entries: {len(journal.lines)}, "
-            f"own operations: {operations}, passings of the token: {passed}.\nAn audit orders all {entries} entries.")
+            f"own operations: {operations}, passings of the token: {passed}.\nAn audit orders all {entries} entries.\n"
+            "Lost are the ids of its requests, and operations that no other site received: what is asked again is made "
+            "again.\nFirst start the site, and look in the statements of the request's accounts whether it is there.")
 
 
 def main() -> int:
