@@ -12,6 +12,7 @@ from __future__ import annotations
 
 import glob
 import http.client
+import itertools
 import json
 import os
 import sys
@@ -115,17 +116,21 @@ class Check:
 
 
 def check_files(check: Check) -> None:
-    """The histories of examples/ have the verdicts that are stored; migrations and journals are histories."""
+    """The histories of examples/ have the verdicts that are stored; migrations and journals are histories. What people
+    read comes first, and the journals of tests, which no other group has, come last."""
+    groups = [next(kinds) for _, kinds in itertools.groupby(each["kind"] for each in play.examples())]
+    same("examples", "groups", groups, ["Scripts", "Histories", "Migrations", "Scripts with a bad line",
+                                        "Journals of tests"])
     for each in play.examples():
         data = bank.read(each["file"])
-        if each["kind"] == "Histories":
+        if each["kind"] == play.HISTORIES:
             found = json.loads(check.asked.world(data))
             wanted = bank.read(each["file"].removesuffix("jsonl") + "expected").decode().strip()
             same(each["name"], "verdict", bank.compact(found["verdict"]) if found["verdict"] else "", wanted)
-        elif each["kind"] == "Migrations":
+        elif each["kind"] == play.MIGRATIONS:
             found = json.loads(check.asked.world(check.asked.written("migrate", data).encode()))
             same(each["name"], "histories of version 2", (found["histories"], found["config"]["version"]), (True, 2))
-        elif each["kind"] == "Journals":
+        elif each["kind"] == play.JOURNALS:
             found = json.loads(check.asked.world(data))
             count = 0 if each["name"] in NO_HISTORIES else max(0, len(world.lines_of(data)) - 1)
             same(each["name"], "entries", len(found["steps"]) if not found["error"] else 0, count)
@@ -213,7 +218,7 @@ def main() -> int:
     for path in sorted(glob.glob(os.path.join(child.HERE, "runs", "*.jsonl"))):
         scripts[os.path.basename(path)] = bank.read(path).decode()
     for each in play.examples():
-        if each["kind"] == "Scripts with a bad line":
+        if each["kind"] == play.BAD:
             scripts[each["name"]] = bank.read(each["file"]).decode()
     for name, text in scripts.items():
         check.script(name, text)

@@ -35,6 +35,9 @@ KINDS = {".html": "text/html", ".css": "text/css", ".js": "text/javascript", ".j
 POLICY = "default-src 'self'; style-src 'self' 'unsafe-inline'; img-src 'self' data:; frame-ancestors 'none'"
 MOST_BYTES = 8_000_000  # of a request
 PORT = 8017
+# what the page lists, in this order: what is there to be read, and then what tests take
+SCRIPTS, HISTORIES, MIGRATIONS, BAD, JOURNALS = GROUPS = (
+    "Scripts", "Histories", "Migrations", "Scripts with a bad line", "Journals of tests")
 
 
 def options() -> argparse.Namespace:
@@ -50,8 +53,8 @@ def kind_of(path: str) -> str:
     """What an example is, as the page lists it."""
     word = bank.word_of(path)
     if word == "script":
-        return "Scripts with a bad line" if os.path.exists(path.removesuffix("jsonl") + "status") else "Scripts"
-    return {"audit": "Histories", "migrate": "Migrations", "site": "Journals"}[word]
+        return BAD if os.path.exists(path.removesuffix("jsonl") + "status") else SCRIPTS
+    return {"audit": HISTORIES, "migrate": MIGRATIONS, "site": JOURNALS}[word]
 
 
 @functools.lru_cache(maxsize=1)
@@ -60,12 +63,12 @@ def examples() -> list[dict[str, str]]:
     text, found = bank.read(os.path.join(bank.EXAMPLES, "README.md")).decode(), []
     for path in bank.examples():
         name, kind = os.path.basename(path).removesuffix(".jsonl"), kind_of(path)
-        file = path.removesuffix("jsonl") + "journal" if kind == "Journals" else path
+        file = path.removesuffix("jsonl") + "journal" if kind == JOURNALS else path
         if os.path.exists(file):
             short = re.escape(name.split(".")[0])
             about = re.search(rf"(?m)^\|[^|]*`{short}`[^|]*\| (.*) \|$", text)
             found.append({"name": name, "kind": kind, "about": about.group(1) if about else "", "file": file})
-    return found
+    return sorted(found, key=lambda each: GROUPS.index(each["kind"]))
 
 
 class Server(http.server.ThreadingHTTPServer):

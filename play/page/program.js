@@ -92,7 +92,7 @@ export const openFile = (name, text) => name.includes('.migration')
   : open(text, name.includes('.histories') || name.includes('journal'));
 /** Opens an example by its name. */
 export const openExample = (example) => queue(() => got(`/examples/${example.name}`)).then((text) => text &&
-  openFile(example.kind === 'Journals' ? 'journal' : example.name, text));
+  openFile(example.kind === 'Journals of tests' ? 'journal' : example.name, text));
 
 export const travel = (find) => queue(() => {
   S.current = Math.max(0, Math.min(S.world.steps.length, typeof find === 'number' ? find : find()));
