@@ -869,7 +869,21 @@ def of_the_page(sites):
     yield "the pipes of docs/RUNNING.md", run.stdout.decode() == out
 
 
-PARTS = [same_however_read, ready_at_once, torn, kept, kept_nowhere, longest_name, audited, asked_for,
+def of_the_tutorial(sites):
+    """The deposit of docs/TUTORIAL.md that is asked for again by its id is answered after a crash as the page says."""
+    with open(os.path.join(ROOT, "docs", "TUTORIAL.md"), encoding="utf-8") as page:
+        section = page.read().split("\n## 8. ")[1].split("\n## ")[0]
+    request, words, answer, *_ = re.findall(r"(?m)^    (.*)$", section)
+    with tempfile.TemporaryDirectory() as folder:
+        os.symlink(sites.program, os.path.join(folder, "rbbank"))
+        given = f'{{"accounts":[["ann",0]],"sites":2,"version":1}}\n{request}\n'
+        runs = [subprocess.run(["sh", "-c", f"PATH={folder}; {words}{new}"], cwd=folder, input=given, text=True,
+                               capture_output=True) for new in (" --new", "")]
+    first, again = (run.stdout.splitlines()[-1:] for run in runs)
+    yield "a deposit of docs/TUTORIAL.md, again", again == [answer] and first == [answer.replace('"again":true,', "")]
+
+
+PARTS = [of_the_tutorial, same_however_read, ready_at_once, torn, kept, kept_nowhere, longest_name, audited, asked_for,
          refused_journals, unchanged, named, not_ready, sealed, used_twice, failed, unwritten, no_events, ids, options,
          words_at_fault, many_sites, large_batch, large_answers, in_order, of_the_page, reasons]
 
