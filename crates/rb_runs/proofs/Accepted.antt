@@ -24,7 +24,7 @@ use Rattle.rb_history.specs.Sites.{IsFittingCommand, ReadCommandsFit, RepliesFit
 use Rattle.rb_history.proofs.Public.Each.{each_both}
 use Rattle.rb_lines.specs.Lines.{is_blank, is_long, lines_of}
 use Rattle.rb_lines.specs.declared.fault.ScriptFault.{ScriptFault}
-use Rattle.rb_lines.specs.declared.fault.ScriptFault.TheVariants.{NoConfig, BadConfig, BadLine, LongLine, Read, Write, OutOfMemory, Gather}
+use Rattle.rb_lines.specs.declared.fault.ScriptFault.TheVariants.{BadConfig, BadLine, LongLine, Read, Write, OutOfMemory, Gather}
 use Rattle.rb_runs.specs.Audit.{AuditEndsAs}
 use Rattle.rb_runs.specs.InputLaws.{HasShortLines, InputsAreReadBack, IsWritable}
 use Rattle.rb_runs.specs.Inputs.{Input, input_of}
@@ -148,14 +148,11 @@ not_refused x text one taken (Ok true) left line h = refl
 not_refused x text one taken (Ok false) left line (y, is, (none, why), all) =
     let same : x ≡ y = ok_same x y (input_of (lines_of text)) taken is in
     absurd (none (subst (λ (z : Input). AreOneWorlds z.settings z.histories) same one))
-not_refused x text one taken (Err NoConfig) left line h = let e = sym taken ∙ h.0 in absurd (cc e)
-not_refused x text one taken (Err (BadConfig n)) left line h = let e = sym taken ∙ h.0 in absurd (cc e)
-not_refused x text one taken (Err (BadLine n)) left line h = let e = sym taken ∙ h.0 in absurd (cc e)
-not_refused x text one taken (Err (LongLine n)) left line h = let e = sym taken ∙ h.0 in absurd (cc e)
 not_refused x text one taken (Err Read) left line h = tt
 not_refused x text one taken (Err Write) left line h = tt
 not_refused x text one taken (Err OutOfMemory) left line h = tt
 not_refused x text one taken (Err Gather) left line h = absurd h
+not_refused x text one taken (Err _) left line h = let e = sym taken ∙ h.0 in absurd (cc e)
 
 -- each message that a site sent is read as what another receives, so it fits
 receipts_fit : MessagesAreRead → ReadEventsFit → (s : Settings) → IsConfigured s → ReceiptsFit s

@@ -2,7 +2,6 @@
 use Rattle.std.proofs.Common.{◌≡◌, ◌≤◌, ◌<◌, ℕ, ◌+◌, List, [], ◌∷◌, length, Bool, true, false, None, Some, Ok, Err, IfOk, Result, Vec}
 use Rattle.std.proofs.Common.{get_or, ap, sym, subst, refl, ◌∙◌, map, arith, inr}
 use Rattle.std.specs.Prelude.{slice_get}
-use Rattle.std.specs.List.{range_with_len}
 use Rattle.std.specs.declared.alloc.Global.{Global}
 use Rattle.std.specs.declared.alloc.AllocError.{AllocError}
 use Rattle.std.proofs.lemmas.List.FromFn.{length-map-range_with_len}
@@ -12,7 +11,7 @@ use Rattle.rb_money.specs.Faults.{config_fault}
 use Rattle.rb_money.specs.Settings.{IsConfigured, Settings}
 use Rattle.rb_shadow.specs.declared.op_name.OpName.{OpName}
 use Rattle.rb_shadow.specs.declared.shadow.Shadow.{Shadow}
-use Rattle.rb_shadow.specs.Operations.{Agree, bal}
+use Rattle.rb_shadow.specs.Operations.{bal}
 use Rattle.rb_money.specs.declared.cents.TheConstants.{MOST_CENTS}
 use Rattle.rb_history.specs.Verdicts.{open_json, verdict_line}
 use Rattle.rb_site.specs.declared.entry.Entry.{Entry}
@@ -27,6 +26,7 @@ use Rattle.rb_runs.specs.Books.{MayBeClosed, IsFirstAbove, NextBank, StartsNext,
 use Rattle.rb_runs.specs.Books.{applied_from, applied_in, input_at, lacked, next_accounts, sites_of_next, next_with}
 use Rattle.rb_runs.specs.Texts.{config_line}
 use Rattle.rb_runs.specs.Inputs.{Input}
+use Rattle.rb_runs.proofs.Carried.{same_balances}
 
 -- ---- sites at the end of histories
 
@@ -91,16 +91,6 @@ pub closed_reported : OpenListsAreLacking → (x : Input) (lists : List (List Op
 closed_reported law x lists c one is none = (law x c one).none.1 (λ i us there.
     none i (lacked x.settings.sites (applied_in x) us) (ap (λ ls. slice_get ls i) is
     ∙ map_at (lacked x.settings.sites (applied_in x)) (applied_in x) i us there))
-
-same_on : (f g : ℕ → ℕ) (ks : List ℕ) → ((k : ℕ) → f k ≡ g k) → map f ks ≡ map g ks
-same_on f g [] e = refl
-same_on f g (k ∷ ks) e = ap (λ n. n ∷ map f ks) (e k) ∙ ap (λ l. g k ∷ l) (same_on f g ks e)
-
--- lists that agree have the same balances
-same_balances : (s : Settings) (us vs : List Shadow) → Agree s us vs → balances_of s us ≡ balances_of s vs
-same_balances s us vs a =
-    same_on (λ i. cents (bal s us (record { 0 = i }))) (λ i. cents (bal s vs (record { 0 = i }))) (range_with_len 0 (length s.starts))
-    (λ i. ap cents (a.balances (record { 0 = i })))
 
 -- the line by what the first site has applied is that by what any has
 pub balances_reported : ClosedBalancesAgree → (x : Input) (ask : NextBank) (found : Bool) (us : List Shadow) (line : List ℕ)
@@ -199,19 +189,12 @@ proper_of ask s t e h =
     ap (λ (u : Settings). config_fault (sites_of_next u ask.sites) (next_accounts u u.starts ask) u.limits) e ∙ h
 
 -- the line is that of what was audited
-pub closing_of : (ask : NextBank) (s t : Settings) (hs gs : List (List Entry)) (found : Bool) (line : List ℕ) → t ≡ s → gs ≡ hs
-    → ReportsClosing ask found (record { settings = t; histories = gs }) line
-    → ReportsClosing ask found (record { settings = s; histories = hs }) line
-closing_of ask s t hs gs found line e f r =
-    subst (λ u. ReportsClosing ask found (record { settings = u; histories = hs }) line) e
-    (subst (λ ks. ReportsClosing ask found (record { settings = t; histories = ks }) line) f r)
-
--- the same of a result
 pub closing_found : (ask : NextBank) (s t : Settings) (hs gs : List (List Entry)) (r : Result (Bool × Vec ℕ Global) AllocError) → t ≡ s
     → gs ≡ hs → IfOk r (λ found. ReportsClosing ask found.0 (record { settings = t; histories = gs }) found.1.items)
     → IfOk r (λ found. ReportsClosing ask found.0 (record { settings = s; histories = hs }) found.1.items)
-closing_found ask s t hs gs (Ok found) e f r = closing_of ask s t hs gs found.0 found.1.items e f r
-closing_found ask s t hs gs (Err refused) e f r = tt
+closing_found ask s t hs gs r e f h =
+    subst (λ u. IfOk r (λ found. ReportsClosing ask found.0 (record { settings = u; histories = hs }) found.1.items)) e
+    (subst (λ ks. IfOk r (λ found. ReportsClosing ask found.0 (record { settings = t; histories = ks }) found.1.items)) f h)
 
 -- the line of a ledger's balances is that of closed books
 pub on_found : (ask : NextBank) (x : Input) (t : Settings) (vs us : List Shadow) (r : Result (Bool × Vec ℕ Global) AllocError)

@@ -20,11 +20,13 @@ use Rattle.rb_shadow.proofs.Public.Totals
 use Rattle.rb_ledger.specs.Valid.{IsValid}
 use Rattle.rb_ledger.proofs.Public.Legal.{covers}
 use Rattle.rb_ledger.proofs.Public.ValidClocks.{member_sound}
+use Rattle.rb_site.proofs.Public.Lists.{get_front}
+use Rattle.rb_site.specs.Reports.{balances_of}
 use Rattle.rb_world.specs.Laws.{Agreement, Always, Clocks, ValidLists}
 use Rattle.rb_runs.specs.Books.{NextBank, next_settings, next_with}
 use Rattle.rb_runs.specs.BookLaws.{CarriedForward, IsCarriedForward, sum_of_accounts}
 use Rattle.rb_runs.proofs.AtRest.{sites_agree}
-use Rattle.rb_runs.proofs.OpenLists.{get_left, map_same, valid_list}
+use Rattle.rb_runs.proofs.OpenLists.{map_same, valid_list}
 
 -- ---- what is beyond the accounts
 
@@ -114,7 +116,7 @@ summed f a (suc n) m h =
 pub carried : (s : Settings) (us : List Shadow) (ask : NextBank) → IsConfigured s → IsValid s us →
     IsCarriedForward s us (next_settings s us ask)
 carried s us ask c valid = record {
-  names = λ i name at. get_left s.names ask.added i name at;
+  names = λ i name at. get_front s.names ask.added i name at;
   balances = λ a. starts_with s us ask a valid;
   starts = λ a. starts_with s us ask a valid ∙ balance_is s us a;
   added = λ a h. zero_is (start_of (next_settings s us ask) a) (starts_with s us ask a valid
@@ -126,15 +128,16 @@ carried s us ask c valid = record {
     zero_is : (n : ℕ) → pos n ≡ pos 0 → n ≡ 0
     zero_is n e = cc
 
--- sites that agree give one next configuration
-one_next : (s : Settings) (us vs : List Shadow) (ask : NextBank) → Agree s us vs → next_settings s us ask ≡ next_settings s vs ask
-one_next s us vs ask agree = ap (λ bs. next_with s bs ask) (map_same (λ i. cents (bal s us (record { 0 = i })))
-    (λ i. cents (bal s vs (record { 0 = i }))) (range_with_len 0 (length s.starts)) (λ k. ap cents (agree.balances (record { 0 = k }))))
+-- lists that agree have the same balances
+pub same_balances : (s : Settings) (us vs : List Shadow) → Agree s us vs → balances_of s us ≡ balances_of s vs
+same_balances s us vs agree =
+    map_same (λ i. cents (bal s us (record { 0 = i }))) (λ i. cents (bal s vs (record { 0 = i }))) (range_with_len 0 (length s.starts))
+    (λ k. ap cents (agree.balances (record { 0 = k })))
 
 -- if the books may be closed, the balances are carried forward
 pub all_carried : Always Clocks → Always Agreement → Always ValidLists → CarriedForward
 all_carried clocks agreement valid x ask c one closed = record {
   carried = λ i us at. carried x.settings us ask c (valid_list valid x.settings x.histories c one i us at);
-  one = λ i j us vs at there. one_next x.settings us vs ask
-      (sites_agree clocks agreement x.settings x.histories c one closed i j us vs at there);
+  one = λ i j us vs at there. ap (λ bs. next_with x.settings bs ask) (same_balances x.settings us vs
+      (sites_agree clocks agreement x.settings x.histories c one closed i j us vs at there));
 }

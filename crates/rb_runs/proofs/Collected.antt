@@ -4,7 +4,7 @@ use Rattle.std.specs.Prelude.{IfSome}
 use Rattle.rb_lines.specs.Answers.{IsSilent}
 use Rattle.rb_lines.specs.Lines.{lines_of}
 use Rattle.rb_lines.specs.declared.fault.ScriptFault.{ScriptFault}
-use Rattle.rb_lines.specs.declared.fault.ScriptFault.TheVariants.{NoConfig, BadConfig, BadLine, LongLine, Read, Write, OutOfMemory, Gather}
+use Rattle.rb_lines.specs.declared.fault.ScriptFault.TheVariants.{Write}
 use Rattle.rb_runs.specs.declared.lines.Lines.{Lines}
 use Rattle.rb_runs.specs.declared.audit.collected.Collected.{Collected}
 use Rattle.rb_runs.specs.Audit.{AuditEndsAs}
@@ -29,14 +29,8 @@ at_first c ls first = ap (λ q. made_by q ls) (sym first)
 -- an audit that stopped before anything was written
 stopped : (f : ScriptFault) (input : List ℕ) (left : Option (List ℕ)) → f ≢ Write → StopsUnwritten input_of f input left []
     → AuditEndsAs (Err f) input left []
-stopped NoConfig input left not h = h
-stopped (BadConfig n) input left not h = h
-stopped (BadLine n) input left not h = h
-stopped (LongLine n) input left not h = h
-stopped Read input left not h = h
 stopped Write input left not h = absurd (not refl)
-stopped OutOfMemory input left not h = h
-stopped Gather input left not h = h
+stopped f input left not h = h
 
 -- the run ended with a fault
 pub ended : (a b : Option (List ℕ)) (c : Lines Collected) (f : ScriptFault) → c ≡ first_lines → f ≢ Write

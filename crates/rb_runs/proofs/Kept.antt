@@ -1,11 +1,10 @@
 -- The entries that a migration writes are read as those that it read.
-use Rattle.std.proofs.Common.{List, [], ◌∷◌, refl, inr, arith}
-use Rattle.rb_money.specs.Settings.{IsConfigured, Settings, in_version_2}
+use Rattle.std.proofs.Common.{ℕ, List, [], ◌∷◌, refl, inr, arith}
+use Rattle.rb_money.specs.Settings.{IsConfigured, IsVersion, Settings, in_version_2}
 use Rattle.rb_scratch.specs.declared.request.Request.{Request}
-use Rattle.rb_scratch.specs.declared.request.Request.TheVariants.{Deposit, Withdraw, Interest, Cancel, Transfer}
+use Rattle.rb_scratch.specs.declared.request.Request.TheVariants.{Deposit}
 use Rattle.rb_shadow.specs.declared.kind.Kind.{Kind}
-use Rattle.rb_shadow.specs.declared.kind.Kind.TheVariants.{Deposit as DepositKind, Withdraw as WithdrawKind, Declined as DeclinedKind}
-use Rattle.rb_shadow.specs.declared.kind.Kind.TheVariants.{Interest as InterestKind, Cancel as CancelKind, Transfer as TransferKind}
+use Rattle.rb_shadow.specs.declared.kind.Kind.TheVariants.{Cancel as CancelKind}
 use Rattle.rb_shadow.specs.declared.shadow.Shadow.{Shadow}
 use Rattle.rb_site.specs.declared.event.Event.{Event}
 use Rattle.rb_site.specs.declared.event.Event.TheVariants.{Submit, Batch, Receive}
@@ -14,9 +13,9 @@ use Rattle.rb_history.specs.Laws.{ReadConfigsAreConfigured}
 use Rattle.rb_history.specs.Fits.{Each, EntriesAreRead, IsEvent, IsKind, IsRequest, IsShadow, ReadEntriesFit}
 use Rattle.rb_runs.specs.MigrationLaws.{MigratedEntriesAreRead}
 
--- what is configured is so in version 2
-pub configured : (s : Settings) → IsConfigured s → IsConfigured (in_version_2 s)
-configured s c = record {
+-- what is configured is so in another version that its lines may have
+pub in_version : (s : Settings) (version : ℕ) → IsConfigured s → IsVersion version s.sites → IsConfigured (record s { version = version })
+in_version s version c may = record {
   some_sites = c.some_sites;
   few_sites = c.few_sites;
   some_accounts = c.some_accounts;
@@ -30,27 +29,24 @@ configured s c = record {
   inbox = c.inbox;
   history = c.history;
   epoch = c.epoch;
-  version = inr refl;
+  version = may;
 }
+
+-- what is configured is so in version 2
+pub configured : (s : Settings) → IsConfigured s → IsConfigured (in_version_2 s)
+configured s c = in_version s 2 c (inr refl)
 
 request : (s : Settings) (r : Request) → IsRequest s r → IsRequest (in_version_2 s) r
 request s (Deposit a n) h = h
-request s (Withdraw a n) h = h
-request s (Interest a rate) h = h
-request s (Cancel x) h = h
-request s (Transfer from to n) h = h
+request s _ h = h
 
 requests : (s : Settings) (rs : List Request) → Each (IsRequest s) rs → Each (IsRequest (in_version_2 s)) rs
 requests s [] h = h
 requests s (r ∷ rs) h = (request s r h.0, requests s rs h.1)
 
 kind : (s : Settings) (k : Kind) → IsKind s k → IsKind (in_version_2 s) k
-kind s DepositKind h = tt
-kind s WithdrawKind h = tt
-kind s DeclinedKind h = tt
-kind s InterestKind h = tt
 kind s (CancelKind x) h = h
-kind s (TransferKind to) h = h
+kind s _ h = h
 
 shadow : (s : Settings) (v : Shadow) → IsShadow s v → IsShadow (in_version_2 s) v
 shadow s v h = record {

@@ -4,7 +4,6 @@ mod Unanswered
 mod Collected
 mod Failures
 mod Reported
-mod Histories
 mod ReadBack
 mod Ended
 mod Ends
@@ -25,7 +24,6 @@ mod Answered
 mod AtRest
 mod OpenLists
 mod SplitLines
-mod JournalLines
 mod Carried
 mod Periods
 mod NextIsBank

@@ -2,7 +2,8 @@
 use Rattle.std.proofs.Common.{◌≡◌, ◌<◌, ◌≤◌, ℕ, ◌+◌, List, [], ◌∷◌, ◌++◌, length, get_or, drop, map, refl, ap, sym, ◌∙◌, arith, add-one}
 use Rattle.std.proofs.Common.{append_assoc, drop-cons, eq-eqb, ne_eqb, slice_get, Some, suc}
 use Rattle.std.specs.Prelude.{Bool, true, false, not, ◌&&◌, nat_le, nat_lt, IfSome, Option, None, zero, replicate, zip, if◌then◌else◌}
-use Rattle.std.proofs.lemmas.List.{get_or-map, length-map, length-replicate}
+use Rattle.std.proofs.lemmas.List.{get_or-map, length-append, length-map, length-replicate}
+use Rattle.std.proofs.lemmas.Slice.Zip.{length-zip}
 use Rattle.std.proofs.lemmas.Option.{get_or_from_slice_get}
 use Rattle.rb_money.specs.Faults.{Account, account_fault, are_limits, config_fault, is_among, settings_of}
 use Rattle.rb_money.specs.Settings.{IsConfigured, Settings, in_version_2, is_account_name, version_of}
@@ -152,14 +153,16 @@ of_parts_fault false false false None o' l e k h = ap (λ x. option_or x l) (k r
 
 count_of : (names : List (List ℕ)) (starts balances : List ℕ) (added : List Account) → length starts ≡ length names
     → length balances ≡ length names → length (zip names balances ++ added) ≡ length (zip names starts ++ added)
-count_of [] [] [] added e f = refl
-count_of [] (x ∷ starts) balances added e f = absurd (let no : ⊥ = omega (arith, e) in no)
-count_of [] [] (b ∷ balances) added e f = absurd (let no : ⊥ = omega (arith, f) in no)
-count_of (a ∷ names) [] balances added e f = absurd (let no : ⊥ = omega (arith, e) in no)
-count_of (a ∷ names) (x ∷ starts) [] added e f = absurd (let no : ⊥ = omega (arith, f) in no)
-count_of (a ∷ names) (x ∷ starts) (b ∷ balances) added e f =
-    ap suc (count_of names starts balances added (let k : length starts ≡ length names = omega (arith, e) in k)
-    (let k : length balances ≡ length names = omega (arith, f) in k))
+count_of names starts balances added e f =
+    omega (
+      arith,
+      length-append (zip names balances) added,
+      length-append (zip names starts) added,
+      length-zip names balances,
+      length-zip names starts,
+      e,
+      f,
+    )
 
 -- if nothing is wrong but, perhaps, what the accounts start with, nothing is wrong with balances that they may start
 -- with

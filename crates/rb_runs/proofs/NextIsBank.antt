@@ -2,7 +2,9 @@
 use Rattle.std.proofs.Common.{◌≡◌, ℕ, ◌==◌, Bool, true, false, List, [], ◌∷◌, ◌++◌, length, None, Ok, codes, refl, sym, ap, ◌∙◌, subst, inr}
 use Rattle.std.proofs.Common.{map, append-nil}
 use Rattle.std.specs.Prelude.{if◌then◌else◌, replicate, zip}
+use Rattle.std.proofs.lemmas.List.{map-append}
 use Rattle.std.proofs.lemmas.List.FromFn.{length-map-range_with_len}
+use Rattle.std.proofs.lemmas.Slice.Zip.{firsts-zip, seconds-zip}
 use Rattle.serde_json.specs.Written.{compact_text}
 use Rattle.rb_money.specs.Amounts.{cents}
 use Rattle.rb_money.specs.Faults.{Account, config_fault}
@@ -19,6 +21,7 @@ use Rattle.rb_runs.specs.Books.{NextBank, next_accounts, next_settings, sites_of
 use Rattle.rb_runs.specs.InputLaws.{HasShortLines, InputsAreReadBack}
 use Rattle.rb_runs.specs.Inputs.{input_of}
 use Rattle.rb_runs.specs.Texts.{config_line}
+use Rattle.rb_runs.proofs.Kept.{in_version}
 use Rattle.rb_runs.proofs.ReadBack.{on_utf8_config}
 
 -- ---- the configuration
@@ -35,42 +38,18 @@ added_starts (name ∷ added) = ap (λ ns. 0 ∷ ns) (added_starts added)
 -- all accounts by their names, and by what they start with
 names_are : (ns : List (List ℕ)) (bs : List ℕ) (added : List (List ℕ)) → length bs ≡ length ns →
     map (λ (a : Account). a.0) (zip ns bs ++ map (λ name. (name, 0)) added) ≡ ns ++ added
-names_are [] [] added e = added_names added
-names_are (n ∷ ns) [] added e = cc
-names_are [] (b ∷ bs) added e = cc
-names_are (n ∷ ns) (b ∷ bs) added e = ap (λ xs. n ∷ xs) (names_are ns bs added (let q : length bs ≡ length ns = cc in q))
+names_are ns bs added e =
+    map-append (λ (a : Account). a.0) (zip ns bs) (map (λ name. (name, 0)) added) ∙ rw (firsts-zip ns bs e, added_names added) refl
 
 starts_are : (ns : List (List ℕ)) (bs : List ℕ) (added : List (List ℕ)) → length bs ≡ length ns →
     map (λ (a : Account). a.1) (zip ns bs ++ map (λ name. (name, 0)) added) ≡ bs ++ replicate (length added) 0
-starts_are [] [] added e = added_starts added
-starts_are (n ∷ ns) [] added e = cc
-starts_are [] (b ∷ bs) added e = cc
-starts_are (n ∷ ns) (b ∷ bs) added e = ap (λ xs. b ∷ xs) (starts_are ns bs added (let q : length bs ≡ length ns = cc in q))
+starts_are ns bs added e =
+    map-append (λ (a : Account). a.1) (zip ns bs) (map (λ name. (name, 0)) added) ∙ rw (seconds-zip ns bs e, added_starts added) refl
 
 -- a configuration of these parts
 abbrev parts : ℕ → List (List ℕ) → List ℕ → Limits → ℕ → Settings
 parts sites names starts limits version =
     record { sites = sites; names = names; starts = starts; limits = limits; version = version }
-
--- with a version that its lines may have
-in_version : (sites : ℕ) (names : List (List ℕ)) (starts : List ℕ) (limits : Limits) (v w : ℕ) →
-    IsConfigured (parts sites names starts limits v) → IsVersion w sites → IsConfigured (parts sites names starts limits w)
-in_version sites names starts limits v w c may = record {
-  some_sites = c.some_sites;
-  few_sites = c.few_sites;
-  some_accounts = c.some_accounts;
-  few_accounts = c.few_accounts;
-  starts_of_all = c.starts_of_all;
-  names = c.names;
-  unique = c.unique;
-  starts = c.starts;
-  blue = c.blue;
-  red = c.red;
-  inbox = c.inbox;
-  history = c.history;
-  epoch = c.epoch;
-  version = may;
-}
 
 -- the version of the next bank's lines is one that they may have
 next_may : (old sites : ℕ) → IsVersion (version_of sites) sites → IsVersion (if old == 2 then 2 else version_of sites) sites
@@ -89,7 +68,7 @@ next_configured s balances ask same none =
     let c : IsConfigured (parts sites (map (λ (a : Account). a.0) accounts)
     (map (λ (a : Account). a.1) accounts) s.limits (version_of sites)) =
     parts_configured sites accounts s.limits none in
-    in_version sites (s.names ++ ask.added) (balances ++ replicate (length ask.added) 0) s.limits (version_of sites)
+    in_version (parts sites (s.names ++ ask.added) (balances ++ replicate (length ask.added) 0) s.limits (version_of sites))
     (next_version s sites)
     (subst (λ bs. IsConfigured (parts sites (s.names ++ ask.added) bs s.limits (version_of sites)))
     (starts_are s.names balances ask.added same)

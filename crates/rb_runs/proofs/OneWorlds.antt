@@ -2,7 +2,7 @@
 use Rattle.std.proofs.Common.{◌≡◌, ℕ, ◌+◌, Bool, true, false, cond, List, [], ◌∷◌, ◌++◌, Option, Some, None, refl, sym, ap, ◌∙◌, subst}
 use Rattle.std.proofs.Common.{inl, inr, arith, map, suc, ◌⊎◌}
 use Rattle.std.specs.Prelude.{option_map, slice_get, slice_set}
-use Rattle.std.proofs.lemmas.Option.{slice_get-map}
+use Rattle.std.proofs.lemmas.Option.{same_Some, slice_get-map}
 use Rattle.rb_money.specs.Settings.{Settings}
 use Rattle.rb_shadow.specs.declared.shadow.Shadow.{Shadow}
 use Rattle.rb_shadow.specs.Operations.{Among}
@@ -14,7 +14,7 @@ use Rattle.rb_site.specs.declared.message.Message.{Message}
 use Rattle.rb_site.specs.declared.message.Message.TheVariants.{Shadow as ShadowMessage, Token as TokenOnItsWay}
 use Rattle.rb_site.specs.declared.world_event.WorldEvent.{WorldEvent}
 use Rattle.rb_site.specs.declared.world_event.WorldEvent.TheVariants.{At, Deliver}
-use Rattle.rb_site.specs.Events.{Answers, Applies, Drops, Holds, Makes, MakesAll, ModelSite, Outcome, Passes, Refuses, Shows, Takes}
+use Rattle.rb_site.specs.Events.{Applies, Makes, MakesAll, ModelSite, Outcome}
 use Rattle.rb_site.specs.Events.{after_event, after_events, changed, first_site, is_full, outcome_of, sent_at, sent_by}
 use Rattle.rb_site.specs.Histories.{AreOneWorlds, history_of}
 use Rattle.rb_site.specs.Seen.{state_of}
@@ -44,16 +44,10 @@ pub record AreRuns (s : Settings) (w : World) : Type 0 where
 
 -- no outcome takes back what is applied
 grows : (t : ModelSite) (o : Outcome) (v : Shadow) → Among v t.ops → Among v (changed t o).ops
-grows t (Refuses why) v h = h
-grows t (Answers r) v h = h
-grows t (Shows a) v h = h
-grows t (Drops x why) v h = h
 grows t (Makes u) v h = Members.Among-left t.ops (u ∷ []) v h
 grows t (MakesAll us) v h = Members.Among-left t.ops us v h
-grows t (Holds u) v h = h
 grows t (Applies u) v h = Members.Among-left t.ops (u ∷ []) v h
-grows t (Takes m) v h = h
-grows t (Passes m) v h = h
+grows t _ v h = h
 
 -- the operations in the messages of a list of operations are these
 shadows_of : (us : List Shadow) → shadows_in (map ShadowMessage us) ≡ us
@@ -62,16 +56,9 @@ shadows_of (u ∷ us) = ap (λ vs. u ∷ vs) (shadows_of us)
 
 -- a sent operation is applied at its own site
 sent_here : (t : ModelSite) (o : Outcome) (v : Shadow) → Among v (shadows_in (sent_by o)) → Among v (changed t o).ops
-sent_here t (Refuses why) v h = absurd h
-sent_here t (Answers r) v h = absurd h
-sent_here t (Shows a) v h = absurd h
-sent_here t (Drops x why) v h = absurd h
 sent_here t (Makes u) v h = Members.Among-right t.ops (u ∷ []) v h
 sent_here t (MakesAll us) v h = Members.Among-right t.ops us v (subst (Among v) (shadows_of us) h)
-sent_here t (Holds u) v h = absurd h
-sent_here t (Applies u) v h = absurd h
-sent_here t (Takes m) v h = absurd h
-sent_here t (Passes m) v h = absurd h
+sent_here t _ v h = absurd h
 
 -- the same of an event
 grows_event : (s : Settings) (t : ModelSite) (e : Event) (v : Shadow) → Among v t.ops → Among v (after_event s t e).ops
@@ -96,9 +83,6 @@ shadows_cases (ShadowMessage u ∷ ms) ns v (inl e) = inl (inl e)
 shadows_cases (ShadowMessage u ∷ ms) ns v (inr h) = elim (shadows_cases ms ns v h) [ inl k ↦ inl (inr k) | inr k ↦ inr k ]
 shadows_cases (TokenOnItsWay m ∷ ms) ns v h = shadows_cases ms ns v h
 
-some_same : {A : Type 0} (x y : A) → Some x ≡ Some y → x ≡ y
-some_same x y e = cc e
-
 run_event : (s : Settings) (i : ℕ) (t : ModelSite) (e : Event) → IsRunAt s i t → IsRunAt s i (after_event s t e)
 run_event s i t e h = record { me = me_after s t e ∙ h.me; run = run_goes_on s t e h.run }
 
@@ -107,7 +91,7 @@ still : (s : Settings) (w : World) (i : ℕ) (e : Event) (t : ModelSite) → sli
     IsApplied (world_at s w i (Some e) (Some t)) v
 still s w i e t at v (j, u, there, h) = elim (same_number i j) [
   | inl same ↦
-      (let is : u ≡ t = some_same u t (sym there ∙ ap (slice_get w.sites) same ∙ at) in (
+      (let is : u ≡ t = same_Some u t (sym there ∙ ap (slice_get w.sites) same ∙ at) in (
         i,
         after_event s t e,
         get_set_same w.sites i t (after_event s t e) at,
@@ -116,17 +100,21 @@ still s w i e t at v (j, u, there, h) = elim (same_number i j) [
   | inr other ↦ (j, u, get_set_other w.sites i j (after_event s t e) other ∙ there, h)
 ]
 
+-- what holds of each site still does, if it holds of the one that took an event
+pub all_still : (P : ℕ → ModelSite → Type 0) (ts : List ModelSite) (i : ℕ) (t n : ModelSite) → slice_get ts i ≡ Some t → P i n
+    → ((j : ℕ) (u : ModelSite) → slice_get ts j ≡ Some u → P j u) → (j : ℕ) (u : ModelSite) → slice_get (slice_set ts i n) j ≡ Some u
+    → P j u
+all_still P ts i t n at new old j u there = elim (same_number i j) [
+  | inl same ↦
+      (let is : u ≡ n = same_Some u n (sym there ∙ (ap (slice_get (slice_set ts i n)) same ∙ get_set_same ts i t n at)) in
+      subst (λ k. P k u) (sym same) (subst (P i) (sym is) new))
+  | inr other ↦ old j u (sym (get_set_other ts i j n other) ∙ there)
+]
+
 at_site : (s : Settings) (w : World) (i : ℕ) (e : Event) (t : ModelSite) → slice_get w.sites i ≡ Some t → AreRuns s w →
     AreRuns s (world_at s w i (Some e) (Some t))
 at_site s w i e t at h = record {
-  sites = λ j u there. elim (same_number i j) [
-    | inl same ↦
-        (let set : List ModelSite = slice_set w.sites i (after_event s t e) in
-        let found : slice_get set i ≡ Some (after_event s t e) = get_set_same w.sites i t (after_event s t e) at in
-        let is : u ≡ after_event s t e = some_same u (after_event s t e) (sym there ∙ (ap (slice_get set) same ∙ found)) in
-        subst (λ n. IsRunAt s n u) (sym same) (subst (IsRunAt s i) (sym is) (run_event s i t e (h.sites i t at))))
-    | inr other ↦ h.sites j u (sym (get_set_other w.sites i j (after_event s t e) other) ∙ there)
-  ];
+  sites = all_still (IsRunAt s) w.sites i t (after_event s t e) at (run_event s i t e (h.sites i t at)) h.sites;
   made = λ v k. elim (shadows_cases w.messages (sent_at s t e) v k) [
     | inl old ↦ still s w i e t at v (h.made v old)
     | inr new ↦ (i, after_event s t e, get_set_same w.sites i t (after_event s t e) at, sent_event s t e v new)
@@ -207,7 +195,7 @@ site_with s hs one i us h = by (slice_get sites i) refl
     by : (o : Option ModelSite) → slice_get sites i ≡ o → option_map (λ (t : ModelSite). t.ops) o ≡ Some us →
         IsSiteWith (world_of_run s one.events) i us
     by None at e = cc
-    by (Some t) at e = record { site = t; at = at; ops = some_same t.ops us e }
+    by (Some t) at e = record { site = t; at = at; ops = same_Some t.ops us e }
 
 -- and what a site of the world has applied is applied by its history
 pub list_of : (s : Settings) (hs : List (List Entry)) (one : AreOneWorlds s hs) (i : ℕ) (t : ModelSite) →

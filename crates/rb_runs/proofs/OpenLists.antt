@@ -1,11 +1,13 @@
 -- The lists of an `open` line are what the sites lack.
 use Rattle.std.proofs.Common.{◌≡◌, ◌<◌, ◌≤◌, ℕ, zero, suc, ◌+◌, Bool, true, false, cond, List, [], ◌∷◌, ◌++◌, length, Some, refl, sym, ap}
 use Rattle.std.proofs.Common.{◌∙◌, subst, arith, inl, inr, map, ◌⊎◌}
-use Rattle.std.specs.Prelude.{◌&&◌, ◌||◌, not, nat_le, filter, slice_get}
+use Rattle.std.specs.Prelude.{◌&&◌, not, nat_le, filter, slice_get}
 use Rattle.std.specs.List.{list_any, range_with_len}
-use Rattle.std.proofs.lemmas.Bool.{and_from, and_parts}
+use Rattle.std.proofs.lemmas.Bool.{and_from, and_parts, not-true, not_from_false}
 use Rattle.std.proofs.lemmas.Bool.Decides.{nat_tests}
-use Rattle.std.proofs.lemmas.List.FromFn.{length-map-range_with_len}
+use Rattle.std.proofs.lemmas.List.FromFn.{get_or-map-range_with_len, length-map-range_with_len}
+use Rattle.std.proofs.lemmas.Map.Keys.{any_passes_from_place}
+use Rattle.std.proofs.lemmas.Option.{slice_get-get_or}
 use Rattle.rb_money.specs.Settings.{IsConfigured, Settings}
 use Rattle.rb_money.specs.declared.limits.TheConstants.{MOST_SITES}
 use Rattle.rb_shadow.specs.declared.op_name.OpName.{OpName}
@@ -17,6 +19,7 @@ use Rattle.rb_shadow.proofs.Public.Clocks.{in_range, in_range-false, in_range-tr
 use Rattle.rb_shadow.proofs.Public.Members
 use Rattle.rb_ledger.specs.Valid.{IsValid}
 use Rattle.rb_ledger.proofs.Public.ValidClocks.{none_past, valid_counted}
+use Rattle.rb_site.proofs.Public.Lists.{get_front}
 use Rattle.rb_site.specs.declared.entry.Entry.{Entry}
 use Rattle.rb_site.specs.Histories.{AreOneWorlds}
 use Rattle.rb_site.specs.Worlds.{made_in, world_of_run}
@@ -66,38 +69,25 @@ any_there {A} p (y ∷ xs) h = elim (Members.or-true (p y) (list_any p xs) h) [
   | inr e ↦ (let (i, x, at, q) = any_there p xs e in (suc i, x, at, q))
 ]
 
--- if one passes, any does
-any_from : {A : Type 0} (p : A → Bool) (xs : List A) (i : ℕ) (x : A) → slice_get xs i ≡ Some x → p x ≡ true → list_any p xs ≡ true
-any_from p [] i x h e = cc
-any_from p (y ∷ xs) zero x h e = let is : y ≡ x = cc in ap (λ b. b || list_any p xs) (ap p is ∙ e)
-any_from p (y ∷ xs) (suc i) x h e = Members.or-right (p y) (list_any p xs) (any_from p xs i x h e)
-
--- what is at a place of the first list is there in both together
-pub get_left : {A : Type 0} (xs ys : List A) (i : ℕ) (x : A) → slice_get xs i ≡ Some x → slice_get (xs ++ ys) i ≡ Some x
-get_left [] ys i x h = cc
-get_left (y ∷ xs) ys zero x h = h
-get_left (y ∷ xs) ys (suc i) x h = get_left xs ys i x h
-
 get_end : {A : Type 0} (xs : List A) (y : A) → slice_get (xs ++ y ∷ []) (length xs) ≡ Some y
 get_end [] y = refl
 get_end (x ∷ xs) y = get_end xs y
 
 get_range : {A : Type 0} (f : ℕ → A) (a n i : ℕ) → i < n → slice_get (map f (range_with_len a n)) i ≡ Some (f (a + i))
-get_range f a zero i h = absurd (let no : ⊥ = omega arith in no)
-get_range f a (suc n) zero h = ap (λ k. Some (f k)) (let q : a ≡ a + 0 = omega arith in q)
-get_range f a (suc n) (suc i) h =
-    get_range f (a + 1) n i (omega arith) ∙ ap (λ k. Some (f k)) (let q : (a + 1) + i ≡ a + suc i = omega arith in q)
+get_range f a n i h =
+    slice_get-get_or (map f (range_with_len a n)) i (f 0) (omega (arith, h, length-map-range_with_len f a n))
+    ∙ ap Some (get_or-map-range_with_len f a n i (a + i) (f 0) h refl)
 
 -- lists of the same numbers are equal
 pub map_same : (f g : ℕ → ℕ) (xs : List ℕ) → ((k : ℕ) → f k ≡ g k) → map f xs ≡ map g xs
 map_same f g [] h = refl
-map_same f g (x ∷ xs) h = ap (λ y. y ∷ map f xs) (h x) ∙ ap (λ ys. g x ∷ ys) (map_same f g xs h)
+map_same f g (x ∷ xs) h = rw (h x, map_same f g xs h) refl
 
 -- ---- the next names
 
 next_blue : (sites : ℕ) (us : List Shadow) (i : ℕ) → i < sites → slice_get (next_names sites us) i ≡ Some (Blue i (blue_count us i + 1))
 next_blue sites us i h =
-    get_left (map (λ i. Blue i (blue_count us i + 1)) (range_with_len 0 sites)) (Red (red_count us + 1) ∷ []) i _
+    get_front (map (λ i. Blue i (blue_count us i + 1)) (range_with_len 0 sites)) (Red (red_count us + 1) ∷ []) i _
     (get_range (λ i. Blue i (blue_count us i + 1)) 0 sites i h
     ∙ ap (λ k. Some (Blue k (blue_count us k + 1))) (let q : 0 + i ≡ i = omega arith in q))
 
@@ -111,15 +101,11 @@ next_red sites us =
 past_count : (c : ℕ) → (nat_le 1 (c + 1) && nat_le (c + 1) c) ≡ false
 past_count c = grind (arith, nat_tests)
 
-negated : (b : Bool) → b ≡ false → not b ≡ true
-negated true e = cc
-negated false e = refl
-
 -- a site lacks what another has applied and it hasn't
 is_lacking : (uss : List (List Shadow)) (us vs : List Shadow) (j : ℕ) (x : OpName) → slice_get uss j ≡ Some vs → names vs x ≡ true →
     names us x ≡ false → lacks uss us x ≡ true
 is_lacking uss us vs j x there has none =
-    and_from _ _ (any_from (λ ws. names ws x) uss j vs there has) (negated (names us x) none)
+    and_from _ _ (any_passes_from_place (λ ws. names ws x) uss j vs there has) (not_from_false (names us x) none)
 
 -- of valid lists: what one has and the other hasn't has a name of its row, not above it, among those that are lacked
 has_up_to : (s : Settings) (uss : List (List Shadow)) (us vs : List Shadow) (j : ℕ) (y : OpName) → IsValid s us → IsValid s vs →
@@ -173,12 +159,8 @@ listed law s hs c one us k x at =
     let (v, among, named) = Members.find_named vs x has in (
       ap (names (made_in (world_of_run s one.events))) (sym named)
           ∙ Members.named (made_in (world_of_run s one.events)) v (was_made law s hs c one j vs there v among),
-      absent (names us x) p.1,
+      not-true (names us x) p.1,
     )
-  where
-    absent : (b : Bool) → not b ≡ true → b ≡ false
-    absent true e = cc
-    absent false e = refl
 
 -- what is made and not applied has a name of its row in the list
 first_listed : Always ValidLists → (s : Settings) (hs : List (List Entry)) → IsConfigured s → (one : AreOneWorlds s hs) (i : ℕ)

@@ -9,6 +9,7 @@ use Rattle.rb_money.specs.declared.place.Place.{Place}
 use Rattle.rb_shadow.specs.Operations.{delta, kept, total}
 use Rattle.rb_ledger.specs.Valid.{IsValid}
 use Rattle.rb_ledger.proofs.Public.Legal.{covers}
+use Rattle.rb_site.proofs.Public.Lists.{get_front}
 use Rattle.rb_site.specs.Events.{ModelSite}
 use Rattle.rb_site.specs.Histories.{AreOneWorlds}
 use Rattle.rb_site.specs.Worlds.{world_of_run}
@@ -19,7 +20,7 @@ use Rattle.rb_runs.specs.BookLaws.{AnswersArePeriods, ArePeriods, Period, Period
 use Rattle.rb_runs.specs.BookLaws.{settings_after, settings_behind}
 use Rattle.rb_runs.proofs.Carried.{balance_is, starts_with}
 use Rattle.rb_runs.proofs.OneWorlds.{applied_are}
-use Rattle.rb_runs.proofs.OpenLists.{get_left, valid_list}
+use Rattle.rb_runs.proofs.OpenLists.{valid_list}
 
 -- the site has applied what it says
 site_list : (s : Settings) (p : Period) → p.site < s.sites → AreOneWorlds s p.histories →
@@ -52,7 +53,7 @@ after law s (p ∷ ps) h a =
 same_place : (s : Settings) (ps : List Period) (i : ℕ) (name : List ℕ) → slice_get s.names i ≡ Some name →
     slice_get (settings_after s ps).names i ≡ Some name
 same_place s [] i name at = at
-same_place s (p ∷ ps) i name at = same_place (settings_behind s p) ps i name (get_left s.names p.ask.added i name at)
+same_place s (p ∷ ps) i name at = same_place (settings_behind s p) ps i name (get_front s.names p.ask.added i name at)
 
 -- any number of periods are one bank
 pub one_bank : Always ValidLists → PeriodsAreOne

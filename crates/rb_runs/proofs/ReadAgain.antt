@@ -18,6 +18,7 @@ use Rattle.rb_runs.specs.MigrationLaws.{MigrationsAreRead}
 use Rattle.rb_runs.specs.Migration.{entries_from, migrated_config_line, migrated_entry_line, migration_from}
 use Rattle.rb_runs.proofs.Kept.{configured, event}
 use Rattle.rb_runs.proofs.ReadBack.{AskedInputsAreReadBack, IsAskedWritable, asked_input_text, asked_text, without_id}
+use Rattle.rb_runs.proofs.Taken.{takes_config, takes_entry}
 
 -- what is on a line, the line is
 entry_is : (s : Settings) (l : List ℕ) (x : ℕ × AskedEntry) → asked_entry_on s l ≡ Some x → asked_entry_of_line s l ≡ Some x
@@ -57,18 +58,9 @@ skips : (s : Settings) (hs : List (List Entry)) (n : ℕ) (l : List ℕ) (ls : L
     → input_after s hs n (l ∷ ls) ≡ input_after s hs (n + 1) ls
 skips s hs n l ls e f = rw (e, f) refl
 
-takes : (s : Settings) (hs : List (List Entry)) (n : ℕ) (l : List ℕ) (ls : List (List ℕ)) (x : ℕ × AskedEntry) → is_long l ≡ false
-    → is_blank l ≡ false → asked_entry_on s l ≡ Some x
-    → input_after s hs n (l ∷ ls) ≡ input_after s (with_entry x.0 x.1.entry hs) (n + 1) ls
-takes s hs n l ls x e f g = let on = entry_alone s l x g in rw (e, f, on) refl
-
 skips_first : (n : ℕ) (l : List ℕ) (ls : List (List ℕ)) → is_long l ≡ false → is_blank l ≡ true
     → input_from n (l ∷ ls) ≡ input_from (n + 1) ls
 skips_first n l ls e f = rw (e, f) refl
-
-opens : (n : ℕ) (l : List ℕ) (ls : List (List ℕ)) (s : Settings) → is_long l ≡ false → is_blank l ≡ false → config_on l ≡ Some s
-    → input_from n (l ∷ ls) ≡ input_after s (by_site s.sites []) (n + 1) ls
-opens n l ls s e f g = rw (e, f, g) refl
 
 -- these entries are on the lines: a migration writes them, and an audit takes them
 record HasEntries (s : Settings) (n : ℕ) (ls : List (List ℕ)) : Type 0 where
@@ -104,7 +96,7 @@ one_entry fits s n l ls false false (Some x) e f g more none =
       entries = x ∷ h.entries;
       can = (writable fits s l x g, h.can);
       text = ap (λ (o : LinesOutcome). o.text) q ∙ ap (λ t. migrated_entry_line s x ++ t) h.text;
-      taken = λ hs. takes s hs n l ls x e f g ∙ h.taken (with_entry x.0 x.1.entry hs);
+      taken = λ hs. takes_entry s hs n l ls (without_id x) e f (entry_alone s l x g) ∙ h.taken (with_entry x.0 x.1.entry hs);
     }
 
 all_entries : ReadEntriesFit → (s : Settings) (n : ℕ) (ls : List (List ℕ)) → (entries_from s n ls).fault ≡ None → HasEntries s n ls
@@ -150,7 +142,7 @@ one_line are fits n l ls false false (Some s) e f g more none =
       entries = h.entries;
       can = h.can;
       text = ap (λ (o : LinesOutcome). o.text) q ∙ ap (λ t. migrated_config_line s ++ t) h.text;
-      taken = opens n l ls s e f g ∙ h.taken (by_site s.sites []);
+      taken = takes_config n l ls s e f g ∙ h.taken (by_site s.sites []);
     }
 
 all_lines : ReadConfigsAreConfigured → ReadEntriesFit → (n : ℕ) (ls : List (List ℕ)) → (migration_from n ls).fault ≡ None → HasInput n ls

@@ -4,7 +4,7 @@ use Rattle.std.proofs.Common.{inl, inr, map}
 use Rattle.std.specs.Prelude.{not, option_map, replicate}
 use Rattle.std.specs.List.{list_all, onto_first}
 use Rattle.std.specs.Str.{is_utf8}
-use Rattle.std.proofs.lemmas.Bool.{and_parts}
+use Rattle.std.proofs.lemmas.Bool.{and_parts, not-true}
 use Rattle.serde_json.specs.Written.{compact_text}
 use Rattle.rb_money.specs.Settings.{IsConfigured, Settings}
 use Rattle.rb_site.specs.declared.entry.Entry.{Entry}
@@ -14,9 +14,10 @@ use Rattle.rb_history.specs.Entries.{asked_entry_json, entry_of_line, entry_on}
 use Rattle.rb_history.specs.Fits.{Each, EntriesAreRead}
 use Rattle.rb_history.specs.Ids.{AskedEntry, IsAsked, IsIdOrNone}
 use Rattle.rb_history.specs.OneLine.{ConfigsAreLines, EntriesAreLines, IsOneLine}
-use Rattle.rb_lines.specs.Lines.{is_blank, is_long, lines_of}
+use Rattle.rb_lines.specs.Lines.{is_long, lines_of}
 use Rattle.rb_runs.specs.Inputs.{input_after, input_of, with_entry}
 use Rattle.rb_runs.specs.InputLaws.{HasShortLines, InputsAreReadBack, IsWritable, by_site, entries_text, with_entries}
+use Rattle.rb_runs.proofs.Taken.{takes_config, takes_entry}
 
 -- a line without a line feed in it is the first, once it has one behind it
 step : (t : Bool) (b : ℕ) (l rest : List ℕ) → (b == 10) ≡ t → not t ≡ true → lines_of (l ++ 10 ∷ rest) ≡ l ∷ lines_of rest
@@ -33,26 +34,14 @@ cut (b ∷ l) rest h = let p = and_parts (not (b == 10)) (list_all (λ b. not (b
 pub first_cut : (l rest : List ℕ) → IsOneLine l → lines_of ((l ++ codes "\n") ++ rest) ≡ l ∷ lines_of rest
 first_cut l rest one = ap lines_of (append_assoc l (codes "\n") rest) ∙ cut l rest one.no_feed
 
-unlong : (b : Bool) → not b ≡ true → b ≡ false
-unlong true e = absurd (cc)
-unlong false e = refl
-
 -- if no line is long, the first isn't, and none of the rest
 short_first : (bytes l : List ℕ) (ls : List (List ℕ)) → lines_of bytes ≡ l ∷ ls → HasShortLines bytes
     → (is_long l ≡ false) × (list_all (λ l. not (is_long l)) ls ≡ true)
 short_first bytes l ls e h =
     let p = and_parts (not (is_long l)) (list_all (λ l. not (is_long l)) ls) (sym (ap (list_all (λ l. not (is_long l))) e) ∙ h) in
-    (unlong (is_long l) p.0, p.1)
+    (not-true (is_long l) p.0, p.1)
 
 -- ---- one line of an input
-
-takes_config : (l : List ℕ) (ls : List (List ℕ)) (s : Settings) → is_long l ≡ false → is_blank l ≡ false → config_on l ≡ Some s
-    → input_of (l ∷ ls) ≡ input_after s (replicate s.sites []) 2 ls
-takes_config l ls s short some on = rw (short, some, on) refl
-
-takes_entry : (s : Settings) (hs : List (List Entry)) (n : ℕ) (l : List ℕ) (ls : List (List ℕ)) (x : ℕ × Entry) → is_long l ≡ false
-    → is_blank l ≡ false → entry_on s l ≡ Some x → input_after s hs n (l ∷ ls) ≡ input_after s (with_entry x.0 x.1 hs) (n + 1) ls
-takes_entry s hs n l ls x short some on = rw (short, some, on) refl
 
 -- a line that is UTF-8 is a configuration if its text is read as one
 pub on_utf8_config : (l : List ℕ) (s : Settings) → is_utf8 l ≡ true → config_at l ≡ Some s → config_on l ≡ Some s
@@ -122,7 +111,7 @@ config_back read lines s c rest short =
     let first = first_cut l rest one in
     let p = short_first ((l ++ codes "\n") ++ rest) l (lines_of rest) first short in
     let on = on_utf8_config l s one.utf8 (read s c) in
-    (ap input_of first ∙ takes_config l (lines_of rest) s p.0 refl on, p.1)
+    (ap input_of first ∙ takes_config 1 l (lines_of rest) s p.0 refl on, p.1)
 
 entries_back : EntriesAreRead → EntriesAreLines → (s : Settings) → IsConfigured s → (hs : List (List Entry)) (n : ℕ) (xs : List (ℕ × Entry))
     → Each (IsWritable s) xs → HasShortLines (entries_text s xs)

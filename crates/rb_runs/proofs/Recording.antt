@@ -20,7 +20,7 @@ use Rattle.rb_lines.specs.Buffers.{Sends}
 use Rattle.rb_lines.specs.Lines.{is_blank, is_long, lines_of}
 use Rattle.rb_lines.specs.Writes.{AppendsFront}
 use Rattle.rb_lines.specs.declared.fault.ScriptFault.{ScriptFault}
-use Rattle.rb_lines.specs.declared.fault.ScriptFault.TheVariants.{NoConfig, BadConfig, BadLine, LongLine, Read, Write, OutOfMemory, Gather}
+use Rattle.rb_lines.specs.declared.fault.ScriptFault.TheVariants.{Write, OutOfMemory}
 use Rattle.rb_runs.specs.declared.lines.Lines.{Lines}
 use Rattle.rb_runs.specs.declared.recorded.recorder.Recorder.{Recorder}
 use Rattle.rb_runs.specs.declared.recorded.unwritten.Unwritten.{Unwritten}
@@ -73,14 +73,9 @@ silent r = λ ls. no_text (recorder_rest r.opened r.number ls)
 -- a script that stopped before anything was written
 stopped : (f : ScriptFault) (input : List ℕ) (left : Option (List ℕ)) → f ≢ Write → StopsUnwritten recording_of f input left []
     → HistoriesEndAs (Err f) input left []
-stopped NoConfig input left not h = h
-stopped (BadConfig n) input left not h = h
-stopped (BadLine n) input left not h = h
-stopped (LongLine n) input left not h = h
-stopped Read input left not h = h
 stopped Write input left not h = absurd (not refl)
 stopped OutOfMemory input left not h = inl refl
-stopped Gather input left not h = h
+stopped f input left not h = h
 
 -- the run ended with a fault
 pub ended : (a b : Option (List ℕ)) (r : Lines Recorder) (f : ScriptFault) → r ≡ first_lines → f ≢ Write
@@ -102,15 +97,6 @@ pub recorded : (a b : Option (List ℕ)) (r new : Lines Recorder) (x : Recorder)
 recorded None b r new x u first there h made = tt
 recorded (Some input) b r new x u first there h made =
     (ap (λ q. made_by q (lines_of input)) (sym first) ∙ made ∙ ap (λ o. recorder_rest o new.number []) there, h.1)
-
--- the run took all lines, and there was no configuration
-pub unopened : (a b : Option (List ℕ)) (r new : Lines Recorder) (u : Unit {0}) → r ≡ first_lines → new.opened ≡ None
-    → IfSome a (λ input. EndsSilently (lines_state (unanswered recorder_rest) r).rest (Ok u) input b)
-    → IfSome a (λ input. made_by r (lines_of input) ≡ made_by new [])
-    → IfSome a (λ input. HistoriesEndAs (Err NoConfig) input b [])
-unopened None b r new u first none h made = tt
-unopened (Some input) b r new u first none h made =
-    (ap (λ q. made_by q (lines_of input)) (sym first) ∙ made ∙ ap (λ o. recorder_rest o new.number []) none, refl)
 
 -- ---- what was written
 

@@ -14,7 +14,7 @@ use Rattle.rb_token.specs.Token.{Token}
 use Rattle.rb_scratch.specs.Batches.{batch_of, cause_of, made_in_batch}
 use Rattle.rb_scratch.specs.Requests.{allowed, allowed_red, made_of, operation_of, plan_of}
 use Rattle.rb_scratch.specs.declared.request.Request.{Request}
-use Rattle.rb_scratch.specs.declared.request.Request.TheVariants.{Deposit, Withdraw, Interest, Cancel, Transfer}
+use Rattle.rb_scratch.specs.declared.request.Request.TheVariants.{Deposit}
 use Rattle.rb_scratch.specs.declared.request.TheConstants.{MOST_REQUESTS}
 use Rattle.rb_scratch.specs.declared.run_fault.RunFault.TheVariants.{Declined as DeclinedFault}
 use Rattle.rb_shadow.specs.Sound.{fault_of}
@@ -33,10 +33,7 @@ use Rattle.rb_runs.specs.MigrationLaws.{ReplaysAreEqual}
 plan : (s : Settings) (us : List Shadow) (r : Request) → plan_of (in_version_2 s) us r ≡ plan_of s us r
 unfolding bal plan_of
 plan s us (Deposit a n) = refl
-plan s us (Withdraw a n) = refl
-plan s us (Interest a rate) = refl
-plan s us (Cancel x) = refl
-plan s us (Transfer from to n) = refl
+plan s us _ = refl
 
 red : (s : Settings) (us : List Shadow) (token : Token) (v : Shadow) → allowed_red (in_version_2 s) us token v ≡ allowed_red s us token v
 unfolding bal

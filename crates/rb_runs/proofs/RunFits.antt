@@ -1,7 +1,7 @@
 -- The entries that the sites of a world record fit their lines if the world's commands do.
 use Rattle.std.proofs.Common.{◌≡◌, ℕ, ◌+◌, ◌<◌, Bool, true, false, cond, List, [], ◌∷◌, ◌++◌, length, Option, Some, None, refl, sym, ap}
 use Rattle.std.proofs.Common.{◌∙◌, subst, inl, inr, arith, append-nil}
-use Rattle.std.specs.Prelude.{IfSome, option_map, slice_get, slice_set}
+use Rattle.std.specs.Prelude.{IfSome, option_map, slice_get}
 use Rattle.std.proofs.lemmas.List.FromFn.{length-map-range_with_len}
 use Rattle.std.proofs.lemmas.Option.{slice_get_within}
 use Rattle.rb_money.specs.Settings.{Settings}
@@ -13,13 +13,13 @@ use Rattle.rb_site.specs.declared.world_event.WorldEvent.TheVariants.{At, Delive
 use Rattle.rb_site.specs.Events.{ModelSite, after_event, after_events, first_site, is_full, sent_at}
 use Rattle.rb_site.specs.Histories.{IsAmong, sends_of}
 use Rattle.rb_site.specs.Worlds.{World, first_world, message_at, world_after, world_after_all, world_at, world_of_run}
-use Rattle.rb_site.proofs.Public.Places.{get_set_other, get_set_same, same_number}
 use Rattle.rb_site.proofs.Public.Recorded.{me_after, placed}
 use Rattle.rb_site.proofs.Public.Runs.{IsRunOfItsHistory, noted, run_goes_on}
 use Rattle.rb_site.proofs.Public.Stuck.{among-cases, among-right, first_sites, sends-append}
 use Rattle.rb_history.specs.Fits.{Each, IsEvent}
 use Rattle.rb_history.specs.Sites.{IsFittingCommand}
 use Rattle.rb_history.proofs.Public.Each.{each_both}
+use Rattle.rb_runs.proofs.OneWorlds.{all_still}
 
 -- a site of the configuration sent the message
 pub record IsSentBySite (s : Settings) (m : Message) : Type 0 where
@@ -77,22 +77,10 @@ sent_here s i t e m h among =
       among = subst (IsAmong m) (sym sends) (among-right m (sends_of s (first_site i) t.history) (sent_at s t e) among);
     }
 
-some_same : {A : Type 0} (x y : A) → Some x ≡ Some y → x ≡ y
-some_same x y e = cc e
-
 at_site : (s : Settings) (w : World) (i : ℕ) (e : Event) (t : ModelSite) → slice_get w.sites i ≡ Some t → IsEvent s e → IsFittingWorld s w
     → IsFittingWorld s (world_at s w i (Some e) (Some t))
 at_site s w i e t at fits h = record {
-  sites = λ j u there. elim (same_number i j) [
-    | inl same ↦
-        (let set : List ModelSite = slice_set w.sites i (after_event s t e) in
-        let moved : slice_get set j ≡ slice_get set i = ap (λ k. slice_get set k) same in
-        let found : slice_get set i ≡ Some (after_event s t e) = get_set_same w.sites i t (after_event s t e) at in
-        let is : u ≡ after_event s t e = some_same u (after_event s t e) (sym there ∙ (moved ∙ found)) in
-        let P : ℕ → Type 0 = λ n. HasFitting s n u in
-        subst P (sym same) (subst (HasFitting s i) (sym is) (site_fits s i t e fits (h.sites i t at))))
-    | inr other ↦ h.sites j u (sym (get_set_other w.sites i j (after_event s t e) other) ∙ there)
-  ];
+  sites = all_still (HasFitting s) w.sites i t (after_event s t e) at (site_fits s i t e fits (h.sites i t at)) h.sites;
   messages = λ m among. elim (among-cases m w.messages (sent_at s t e) among) [
     | inl old ↦ h.messages m old
     | inr new ↦ sent_here s i t e m (h.sites i t at) new

@@ -5,7 +5,7 @@ use Rattle.std.specs.Prelude.{IfSome}
 use Rattle.rb_lines.specs.Answers.{IsFaulty, IsUnfinished, LinesOutcome, RunEndsAs, after_text}
 use Rattle.rb_lines.specs.Lines.{lines_of}
 use Rattle.rb_lines.specs.declared.fault.ScriptFault.{ScriptFault}
-use Rattle.rb_lines.specs.declared.fault.ScriptFault.TheVariants.{NoConfig, BadConfig, BadLine, LongLine, Read, Write, OutOfMemory, Gather}
+use Rattle.rb_lines.specs.declared.fault.ScriptFault.TheVariants.{NoConfig, Read, Write, OutOfMemory, Gather}
 use Rattle.rb_runs.specs.Inputs.{Input}
 use Rattle.rb_runs.specs.Silent.{EndsSilently, IsFaultyInput, IsUnfinishedInput, StopsUnwritten, input_outcome, unanswered}
 use Rattle.rb_runs.specs.TakesLines.{TakesLine}
@@ -54,13 +54,7 @@ fault_of (Err g) f e = cc
 unfinished_of : (r : Result Input ScriptFault) → IsUnfinished (input_outcome r).fault → IsUnfinishedInput r
 unfinished_of (Ok x) u = tt
 unfinished_of (Err NoConfig) u = tt
-unfinished_of (Err (BadConfig n)) u = absurd u
-unfinished_of (Err (BadLine n)) u = absurd u
-unfinished_of (Err (LongLine n)) u = absurd u
-unfinished_of (Err Read) u = absurd u
-unfinished_of (Err Write) u = absurd u
-unfinished_of (Err OutOfMemory) u = absurd u
-unfinished_of (Err Gather) u = absurd u
+unfinished_of (Err _) u = absurd u
 
 module _ (all rest : List (List ℕ) → Result Input ScriptFault) (same : (ls : List (List ℕ)) → all ls ≡ rest ls) where
   faulty : (input text : List ℕ) (f : ScriptFault) → IsFaulty (input_outcome (rest (lines_of input))) text f → IsFaultyInput all input [] f
@@ -69,10 +63,6 @@ module _ (all rest : List (List ℕ) → Result Input ScriptFault) (same : (ls :
   -- the run stopped as what its lines say has it
   pub stops : (f : ScriptFault) (input : List ℕ) (left : Option (List ℕ)) (text : List ℕ) → f ≢ Write
       → RunEndsAs (λ ls. input_outcome (rest ls)) (Err f) input left text → StopsUnwritten all f input left []
-  stops NoConfig input left text not h = faulty input text NoConfig h
-  stops (BadConfig n) input left text not h = faulty input text (BadConfig n) h
-  stops (BadLine n) input left text not h = faulty input text (BadLine n) h
-  stops (LongLine n) input left text not h = faulty input text (LongLine n) h
   stops Read input left text not (behind, is, answered) = (
     behind,
     is,
@@ -86,3 +76,4 @@ module _ (all rest : List (List ℕ) → Result Input ScriptFault) (same : (ls :
   stops Write input left text not h = absurd (not refl)
   stops OutOfMemory input left text not h = refl
   stops Gather input left text not h = absurd h
+  stops f input left text not h = faulty input text f h

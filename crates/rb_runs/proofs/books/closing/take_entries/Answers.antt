@@ -2,7 +2,7 @@
 use Rattle.std.proofs.Common.{ap, ◌∙◌, arith}
 use Rattle.rb_lines.specs.Lines.{lines_of}
 use Rattle.rb_runs.specs.JournalFiles.{with_lines}
-use Rattle.rb_runs.proofs.JournalLines.{entry_more}
+use Rattle.rb_runs.proofs.Taken.{entry_more}
 use Rattle.rb_runs.proofs.books.closing.take_entries.Goals as goal
 
 pub lines-preserved : goal.lines-preserved
