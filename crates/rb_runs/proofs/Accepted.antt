@@ -1,37 +1,15 @@
 -- An audit accepts the text of a script's histories.
-use Rattle.std.proofs.Common.{◌≡◌, ℕ, suc, ◌+◌, ◌<◌, Bool, true, false, List, [], ◌∷◌, ◌++◌, length, map, Option, Some, None, Result, Ok}
-use Rattle.std.proofs.Common.{Err, refl, sym, ap, ◌∙◌, subst, inl, arith}
-use Rattle.std.specs.Prelude.{if◌then◌else◌, slice_get}
-use Rattle.std.specs.Option.{option_map_or}
-use Rattle.std.proofs.lemmas.List.{length-map}
-use Rattle.rb_money.specs.Settings.{IsConfigured, Settings}
-use Rattle.rb_site.specs.declared.entry.Entry.{Entry}
-use Rattle.rb_site.specs.declared.event.Event.{Event}
-use Rattle.rb_site.specs.declared.world_event.WorldEvent.{WorldEvent}
-use Rattle.rb_site.specs.declared.world_event.WorldEvent.TheVariants.{At, Deliver}
-use Rattle.rb_site.specs.Events.{ModelSite, after_events, first_site}
-use Rattle.rb_site.specs.Histories.{AreOneWorlds, histories_of, history_of, with_replies}
-use Rattle.rb_site.specs.Worlds.{AreOwn, World, world_after_all, world_of_run}
-use Rattle.rb_site.proofs.Public.Runs.{after_events-append}
-use Rattle.rb_world.specs.Laws.{SeenWorld, next_world, next_worlds, opened}
-use Rattle.rb_world.proofs.Public.{sites_of_run}
-use Rattle.rb_history.specs.Configurations.{config_on}
-use Rattle.rb_history.specs.Fits.{Each, IsEvent}
-use Rattle.rb_history.specs.Laws.{ReadConfigsAreConfigured}
-use Rattle.rb_history.specs.OnLines.{command_on}
+use Rattle.rb_runs.proofs.Words.{◌≡◌, ℕ, suc, ◌+◌, ◌<◌, Bool, true, false, List, [], ◌∷◌, ◌++◌, length, map, Option, Some, None, Result}
+use Rattle.rb_runs.proofs.Words.{Ok, Err, refl, sym, ap, ◌∙◌, subst, inl, arith, if◌then◌else◌, slice_get, option_map_or, length-map}
+use Rattle.rb_runs.proofs.Words.{IsConfigured, Settings, Entry, Event, WorldEvent, At, Deliver, ModelSite, after_events, first_site}
+use Rattle.rb_runs.proofs.Words.{AreOneWorlds, histories_of, history_of, with_replies, AreOwn, World, world_after_all, world_of_run}
+use Rattle.rb_runs.proofs.Words.{after_events-append, SeenWorld, next_world, next_worlds, opened, sites_of_run, config_on, Each, IsEvent}
+use Rattle.rb_runs.proofs.Words.{ReadConfigsAreConfigured, command_on, IsFittingCommand, ReadCommandsFit, RepliesFitLines, each_both}
+use Rattle.rb_runs.proofs.Words.{is_blank, is_long, lines_of, ScriptFault, BadConfig, BadLine, LongLine, Read, Write, OutOfMemory, Gather}
+use Rattle.rb_runs.proofs.Words.{AuditEndsAs, HasShortLines, InputsAreReadBack, IsWritable, Input, input_of, recording_by, recording_from}
+use Rattle.rb_runs.proofs.Words.{recording_in, Commands, commands_from, stops, with_command, text_of}
 use Rattle.rb_history.specs.Banks.{MessagesAreRead, ReadEventsFit}
-use Rattle.rb_history.specs.Sites.{IsFittingCommand, ReadCommandsFit, RepliesFitLines}
-use Rattle.rb_history.proofs.Public.Each.{each_both}
-use Rattle.rb_lines.specs.Lines.{is_blank, is_long, lines_of}
-use Rattle.rb_lines.specs.declared.fault.ScriptFault.{ScriptFault}
-use Rattle.rb_lines.specs.declared.fault.ScriptFault.TheVariants.{BadConfig, BadLine, LongLine, Read, Write, OutOfMemory, Gather}
-use Rattle.rb_runs.specs.Audit.{AuditEndsAs}
-use Rattle.rb_runs.specs.InputLaws.{HasShortLines, InputsAreReadBack, IsWritable}
-use Rattle.rb_runs.specs.Inputs.{Input, input_of}
-use Rattle.rb_runs.specs.Recording.{recording_by, recording_from, recording_in}
 use Rattle.rb_runs.specs.RecordingLaws.{HistoriesAreAccepted, IsAccepted, IsNoRefusal}
-use Rattle.rb_runs.specs.Script.{Commands, commands_from, stops, with_command}
-use Rattle.rb_runs.specs.Texts.{text_of}
 use Rattle.rb_runs.proofs.Entries.{all_numbered, numbered, same_histories, same_text}
 use Rattle.rb_runs.proofs.ReadAgain.{config_is}
 use Rattle.rb_runs.proofs.RunFits.{HasFitting, IsFittingWorld, ReceiptsFit, run_fits}

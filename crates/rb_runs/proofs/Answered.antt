@@ -1,31 +1,15 @@
 -- Answers of closing the books.
-use Rattle.std.proofs.Common.{◌≡◌, ◌≤◌, ◌<◌, ℕ, ◌+◌, List, [], ◌∷◌, length, Bool, true, false, None, Some, Ok, Err, IfOk, Result, Vec}
-use Rattle.std.proofs.Common.{get_or, ap, sym, subst, refl, ◌∙◌, map, arith, inr}
-use Rattle.std.specs.Prelude.{slice_get}
+use Rattle.rb_runs.proofs.Words.{◌≡◌, ◌≤◌, ◌<◌, ℕ, ◌+◌, List, [], ◌∷◌, length, Bool, true, false, None, Some, Ok, Err, IfOk, Result, Vec}
+use Rattle.rb_runs.proofs.Words.{get_or, ap, sym, subst, refl, ◌∙◌, map, arith, inr, slice_get, length-map-range_with_len, slice_get_read}
+use Rattle.rb_runs.proofs.Words.{slice_get_within, cents, config_fault, IsConfigured, Settings, OpName, Shadow, bal, MOST_CENTS, open_json}
+use Rattle.rb_runs.proofs.Words.{verdict_line, Entry, AreOneWorlds, balances_of, SeenSite, state_of, map_at, map_back, ClosedBalancesAgree}
+use Rattle.rb_runs.proofs.Words.{OpenListsAreLacking, MayBeClosed, IsFirstAbove, NextBank, StartsNext, ReportsBalances, ReportsClosing}
+use Rattle.rb_runs.proofs.Words.{ReportsOpen, applied_by, applied_from, applied_in, input_at, lacked, next_accounts, sites_of_next}
+use Rattle.rb_runs.proofs.Words.{next_with, config_line, Input}
 use Rattle.std.specs.declared.alloc.Global.{Global}
 use Rattle.std.specs.declared.alloc.AllocError.{AllocError}
-use Rattle.std.proofs.lemmas.List.FromFn.{length-map-range_with_len}
-use Rattle.std.proofs.lemmas.Option.{slice_get_read, slice_get_within}
-use Rattle.rb_money.specs.Amounts.{cents}
-use Rattle.rb_money.specs.Faults.{config_fault}
-use Rattle.rb_money.specs.Settings.{IsConfigured, Settings}
-use Rattle.rb_shadow.specs.declared.op_name.OpName.{OpName}
-use Rattle.rb_shadow.specs.declared.shadow.Shadow.{Shadow}
-use Rattle.rb_shadow.specs.Operations.{bal}
-use Rattle.rb_money.specs.declared.cents.TheConstants.{MOST_CENTS}
-use Rattle.rb_history.specs.Verdicts.{open_json, verdict_line}
-use Rattle.rb_site.specs.declared.entry.Entry.{Entry}
-use Rattle.rb_site.specs.Histories.{AreOneWorlds}
-use Rattle.rb_site.specs.Reports.{balances_of}
-use Rattle.rb_site.specs.Seen.{SeenSite, state_of}
-use Rattle.rb_site.proofs.Public.Lists.{map_at, map_back}
 use Rattle.rb_auditor.specs.Certificates.{Certifies}
 use Rattle.rb_auditor.specs.Replays.{ended_sites}
-use Rattle.rb_runs.specs.BookLaws.{ClosedBalancesAgree, OpenListsAreLacking}
-use Rattle.rb_runs.specs.Books.{MayBeClosed, IsFirstAbove, NextBank, StartsNext, ReportsBalances, ReportsClosing, ReportsOpen, applied_by}
-use Rattle.rb_runs.specs.Books.{applied_from, applied_in, input_at, lacked, next_accounts, sites_of_next, next_with}
-use Rattle.rb_runs.specs.Texts.{config_line}
-use Rattle.rb_runs.specs.Inputs.{Input}
 use Rattle.rb_runs.proofs.Carried.{same_balances}
 
 -- ---- sites at the end of histories

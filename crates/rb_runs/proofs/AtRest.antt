@@ -1,17 +1,9 @@
 -- Closed books are of a world at rest.
-use Rattle.std.proofs.Common.{◌≡◌, ◌≤◌, ℕ, List, Some, sym, ap, ◌∙◌, subst, arith}
-use Rattle.std.specs.Prelude.{slice_get}
-use Rattle.rb_money.specs.Settings.{IsConfigured, Settings}
-use Rattle.rb_shadow.specs.declared.shadow.Shadow.{Shadow}
-use Rattle.rb_shadow.specs.Operations.{Agree, Among, AreSame, clock_of, names, names_of_clock}
-use Rattle.rb_shadow.proofs.Public.Members
-use Rattle.rb_site.specs.declared.entry.Entry.{Entry}
-use Rattle.rb_site.specs.Histories.{AreOneWorlds}
-use Rattle.rb_site.specs.Worlds.{World, made_in, world_of_run}
-use Rattle.rb_world.specs.Laws.{Agreement, Always, Clocks, RedBlue}
-use Rattle.rb_runs.specs.Books.{MayBeClosed, applied_from}
-use Rattle.rb_runs.specs.BookLaws.{ClosedBalancesAgree}
+use Rattle.rb_runs.proofs.Words.{◌≡◌, ◌≤◌, ℕ, List, Some, sym, ap, ◌∙◌, subst, arith, slice_get, IsConfigured, Settings, Shadow, Agree}
+use Rattle.rb_runs.proofs.Words.{Among, AreSame, clock_of, names, names_of_clock, Entry, AreOneWorlds, World, made_in, world_of_run}
+use Rattle.rb_runs.proofs.Words.{Agreement, Always, Clocks, RedBlue, MayBeClosed, applied_from, ClosedBalancesAgree}
 use Rattle.rb_runs.proofs.OneWorlds.{IsSiteWith, list_of, run_of, site_with}
+use Rattle.rb_shadow.proofs.Public.Members
 
 -- a bank has a site
 pub some_site : (s : Settings) → IsConfigured s → 1 ≤ s.sites

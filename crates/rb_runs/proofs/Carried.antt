@@ -1,32 +1,17 @@
 -- The next bank starts with the balances.
-use Rattle.std.proofs.Common.{◌≡◌, ◌≤◌, ℕ, zero, suc, ◌+◌, Bool, true, false, cond, List, ◌++◌, length, Option, Some, None, refl, sym, ap}
-use Rattle.std.proofs.Common.{◌∙◌, arith, map}
-use Rattle.std.specs.Prelude.{ℤ, pos, negsuc, ◌+ℤ◌, ◌≤ℤ◌, ◌==◌, nat_le, replicate, slice_index, sum}
-use Rattle.std.specs.List.{range_with_len}
-use Rattle.std.proofs.lemmas.Bool.Decides.{nat_tests}
-use Rattle.std.proofs.lemmas.Int.{ints}
-use Rattle.std.proofs.lemmas.List.{get_or_past}
-use Rattle.std.proofs.lemmas.List.Sums.{sum_by-cons}
-use Rattle.rb_money.specs.Amounts.{cents}
-use Rattle.rb_money.specs.Settings.{IsConfigured, Settings, start_of}
-use Rattle.rb_money.specs.declared.place.Place.{Place}
-use Rattle.rb_shadow.specs.declared.shadow.Shadow.{Shadow}
-use Rattle.rb_shadow.specs.Operations.{Agree, arrived, bal, delta, kept, moved, receiver_of, total}
-use Rattle.rb_shadow.specs.Sound.{is_misdirected}
+use Rattle.rb_runs.proofs.Words.{◌≡◌, ◌≤◌, ℕ, zero, suc, ◌+◌, Bool, true, false, cond, List, ◌++◌, length, Option, Some, None, refl, sym}
+use Rattle.rb_runs.proofs.Words.{ap, ◌∙◌, arith, map, ℤ, pos, negsuc, ◌+ℤ◌, ◌≤ℤ◌, ◌==◌, nat_le, replicate, slice_index, sum}
+use Rattle.rb_runs.proofs.Words.{range_with_len, nat_tests, ints, get_or_past, sum_by-cons, cents, IsConfigured, Settings, start_of, Place}
+use Rattle.rb_runs.proofs.Words.{Shadow, Agree, arrived, delta, kept, moved, receiver_of, total, is_misdirected, IsValid, covers}
+use Rattle.rb_runs.proofs.Words.{member_sound, get_front, balances_of, Agreement, Always, Clocks, ValidLists, NextBank, next_settings}
+use Rattle.rb_runs.proofs.Words.{next_with, CarriedForward, IsCarriedForward, sum_of_accounts}
+use Rattle.rb_shadow.specs.Operations.{bal}
 use Rattle.rb_shadow.proofs.Public.Balances.{bal-worth, is_kept, worth}
-use Rattle.rb_shadow.proofs.Public.Members
 use Rattle.rb_shadow.proofs.Public.SoundFacts.{SoundFacts}
-use Rattle.rb_shadow.proofs.Public.Totals
-use Rattle.rb_ledger.specs.Valid.{IsValid}
-use Rattle.rb_ledger.proofs.Public.Legal.{covers}
-use Rattle.rb_ledger.proofs.Public.ValidClocks.{member_sound}
-use Rattle.rb_site.proofs.Public.Lists.{get_front}
-use Rattle.rb_site.specs.Reports.{balances_of}
-use Rattle.rb_world.specs.Laws.{Agreement, Always, Clocks, ValidLists}
-use Rattle.rb_runs.specs.Books.{NextBank, next_settings, next_with}
-use Rattle.rb_runs.specs.BookLaws.{CarriedForward, IsCarriedForward, sum_of_accounts}
 use Rattle.rb_runs.proofs.AtRest.{sites_agree}
 use Rattle.rb_runs.proofs.OpenLists.{map_same, valid_list}
+use Rattle.rb_shadow.proofs.Public.Members
+use Rattle.rb_shadow.proofs.Public.Totals
 
 -- ---- what is beyond the accounts
 

@@ -1,13 +1,6 @@
 -- The effect of one line of a migration.
-use Rattle.std.proofs.Common.{◌≡◌, ℕ, false, List, Some, None, refl, arith}
-use Rattle.rb_money.specs.Settings.{Settings}
-use Rattle.rb_history.specs.Configurations.{config_on}
-use Rattle.rb_history.specs.Entries.{asked_entry_on}
-use Rattle.rb_history.specs.Ids.{AskedEntry}
-use Rattle.rb_lines.specs.Lines.{is_blank, is_long}
-use Rattle.rb_runs.specs.Migration.{migrated_config_line, migrated_entry_line}
-use Rattle.rb_runs.specs.MigrationSession.{migration_rest}
-use Rattle.rb_runs.specs.TakesLines.{TakesLine, makes_nothing}
+use Rattle.rb_runs.proofs.Words.{◌≡◌, ℕ, false, List, Some, None, refl, arith, Settings, config_on, asked_entry_on, AskedEntry, is_blank}
+use Rattle.rb_runs.proofs.Words.{is_long, migrated_config_line, migrated_entry_line, migration_rest, TakesLine, makes_nothing}
 
 -- the configuration's line is answered by its line in version 2
 pub opens : (s : Settings) (l : List ℕ) → is_long l ≡ false → is_blank l ≡ false → config_on l ≡ Some s

@@ -1,14 +1,8 @@
 -- The entries of histories, one after another: their text, and the histories that they make.
-use Rattle.std.proofs.Common.{◌≡◌, ℕ, ◌+◌, List, [], ◌∷◌, ◌++◌, length, map, refl, sym, ap, ◌∙◌, append-nil, append_assoc}
-use Rattle.std.specs.Prelude.{codes, replicate}
-use Rattle.std.proofs.lemmas.List.{length-append}
-use Rattle.serde_json.specs.Written.{compact_text}
-use Rattle.rb_money.specs.Settings.{Settings}
-use Rattle.rb_site.specs.declared.entry.Entry.{Entry}
-use Rattle.rb_history.specs.Entries.{entry_json}
-use Rattle.rb_runs.specs.InputLaws.{by_site, entries_text, input_text, with_entries}
-use Rattle.rb_runs.specs.Inputs.{with_entry}
-use Rattle.rb_runs.specs.Texts.{config_line, entry_line, histories_text, history_text, text_of}
+use Rattle.rb_runs.proofs.Words.{◌≡◌, ℕ, ◌+◌, List, [], ◌∷◌, ◌++◌, length, map, refl, sym, ap, ◌∙◌, append-nil, append_assoc, codes}
+use Rattle.rb_runs.proofs.Words.{replicate, length-append, compact_text, Settings, Entry, entry_json, by_site, entries_text, input_text}
+use Rattle.rb_runs.proofs.Words.{with_entries, with_entry, histories_text, history_text, text_of}
+use Rattle.rb_runs.specs.Texts.{config_line, entry_line}
 
 -- the entries of a site's history, each with the site's number
 abbrev pub numbered : ℕ → List Entry → List (ℕ × Entry)

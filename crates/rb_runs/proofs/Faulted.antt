@@ -1,10 +1,8 @@
 -- The line of a fault of an audit.
-use Rattle.std.proofs.Common.{ℕ, List, false, inl, inr}
+use Rattle.rb_runs.proofs.Words.{ℕ, List, false, inl, inr, IsFaultLine, ReportsVerdict, Input}
 use Rattle.rb_auditor.specs.declared.audit_fault.AuditFault.{AuditFault}
 use Rattle.rb_auditor.specs.declared.audit_fault.AuditFault.TheVariants.{OutOfMemory, Stuck, WrongReply}
 use Rattle.rb_auditor.specs.Findings.{IsFound, Refutes}
-use Rattle.rb_runs.specs.Audit.{IsFaultLine, ReportsVerdict}
-use Rattle.rb_runs.specs.Inputs.{Input}
 
 -- the line of what an audit found is its verdict
 pub faulted : (x : Input) (fault : AuditFault) (line : List ℕ) → IsFound x.settings x.histories fault

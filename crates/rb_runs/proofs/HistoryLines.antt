@@ -1,14 +1,10 @@
 -- The text of histories, line by line.
-use Rattle.std.proofs.Common.{◌≡◌, ℕ, ◌+◌, ◌<◌, List, [], ◌∷◌, ◌++◌, length, get_or, map, take, drop, Option, sym, subst, ap, ◌∙◌}
-use Rattle.std.proofs.Common.{append-nil, append_assoc, add-zero, zero-add, arith}
+use Rattle.rb_runs.proofs.Words.{◌≡◌, ℕ, ◌+◌, ◌<◌, List, [], ◌∷◌, ◌++◌, length, get_or, map, take, drop, Option, sym, subst, ap, ◌∙◌}
+use Rattle.rb_runs.proofs.Words.{append-nil, append_assoc, add-zero, zero-add, arith, drop_more, length-drop, length-map, length-take-le}
+use Rattle.rb_runs.proofs.Words.{map-append, take_more, Sends, AppendsFront, Settings, Entry, SiteReport, entry_line, histories_text}
+use Rattle.rb_runs.proofs.Words.{history_text}
 use Rattle.std.proofs.lemmas.Grind.{flat_map-append}
-use Rattle.std.proofs.lemmas.List.{drop_more, length-drop, length-map, length-take-le, map-append, take-append-drop, take_more}
-use Rattle.rb_lines.specs.Buffers.{Sends}
-use Rattle.rb_lines.specs.Writes.{AppendsFront}
-use Rattle.rb_money.specs.Settings.{Settings}
-use Rattle.rb_site.specs.declared.entry.Entry.{Entry}
-use Rattle.rb_site.specs.declared.report.SiteReport.{SiteReport}
-use Rattle.rb_runs.specs.Texts.{entry_line, histories_text, history_text}
+use Rattle.std.proofs.lemmas.List.{take-append-drop}
 use Rattle.rb_runs.proofs.Parts.{sends_front, sends_more}
 
 -- ---- one history

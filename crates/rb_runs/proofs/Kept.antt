@@ -1,17 +1,8 @@
 -- The entries that a migration writes are read as those that it read.
-use Rattle.std.proofs.Common.{ℕ, List, [], ◌∷◌, refl, inr, arith}
-use Rattle.rb_money.specs.Settings.{IsConfigured, IsVersion, Settings, in_version_2}
-use Rattle.rb_scratch.specs.declared.request.Request.{Request}
-use Rattle.rb_scratch.specs.declared.request.Request.TheVariants.{Deposit}
+use Rattle.rb_runs.proofs.Words.{ℕ, List, [], ◌∷◌, refl, inr, arith, IsConfigured, IsVersion, Settings, in_version_2, Request, Deposit}
+use Rattle.rb_runs.proofs.Words.{CancelKind, Shadow, Event, Submit, Batch, Receive, ShadowMessage, ReadConfigsAreConfigured, Each}
+use Rattle.rb_runs.proofs.Words.{EntriesAreRead, IsEvent, IsKind, IsRequest, IsShadow, ReadEntriesFit, MigratedEntriesAreRead}
 use Rattle.rb_shadow.specs.declared.kind.Kind.{Kind}
-use Rattle.rb_shadow.specs.declared.kind.Kind.TheVariants.{Cancel as CancelKind}
-use Rattle.rb_shadow.specs.declared.shadow.Shadow.{Shadow}
-use Rattle.rb_site.specs.declared.event.Event.{Event}
-use Rattle.rb_site.specs.declared.event.Event.TheVariants.{Submit, Batch, Receive}
-use Rattle.rb_site.specs.declared.message.Message.TheVariants.{Shadow as ShadowMessage}
-use Rattle.rb_history.specs.Laws.{ReadConfigsAreConfigured}
-use Rattle.rb_history.specs.Fits.{Each, EntriesAreRead, IsEvent, IsKind, IsRequest, IsShadow, ReadEntriesFit}
-use Rattle.rb_runs.specs.MigrationLaws.{MigratedEntriesAreRead}
 
 -- what is configured is so in another version that its lines may have
 pub in_version : (s : Settings) (version : ℕ) → IsConfigured s → IsVersion version s.sites → IsConfigured (record s { version = version })

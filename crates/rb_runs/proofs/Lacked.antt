@@ -1,18 +1,8 @@
 -- The lists of what sites lack, one name after another.
-use Rattle.std.proofs.Common.{◌≡◌, ◌≤◌, ℕ, suc, ◌+◌, List, [], ◌∷◌, ◌++◌, Bool, true, false, length, refl, ap, sym, ◌∙◌, map, arith}
-use Rattle.std.specs.Prelude.{filter, ◌==◌}
-use Rattle.std.specs.List.{range_with_len}
-use Rattle.std.proofs.lemmas.Bool.Decides.{nat_tests}
+use Rattle.rb_runs.proofs.Words.{◌≡◌, ◌≤◌, ℕ, suc, ◌+◌, List, [], ◌∷◌, ◌++◌, Bool, true, false, length, refl, ap, sym, ◌∙◌, map, arith}
+use Rattle.rb_runs.proofs.Words.{filter, ◌==◌, range_with_len, nat_tests, map-range_with_len_more, IsConfigured, Settings, MOST_BLUE}
+use Rattle.rb_runs.proofs.Words.{MOST_RED, blue_count, red_count, OpName, Blue, Red, Shadow, IsValid, within_limit}
 use Rattle.std.proofs.lemmas.List.Elements.{filter-append}
-use Rattle.std.proofs.lemmas.List.FromFn.{map-range_with_len_more}
-use Rattle.rb_money.specs.Settings.{IsConfigured, Settings}
-use Rattle.rb_money.specs.declared.limits.TheConstants.{MOST_BLUE, MOST_RED}
-use Rattle.rb_shadow.specs.Operations.{blue_count, red_count}
-use Rattle.rb_shadow.specs.declared.op_name.OpName.{OpName}
-use Rattle.rb_shadow.specs.declared.op_name.OpName.TheVariants.{Blue, Red}
-use Rattle.rb_shadow.specs.declared.shadow.Shadow.{Shadow}
-use Rattle.rb_ledger.specs.Valid.{IsValid}
-use Rattle.rb_ledger.proofs.Public.ValidClocks.{within_limit}
 
 -- the blue operations of a home are no more than there may be
 pub few_blue : (s : Settings) (us : List Shadow) (i n : ℕ) → IsConfigured s → IsValid s us → n ≡ blue_count us i → n ≤ MOST_BLUE

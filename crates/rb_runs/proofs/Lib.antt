@@ -1,8 +1,7 @@
+mod Words
 mod Opens
 mod Taken
 mod Unanswered
-mod Collected
-mod Failures
 mod Reported
 mod ReadBack
 mod Ended

@@ -1,20 +1,13 @@
 -- The accounts of the next bank, one after another, and its settings.
-use Rattle.std.proofs.Common.{◌≡◌, ◌<◌, ◌≤◌, ℕ, ◌+◌, List, [], ◌∷◌, ◌++◌, length, get_or, drop, map, refl, ap, sym, ◌∙◌, arith, add-one}
-use Rattle.std.proofs.Common.{append_assoc, drop-cons, eq-eqb, ne_eqb, slice_get, Some, suc}
-use Rattle.std.specs.Prelude.{Bool, true, false, not, ◌&&◌, nat_le, nat_lt, IfSome, Option, None, zero, replicate, zip, if◌then◌else◌}
-use Rattle.std.proofs.lemmas.List.{get_or-map, length-append, length-map, length-replicate}
-use Rattle.std.proofs.lemmas.Slice.Zip.{length-zip}
-use Rattle.std.proofs.lemmas.Option.{get_or_from_slice_get}
-use Rattle.rb_money.specs.Faults.{Account, account_fault, are_limits, config_fault, is_among, settings_of}
-use Rattle.rb_money.specs.Settings.{IsConfigured, Settings, in_version_2, is_account_name, version_of}
-use Rattle.rb_money.specs.declared.cents.TheConstants.{MOST_CENTS}
+use Rattle.rb_runs.proofs.Words.{◌≡◌, ◌<◌, ◌≤◌, ℕ, ◌+◌, List, [], ◌∷◌, ◌++◌, length, get_or, drop, map, refl, ap, sym, ◌∙◌, arith, add-one}
+use Rattle.rb_runs.proofs.Words.{append_assoc, drop-cons, eq-eqb, ne_eqb, slice_get, Some, suc, Bool, true, false, not, ◌&&◌, nat_le}
+use Rattle.rb_runs.proofs.Words.{nat_lt, IfSome, Option, None, zero, replicate, zip, if◌then◌else◌, get_or-map, length-append, length-map}
+use Rattle.rb_runs.proofs.Words.{length-replicate, length-zip, get_or_from_slice_get, Account, account_fault, are_limits, config_fault}
+use Rattle.rb_runs.proofs.Words.{is_among, settings_of, IsConfigured, Settings, in_version_2, is_account_name, version_of, MOST_CENTS}
+use Rattle.rb_runs.proofs.Words.{MOST_ACCOUNTS, MOST_SITES, option_or, nat_tests, Limits, NextBank, next_accounts, sites_of_next}
+use Rattle.rb_runs.proofs.Words.{next_version, next_with}
 use Rattle.rb_money.specs.declared.fault.ConfigFault.{ConfigFault}
 use Rattle.rb_money.specs.declared.fault.ConfigFault.TheVariants.{Accounts, Limit, Name, Sites, Start, Twice}
-use Rattle.rb_money.specs.declared.limits.TheConstants.{MOST_ACCOUNTS, MOST_SITES}
-use Rattle.std.specs.Option.{option_or}
-use Rattle.std.proofs.lemmas.Bool.Decides.{nat_tests}
-use Rattle.rb_money.specs.declared.limits.Limits.{Limits}
-use Rattle.rb_runs.specs.Books.{NextBank, next_accounts, sites_of_next, next_version, next_with}
 
 -- the added accounts, each of which starts with 0
 abbrev pub added_from : List (List ℕ) → List Account

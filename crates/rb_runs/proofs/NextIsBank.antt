@@ -1,25 +1,11 @@
 -- The next bank is a bank.
-use Rattle.std.proofs.Common.{◌≡◌, ℕ, ◌==◌, Bool, true, false, List, [], ◌∷◌, ◌++◌, length, None, Ok, codes, refl, sym, ap, ◌∙◌, subst, inr}
-use Rattle.std.proofs.Common.{map, append-nil}
-use Rattle.std.specs.Prelude.{if◌then◌else◌, replicate, zip}
-use Rattle.std.proofs.lemmas.List.{map-append}
-use Rattle.std.proofs.lemmas.List.FromFn.{length-map-range_with_len}
-use Rattle.std.proofs.lemmas.Slice.Zip.{firsts-zip, seconds-zip}
-use Rattle.serde_json.specs.Written.{compact_text}
-use Rattle.rb_money.specs.Amounts.{cents}
-use Rattle.rb_money.specs.Faults.{Account, config_fault}
-use Rattle.rb_money.specs.Settings.{IsConfigured, IsVersion, Settings, version_of}
-use Rattle.rb_money.specs.declared.limits.Limits.{Limits}
+use Rattle.rb_runs.proofs.Words.{◌≡◌, ℕ, ◌==◌, Bool, true, false, List, [], ◌∷◌, ◌++◌, length, None, Ok, codes, refl, sym, ap, ◌∙◌, subst}
+use Rattle.rb_runs.proofs.Words.{inr, map, append-nil, if◌then◌else◌, replicate, zip, map-append, length-map-range_with_len, firsts-zip}
+use Rattle.rb_runs.proofs.Words.{seconds-zip, compact_text, cents, Account, config_fault, IsConfigured, IsVersion, Settings, version_of}
+use Rattle.rb_runs.proofs.Words.{Limits, bal, balances_of, ConfigsAreRead, config_json, ConfigsAreLines, lines_of, IsBank}
+use Rattle.rb_runs.proofs.Words.{NextIsConfigured, NextBank, next_accounts, next_settings, sites_of_next, next_version, next_with}
+use Rattle.rb_runs.proofs.Words.{HasShortLines, InputsAreReadBack, input_of}
 use Rattle.rb_money.proofs.Public.Configured.{parts_configured}
-use Rattle.rb_shadow.specs.Operations.{bal}
-use Rattle.rb_site.specs.Reports.{balances_of}
-use Rattle.rb_history.specs.ConfigLines.{ConfigsAreRead, config_json}
-use Rattle.rb_history.specs.OneLine.{ConfigsAreLines}
-use Rattle.rb_lines.specs.Lines.{lines_of}
-use Rattle.rb_runs.specs.BookLaws.{IsBank, NextIsConfigured}
-use Rattle.rb_runs.specs.Books.{NextBank, next_accounts, next_settings, sites_of_next, next_version, next_with}
-use Rattle.rb_runs.specs.InputLaws.{HasShortLines, InputsAreReadBack}
-use Rattle.rb_runs.specs.Inputs.{input_of}
 use Rattle.rb_runs.specs.Texts.{config_line}
 use Rattle.rb_runs.proofs.Kept.{in_version}
 use Rattle.rb_runs.proofs.ReadBack.{on_utf8_config}

@@ -1,30 +1,13 @@
 -- The operations that the sites of one world have applied, by their histories.
-use Rattle.std.proofs.Common.{◌≡◌, ℕ, ◌+◌, Bool, true, false, cond, List, [], ◌∷◌, ◌++◌, Option, Some, None, refl, sym, ap, ◌∙◌, subst}
-use Rattle.std.proofs.Common.{inl, inr, arith, map, suc, ◌⊎◌}
-use Rattle.std.specs.Prelude.{option_map, slice_get, slice_set}
-use Rattle.std.proofs.lemmas.Option.{same_Some, slice_get-map}
-use Rattle.rb_money.specs.Settings.{Settings}
-use Rattle.rb_shadow.specs.declared.shadow.Shadow.{Shadow}
-use Rattle.rb_shadow.specs.Operations.{Among}
-use Rattle.rb_shadow.proofs.Public.Members
-use Rattle.rb_site.specs.declared.entry.Entry.{Entry}
-use Rattle.rb_site.specs.declared.event.Event.{Event}
-use Rattle.rb_site.specs.declared.event.Event.TheVariants.{Receive}
-use Rattle.rb_site.specs.declared.message.Message.{Message}
-use Rattle.rb_site.specs.declared.message.Message.TheVariants.{Shadow as ShadowMessage, Token as TokenOnItsWay}
-use Rattle.rb_site.specs.declared.world_event.WorldEvent.{WorldEvent}
-use Rattle.rb_site.specs.declared.world_event.WorldEvent.TheVariants.{At, Deliver}
-use Rattle.rb_site.specs.Events.{Applies, Makes, MakesAll, ModelSite, Outcome}
-use Rattle.rb_site.specs.Events.{after_event, after_events, changed, first_site, is_full, outcome_of, sent_at, sent_by}
-use Rattle.rb_site.specs.Histories.{AreOneWorlds, history_of}
-use Rattle.rb_site.specs.Seen.{state_of}
-use Rattle.rb_site.specs.Worlds.{World, first_world, made_in, message_at, shadows_in, world_after, world_after_all, world_at, world_of_run}
-use Rattle.rb_site.proofs.Public.Places.{get_set_other, get_set_same, same_number}
-use Rattle.rb_site.proofs.Public.Recorded.{me_after}
-use Rattle.rb_site.proofs.Public.Runs.{IsRunOfItsHistory, noted, run_goes_on}
+use Rattle.rb_runs.proofs.Words.{◌≡◌, ℕ, ◌+◌, Bool, true, false, cond, List, [], ◌∷◌, ◌++◌, Option, Some, None, refl, sym, ap, ◌∙◌, subst}
+use Rattle.rb_runs.proofs.Words.{inl, inr, arith, map, suc, ◌⊎◌, option_map, slice_get, slice_set, same_Some, slice_get-map, Settings}
+use Rattle.rb_runs.proofs.Words.{Shadow, Among, Entry, Event, Receive, Message, ShadowMessage, TokenOnItsWay, WorldEvent, At, Deliver}
+use Rattle.rb_runs.proofs.Words.{Applies, Makes, MakesAll, ModelSite, Outcome, after_event, after_events, changed, first_site, is_full}
+use Rattle.rb_runs.proofs.Words.{outcome_of, sent_at, sent_by, AreOneWorlds, history_of, state_of, World, first_world, made_in, message_at}
+use Rattle.rb_runs.proofs.Words.{shadows_in, world_after, world_after_all, world_at, world_of_run, get_set_other, get_set_same}
+use Rattle.rb_runs.proofs.Words.{same_number, me_after, IsRunOfItsHistory, noted, run_goes_on, first_sites, applied_from}
 use Rattle.rb_site.proofs.Public.Seen.{events_from}
-use Rattle.rb_site.proofs.Public.Stuck.{first_sites}
-use Rattle.rb_runs.specs.Books.{applied_from}
+use Rattle.rb_shadow.proofs.Public.Members
 
 -- the site has this number and is the run of its history
 pub record IsRunAt (s : Settings) (i : ℕ) (t : ModelSite) : Type 0 where

@@ -1,33 +1,18 @@
 -- The lists of an `open` line are what the sites lack.
-use Rattle.std.proofs.Common.{◌≡◌, ◌<◌, ◌≤◌, ℕ, zero, suc, ◌+◌, Bool, true, false, cond, List, [], ◌∷◌, ◌++◌, length, Some, refl, sym, ap}
-use Rattle.std.proofs.Common.{◌∙◌, subst, arith, inl, inr, map, ◌⊎◌}
-use Rattle.std.specs.Prelude.{◌&&◌, not, nat_le, filter, slice_get}
-use Rattle.std.specs.List.{list_any, range_with_len}
-use Rattle.std.proofs.lemmas.Bool.{and_from, and_parts, not-true, not_from_false}
-use Rattle.std.proofs.lemmas.Bool.Decides.{nat_tests}
-use Rattle.std.proofs.lemmas.List.FromFn.{get_or-map-range_with_len, length-map-range_with_len}
+use Rattle.rb_runs.proofs.Words.{◌≡◌, ◌<◌, ◌≤◌, ℕ, zero, suc, ◌+◌, Bool, true, false, cond, List, [], ◌∷◌, ◌++◌, length, Some, refl, sym}
+use Rattle.rb_runs.proofs.Words.{ap, ◌∙◌, subst, arith, inl, inr, map, ◌⊎◌, ◌&&◌, not, nat_le, filter, slice_get, list_any, range_with_len}
+use Rattle.rb_runs.proofs.Words.{and_from, and_parts, not-true, not_from_false, nat_tests, get_or-map-range_with_len}
+use Rattle.rb_runs.proofs.Words.{length-map-range_with_len, slice_get-get_or, IsConfigured, Settings, MOST_SITES, OpName, Blue, Red}
+use Rattle.rb_runs.proofs.Words.{Shadow, blue_count, names, red_count, IsValid, none_past, valid_counted, get_front, Entry, AreOneWorlds}
+use Rattle.rb_runs.proofs.Words.{made_in, world_of_run, Always, Clocks, RedBlue, ValidLists, MayBeClosed, applied_from, lacked, lacks}
+use Rattle.rb_runs.proofs.Words.{next_names, HasUpTo, OpenListsAreLacking}
 use Rattle.std.proofs.lemmas.Map.Keys.{any_passes_from_place}
-use Rattle.std.proofs.lemmas.Option.{slice_get-get_or}
-use Rattle.rb_money.specs.Settings.{IsConfigured, Settings}
-use Rattle.rb_money.specs.declared.limits.TheConstants.{MOST_SITES}
-use Rattle.rb_shadow.specs.declared.op_name.OpName.{OpName}
-use Rattle.rb_shadow.specs.declared.op_name.OpName.TheVariants.{Blue, Red}
 use Rattle.rb_shadow.specs.declared.deps.Deps.{Deps}
-use Rattle.rb_shadow.specs.declared.shadow.Shadow.{Shadow}
-use Rattle.rb_shadow.specs.Operations.{blue_count, clock_of, names, red_count}
+use Rattle.rb_shadow.specs.Operations.{clock_of}
 use Rattle.rb_shadow.proofs.Public.Clocks.{in_range, in_range-false, in_range-true}
-use Rattle.rb_shadow.proofs.Public.Members
-use Rattle.rb_ledger.specs.Valid.{IsValid}
-use Rattle.rb_ledger.proofs.Public.ValidClocks.{none_past, valid_counted}
-use Rattle.rb_site.proofs.Public.Lists.{get_front}
-use Rattle.rb_site.specs.declared.entry.Entry.{Entry}
-use Rattle.rb_site.specs.Histories.{AreOneWorlds}
-use Rattle.rb_site.specs.Worlds.{made_in, world_of_run}
-use Rattle.rb_world.specs.Laws.{Always, Clocks, RedBlue, ValidLists}
-use Rattle.rb_runs.specs.Books.{MayBeClosed, applied_from, lacked, lacks, next_names}
-use Rattle.rb_runs.specs.BookLaws.{HasUpTo, OpenListsAreLacking}
 use Rattle.rb_runs.proofs.AtRest.{of_world, same_names, was_made}
 use Rattle.rb_runs.proofs.OneWorlds.{IsSiteWith, list_of, run_of, site_with}
+use Rattle.rb_shadow.proofs.Public.Members
 
 -- ---- lists
 

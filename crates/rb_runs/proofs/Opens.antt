@@ -1,14 +1,8 @@
 -- The line of a script's configuration.
-use Rattle.std.proofs.Common.{◌≡◌, ◌+◌, ℕ, false, List, [], ◌∷◌, Some, None, refl, sym, ap, ◌∙◌, arith}
-use Rattle.rb_money.specs.Settings.{Settings}
-use Rattle.rb_world.specs.Laws.{SeenWorld, opened}
-use Rattle.rb_history.specs.Configurations.{config_on}
-use Rattle.rb_lines.specs.Answers.{LinesOutcome, after_text}
-use Rattle.rb_lines.specs.Lines.{is_blank, is_long}
+use Rattle.rb_runs.proofs.Words.{◌≡◌, ◌+◌, ℕ, false, List, [], ◌∷◌, Some, None, refl, sym, ap, ◌∙◌, arith, Settings, SeenWorld, opened}
+use Rattle.rb_runs.proofs.Words.{config_on, LinesOutcome, after_text, is_blank, is_long, commands_from, script_from, script_outcome}
+use Rattle.rb_runs.proofs.Words.{session_rest, TakesLine, makes_nothing}
 use Rattle.rb_runs.specs.declared.script.session.Session.{Session}
-use Rattle.rb_runs.specs.Script.{commands_from, script_from, script_outcome}
-use Rattle.rb_runs.specs.ScriptSession.{session_rest}
-use Rattle.rb_runs.specs.TakesLines.{TakesLine, makes_nothing}
 use Rattle.rb_runs.proofs.Unanswered.{nothing}
 
 -- the outcome of the lines behind, by this world

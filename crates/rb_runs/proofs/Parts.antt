@@ -1,9 +1,6 @@
 -- Texts that go out one after the other.
-use Rattle.std.proofs.Common.{ℕ, List, [], ◌++◌, Option, sym, ap, ◌∙◌, append-nil, append_assoc}
-use Rattle.std.specs.Io.KnownBytes.{Appends}
-use Rattle.std.proofs.KnownBytes.{Appends-trans}
-use Rattle.rb_lines.specs.Buffers.{Sends}
-use Rattle.rb_lines.specs.Writes.{AppendsFront}
+use Rattle.rb_runs.proofs.Words.{ℕ, List, [], ◌++◌, Option, sym, ap, ◌∙◌, append-nil, append_assoc, Appends, Appends-trans, Sends}
+use Rattle.rb_runs.proofs.Words.{AppendsFront}
 
 -- a line more went out or is buffered
 pub sends_more : (w0 w w' : Option (List ℕ)) (buffered text now line still : List ℕ) → Sends w0 w (buffered ++ text) now

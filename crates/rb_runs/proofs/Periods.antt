@@ -1,23 +1,9 @@
 -- Periods, each of which goes on if the one before ends, are one bank.
-use Rattle.std.proofs.Common.{◌≡◌, ◌<◌, ℕ, List, [], ◌∷◌, length, Some, ap, ◌∙◌, arith}
-use Rattle.std.specs.Prelude.{pos, ◌+ℤ◌, slice_get}
-use Rattle.std.proofs.lemmas.Int.{ints}
-use Rattle.std.proofs.lemmas.List.{get_or_past, length-map}
-use Rattle.std.proofs.lemmas.Option.{slice_get-get_or}
-use Rattle.rb_money.specs.Settings.{IsConfigured, Settings, start_of}
-use Rattle.rb_money.specs.declared.place.Place.{Place}
-use Rattle.rb_shadow.specs.Operations.{delta, kept, total}
-use Rattle.rb_ledger.specs.Valid.{IsValid}
-use Rattle.rb_ledger.proofs.Public.Legal.{covers}
-use Rattle.rb_site.proofs.Public.Lists.{get_front}
-use Rattle.rb_site.specs.Events.{ModelSite}
-use Rattle.rb_site.specs.Histories.{AreOneWorlds}
-use Rattle.rb_site.specs.Worlds.{world_of_run}
-use Rattle.rb_world.proofs.Public.{sites_of_run}
-use Rattle.rb_world.specs.Laws.{Always, ValidLists}
-use Rattle.rb_runs.specs.Books.{applied_from}
-use Rattle.rb_runs.specs.BookLaws.{AnswersArePeriods, ArePeriods, Period, PeriodsAreOne, applied_over, kept_over, period_of}
-use Rattle.rb_runs.specs.BookLaws.{settings_after, settings_behind}
+use Rattle.rb_runs.proofs.Words.{◌≡◌, ◌<◌, ℕ, List, [], ◌∷◌, length, Some, ap, ◌∙◌, arith, pos, ◌+ℤ◌, slice_get, ints, get_or_past}
+use Rattle.rb_runs.proofs.Words.{length-map, slice_get-get_or, IsConfigured, Settings, start_of, Place, delta, kept, total, IsValid}
+use Rattle.rb_runs.proofs.Words.{covers, get_front, ModelSite, AreOneWorlds, world_of_run, sites_of_run, Always, ValidLists, applied_from}
+use Rattle.rb_runs.proofs.Words.{AnswersArePeriods, ArePeriods, Period, PeriodsAreOne, applied_over, kept_over, period_of, settings_after}
+use Rattle.rb_runs.proofs.Words.{settings_behind}
 use Rattle.rb_runs.proofs.Carried.{balance_is, starts_with}
 use Rattle.rb_runs.proofs.OneWorlds.{applied_are}
 use Rattle.rb_runs.proofs.OpenLists.{valid_list}

@@ -1,21 +1,12 @@
 -- The text that a migration writes is taken by an audit as what it read, in version 2.
-use Rattle.std.proofs.Common.{◌≡◌, ◌+◌, ℕ, Bool, true, false, List, [], ◌∷◌, ◌++◌, Option, Some, None, Ok, refl, sym, ap, map, subst, ◌∙◌}
-use Rattle.std.specs.Prelude.{if◌then◌else◌, option_map}
-use Rattle.std.specs.Str.{is_utf8}
-use Rattle.rb_money.specs.Settings.{IsConfigured, Settings, in_version_2}
-use Rattle.rb_site.specs.declared.entry.Entry.{Entry}
-use Rattle.rb_history.specs.Configurations.{config_at, config_on}
-use Rattle.rb_history.specs.Laws.{ReadConfigsAreConfigured}
-use Rattle.rb_history.specs.Entries.{asked_entry_of_line, asked_entry_on, entry_of_line, entry_on}
-use Rattle.rb_history.specs.Fits.{Each, ReadEntriesFit}
-use Rattle.rb_history.specs.Ids.{AskedEntry}
-use Rattle.rb_lines.specs.Answers.{LinesOutcome, after_text, no_outcome}
-use Rattle.rb_lines.specs.declared.fault.ScriptFault.TheVariants.{BadConfig, BadLine, LongLine}
-use Rattle.rb_lines.specs.Lines.{is_blank, is_long, lines_of}
-use Rattle.rb_runs.specs.Inputs.{input_after, input_from, input_of, with_entry}
-use Rattle.rb_runs.specs.InputLaws.{HasShortLines, by_site, with_entries}
-use Rattle.rb_runs.specs.MigrationLaws.{MigrationsAreRead}
-use Rattle.rb_runs.specs.Migration.{entries_from, migrated_config_line, migrated_entry_line, migration_from}
+use Rattle.rb_runs.proofs.Words.{◌≡◌, ◌+◌, ℕ, Bool, true, false, List, [], ◌∷◌, ◌++◌, Option, Some, None, Ok, refl, sym, ap, map, subst}
+use Rattle.rb_runs.proofs.Words.{◌∙◌, if◌then◌else◌, option_map, is_utf8, IsConfigured, Settings, in_version_2, Entry, config_at}
+use Rattle.rb_runs.proofs.Words.{ReadConfigsAreConfigured, asked_entry_of_line, entry_of_line, Each, ReadEntriesFit, AskedEntry}
+use Rattle.rb_runs.proofs.Words.{LinesOutcome, after_text, no_outcome, BadConfig, BadLine, LongLine, is_blank, is_long, lines_of}
+use Rattle.rb_runs.proofs.Words.{input_after, input_from, input_of, with_entry, HasShortLines, by_site, with_entries, MigrationsAreRead}
+use Rattle.rb_runs.proofs.Words.{entries_from, migrated_config_line, migrated_entry_line, migration_from}
+use Rattle.rb_history.specs.Configurations.{config_on}
+use Rattle.rb_history.specs.Entries.{asked_entry_on, entry_on}
 use Rattle.rb_runs.proofs.Kept.{configured, event}
 use Rattle.rb_runs.proofs.ReadBack.{AskedInputsAreReadBack, IsAskedWritable, asked_input_text, asked_text, without_id}
 use Rattle.rb_runs.proofs.Taken.{takes_config, takes_entry}

@@ -1,22 +1,12 @@
 -- The text written for an input is read as it.
-use Rattle.std.proofs.Common.{◌≡◌, ◌+◌, ◌==◌, ℕ, Bool, true, false, List, [], ◌∷◌, ◌++◌, Some, Ok, codes, refl, sym, ap, ◌∙◌, append_assoc}
-use Rattle.std.proofs.Common.{inl, inr, map}
-use Rattle.std.specs.Prelude.{not, option_map, replicate}
-use Rattle.std.specs.List.{list_all, onto_first}
-use Rattle.std.specs.Str.{is_utf8}
-use Rattle.std.proofs.lemmas.Bool.{and_parts, not-true}
-use Rattle.serde_json.specs.Written.{compact_text}
-use Rattle.rb_money.specs.Settings.{IsConfigured, Settings}
-use Rattle.rb_site.specs.declared.entry.Entry.{Entry}
-use Rattle.rb_history.specs.Configurations.{config_at, config_on}
-use Rattle.rb_history.specs.ConfigLines.{ConfigsAreRead, config_json}
-use Rattle.rb_history.specs.Entries.{asked_entry_json, entry_of_line, entry_on}
-use Rattle.rb_history.specs.Fits.{Each, EntriesAreRead}
-use Rattle.rb_history.specs.Ids.{AskedEntry, IsAsked, IsIdOrNone}
-use Rattle.rb_history.specs.OneLine.{ConfigsAreLines, EntriesAreLines, IsOneLine}
-use Rattle.rb_lines.specs.Lines.{is_long, lines_of}
-use Rattle.rb_runs.specs.Inputs.{input_after, input_of, with_entry}
-use Rattle.rb_runs.specs.InputLaws.{HasShortLines, InputsAreReadBack, IsWritable, by_site, entries_text, with_entries}
+use Rattle.rb_runs.proofs.Words.{◌≡◌, ◌+◌, ◌==◌, ℕ, Bool, true, false, List, [], ◌∷◌, ◌++◌, Some, Ok, codes, refl, sym, ap, ◌∙◌}
+use Rattle.rb_runs.proofs.Words.{append_assoc, inl, inr, map, not, option_map, replicate, list_all, onto_first, is_utf8, and_parts}
+use Rattle.rb_runs.proofs.Words.{not-true, compact_text, IsConfigured, Settings, Entry, config_at, ConfigsAreRead, config_json}
+use Rattle.rb_runs.proofs.Words.{asked_entry_json, entry_of_line, Each, EntriesAreRead, AskedEntry, IsAsked, IsIdOrNone, ConfigsAreLines}
+use Rattle.rb_runs.proofs.Words.{EntriesAreLines, IsOneLine, is_long, lines_of, input_after, input_of, with_entry, HasShortLines}
+use Rattle.rb_runs.proofs.Words.{InputsAreReadBack, IsWritable, by_site, entries_text, with_entries}
+use Rattle.rb_history.specs.Configurations.{config_on}
+use Rattle.rb_history.specs.Entries.{entry_on}
 use Rattle.rb_runs.proofs.Taken.{takes_config, takes_entry}
 
 -- a line without a line feed in it is the first, once it has one behind it

@@ -1,32 +1,21 @@
 -- A site answers each event in version 2 as before.
-use Rattle.std.proofs.Common.{◌≡◌, ◌+◌, ℕ, List, [], ◌∷◌, ◌++◌, length, not, ◌&&◌, Ok, Err, refl, ap, ap₂, ◌∙◌}
-use Rattle.std.specs.Prelude.{if◌then◌else◌, nat_le, nat_lt}
-use Rattle.rb_money.specs.Amounts.{cents}
+use Rattle.rb_runs.proofs.Words.{◌≡◌, ◌+◌, ℕ, List, [], ◌∷◌, ◌++◌, length, not, ◌&&◌, Ok, Err, refl, ap, ap₂, ◌∙◌, if◌then◌else◌, nat_le}
+use Rattle.rb_runs.proofs.Words.{nat_lt, cents, Settings, in_version_2, start_of, Place, BadBatch, BatchRefused, HistoryFull}
+use Rattle.rb_runs.proofs.Words.{NumbersExhausted, Declined, is_on, is_red, number_of, same_kind, limit_of, Shadow, Request, Deposit}
+use Rattle.rb_runs.proofs.Words.{ModelSite, Makes, MakesAll, Outcome, Refuses, Shows, after_event, after_events, changed, is_full}
+use Rattle.rb_runs.proofs.Words.{replies_to_events, reply_of, reply_to, Event, Submit, Batch, StatementIs, Refused, ReplaysAreEqual}
 use Rattle.rb_money.specs.Refusals.{and_then}
-use Rattle.rb_money.specs.Settings.{Settings, in_version_2, start_of}
-use Rattle.rb_money.specs.declared.place.Place.{Place}
-use Rattle.rb_money.specs.declared.refusal.Refusal.TheVariants.{BadBatch, BatchRefused, HistoryFull, NumbersExhausted}
-use Rattle.rb_shadow.specs.declared.kind.Kind.TheVariants.{Declined}
-use Rattle.rb_shadow.specs.Operations.{bal, is_on, is_red, number_of, same_kind}
-use Rattle.rb_shadow.specs.Sound.{limit_of}
-use Rattle.rb_shadow.specs.declared.shadow.Shadow.{Shadow}
+use Rattle.rb_shadow.specs.Operations.{bal}
 use Rattle.rb_token.specs.Token.{Token}
 use Rattle.rb_scratch.specs.Batches.{batch_of, cause_of, made_in_batch}
 use Rattle.rb_scratch.specs.Requests.{allowed, allowed_red, made_of, operation_of, plan_of}
-use Rattle.rb_scratch.specs.declared.request.Request.{Request}
-use Rattle.rb_scratch.specs.declared.request.Request.TheVariants.{Deposit}
 use Rattle.rb_scratch.specs.declared.request.TheConstants.{MOST_REQUESTS}
 use Rattle.rb_scratch.specs.declared.run_fault.RunFault.TheVariants.{Declined as DeclinedFault}
 use Rattle.rb_shadow.specs.Sound.{fault_of}
 use Rattle.rb_statements.specs.Statements.{row_after, rows_of, statement_of}
-use Rattle.rb_site.specs.Events.{ModelSite, Makes, MakesAll, Outcome, Refuses, Shows, after_event, after_events, changed, is_full}
-use Rattle.rb_site.specs.Events.{outcome_of, replies_to_events, reply_of, reply_to}
-use Rattle.rb_site.specs.declared.event.Event.{Event}
-use Rattle.rb_site.specs.declared.event.Event.TheVariants.{Submit, Batch}
-use Rattle.rb_site.specs.declared.reply.Reply.TheVariants.{Statement as StatementIs, Refused}
+use Rattle.rb_site.specs.Events.{outcome_of}
 use Rattle.rb_scratch.proofs.Public.Made.{stopped_by}
 use Rattle.rb_site.proofs.Public.Outcomes.{with_history}
-use Rattle.rb_runs.specs.MigrationLaws.{ReplaysAreEqual}
 
 -- ---- requests
 

@@ -1,54 +1,34 @@
--- The line written once all lines were taken.
-use Rattle.std.proofs.Common.{◌≡◌, ℕ, Bool, List, [], Option, Some, None, Ok, Err, ap, ◌∙◌}
-use Rattle.std.specs.Prelude.{IfSome}
-use Rattle.std.specs.Io.KnownBytes.{Appends}
-use Rattle.std.proofs.KnownBytes.{Appends-trans}
-use Rattle.rb_auditor.specs.Audits.{Audited}
-use Rattle.rb_lines.specs.Lines.{lines_of}
-use Rattle.rb_lines.specs.Writes.{AppendsFront, IsFront}
-use Rattle.rb_lines.specs.declared.fault.ScriptFault.TheVariants.{Write}
-use Rattle.rb_runs.specs.declared.lines.Lines.{Lines}
-use Rattle.rb_runs.specs.declared.audit.collected.Collected.{Collected}
-use Rattle.rb_runs.specs.Inputs.{Input, input_of}
-use Rattle.rb_runs.specs.Collects.{input_rest}
-use Rattle.rb_runs.specs.Audit.{AuditEndsAs, ReportsVerdict}
-use Rattle.rb_runs.proofs.Collected.{IsTaken}
+-- What an audit writes once all lines were taken.
+use Rattle.rb_runs.proofs.Words.{ℕ, Bool, List, [], Option, Ok, Err, IfSome, Appends, Appends-trans, IfSome_then, Audited, AppendsFront}
+use Rattle.rb_runs.proofs.Words.{ScriptFault, Write, Input, input_of, AuditEndsAs, ReportsVerdict, HasInput, StopsUnwritten}
 
 -- the input that was collected
-abbrev input_at : Audited → Input
+abbrev pub input_at : Audited → Input
 input_at a = record { settings = a.settings; histories = a.histories }
 
-whole_input : (all : List ℕ) (b : Option (List ℕ)) (c : Lines Collected) (s : Audited) → IsTaken c all b
-    → c.opened ≡ Some (record { auditor = s }) → input_of (lines_of all) ≡ Ok (input_at s)
-whole_input all b c s whole conf = whole.0 ∙ ap (λ m. input_rest m c.number []) conf
-
-of_whole : (a b : Option (List ℕ)) (c : Lines Collected) (s : Audited) (found : Bool) (line : List ℕ)
-    → IfSome a (λ input. IsTaken c input b) → c.opened ≡ Some (record { auditor = s })
-    → ReportsVerdict found (input_at s) line
-    → IfSome a (λ input. AuditEndsAs (Ok found) input b line)
-of_whole None b c s found line whole conf shown = tt
-of_whole (Some all) b c s found line whole conf shown = (input_at s, whole_input all b c s whole conf, shown, whole.1)
+-- an audit that stopped before anything was written
+pub stopped_audit : (a b : Option (List ℕ)) (f : ScriptFault) → IfSome a (λ input. StopsUnwritten input_of f input b [])
+    → IfSome a (λ input. AuditEndsAs (Err f) input b [])
+stopped_audit a b f h = IfSome_then a h (λ input. by f input b)
+  where
+    by : (f : ScriptFault) (input : List ℕ) (left : Option (List ℕ)) → StopsUnwritten input_of f input left []
+        → AuditEndsAs (Err f) input left []
+    by Write input left h = absurd h
+    by f input left h = h
 
 -- all lines were taken, and the line of the verdict was written
-pub reported : (w0 w w' a b : Option (List ℕ)) (c : Lines Collected) (s : Audited) (found : Bool) (line : List ℕ)
-    → Appends w0 w [] → Appends w w' line → IfSome a (λ input. IsTaken c input b)
-    → c.opened ≡ Some (record { auditor = s }) → ReportsVerdict found (input_at s) line
+pub reported : (w0 w w' a b : Option (List ℕ)) (s : Audited) (found : Bool) (line : List ℕ) → Appends w0 w [] → Appends w w' line
+    → IfSome a (λ input. HasInput input_of (input_at s) input b) → ReportsVerdict found (input_at s) line
     → (text : List ℕ) × Appends w0 w' text × IfSome a (λ input. AuditEndsAs (Ok found) input b text)
-reported w0 w w' a b c s found line before written whole conf shown =
-    (line, Appends-trans w0 w w' [] line before written, of_whole a b c s found line whole conf shown)
-
-of_part : (a b : Option (List ℕ)) (c : Lines Collected) (s : Audited) (found : Bool) (line front : List ℕ) → IsFront front line
-    → IfSome a (λ input. IsTaken c input b) → c.opened ≡ Some (record { auditor = s }) → ReportsVerdict found (input_at s) line
-    → IfSome a (λ input. AuditEndsAs (Err Write) input b front)
-of_part None b c s found line front is whole conf shown = tt
-of_part (Some all) b c s found line front is whole conf shown =
-    (input_at s, found, line, whole_input all b c s whole conf, shown, is)
+reported w0 w w' a b s found line before written has shown =
+    (line, Appends-trans w0 w w' [] line before written, IfSome_then a has (λ input h. (input_at s, h.0, shown, h.1)))
 
 -- all lines were taken, and a prefix of the line of the verdict was written
-pub part_reported : (w0 w w' a b : Option (List ℕ)) (c : Lines Collected) (s : Audited) (found : Bool) (line : List ℕ)
-    → Appends w0 w []
-    → AppendsFront w w' line → IfSome a (λ input. IsTaken c input b) → c.opened ≡ Some (record { auditor = s }) →
-    ReportsVerdict found (input_at s) line
+pub part_reported : (w0 w w' a b : Option (List ℕ)) (s : Audited) (found : Bool) (line : List ℕ) → Appends w0 w []
+    → AppendsFront w w' line → IfSome a (λ input. HasInput input_of (input_at s) input b) → ReportsVerdict found (input_at s) line
     → (text : List ℕ) × Appends w0 w' text × IfSome a (λ input. AuditEndsAs (Err Write) input b text)
-part_reported w0 w w' a b c s found line before part whole conf shown =
-    (part.0, Appends-trans w0 w w' [] part.0 before part.2, of_part a b c s found line part.0 part.1 whole conf shown)
+part_reported w0 w w' a b s found line before part has shown = (
+  part.0,
+  Appends-trans w0 w w' [] part.0 before part.2,
+  IfSome_then a has (λ input h. (input_at s, found, line, h.0, shown, part.1)),
+)

@@ -1,24 +1,11 @@
 -- The entries that the sites of a world record fit their lines if the world's commands do.
-use Rattle.std.proofs.Common.{◌≡◌, ℕ, ◌+◌, ◌<◌, Bool, true, false, cond, List, [], ◌∷◌, ◌++◌, length, Option, Some, None, refl, sym, ap}
-use Rattle.std.proofs.Common.{◌∙◌, subst, inl, inr, arith, append-nil}
-use Rattle.std.specs.Prelude.{IfSome, option_map, slice_get}
-use Rattle.std.proofs.lemmas.List.FromFn.{length-map-range_with_len}
-use Rattle.std.proofs.lemmas.Option.{slice_get_within}
-use Rattle.rb_money.specs.Settings.{Settings}
-use Rattle.rb_site.specs.declared.event.Event.{Event}
-use Rattle.rb_site.specs.declared.event.Event.TheVariants.{Receive}
-use Rattle.rb_site.specs.declared.message.Message.{Message}
-use Rattle.rb_site.specs.declared.world_event.WorldEvent.{WorldEvent}
-use Rattle.rb_site.specs.declared.world_event.WorldEvent.TheVariants.{At, Deliver}
-use Rattle.rb_site.specs.Events.{ModelSite, after_event, after_events, first_site, is_full, sent_at}
-use Rattle.rb_site.specs.Histories.{IsAmong, sends_of}
-use Rattle.rb_site.specs.Worlds.{World, first_world, message_at, world_after, world_after_all, world_at, world_of_run}
-use Rattle.rb_site.proofs.Public.Recorded.{me_after, placed}
-use Rattle.rb_site.proofs.Public.Runs.{IsRunOfItsHistory, noted, run_goes_on}
-use Rattle.rb_site.proofs.Public.Stuck.{among-cases, among-right, first_sites, sends-append}
-use Rattle.rb_history.specs.Fits.{Each, IsEvent}
-use Rattle.rb_history.specs.Sites.{IsFittingCommand}
-use Rattle.rb_history.proofs.Public.Each.{each_both}
+use Rattle.rb_runs.proofs.Words.{◌≡◌, ℕ, ◌+◌, ◌<◌, Bool, true, false, cond, List, [], ◌∷◌, ◌++◌, length, Option, Some, None, refl, sym, ap}
+use Rattle.rb_runs.proofs.Words.{◌∙◌, subst, inl, inr, arith, append-nil, IfSome, option_map, slice_get, length-map-range_with_len}
+use Rattle.rb_runs.proofs.Words.{slice_get_within, Settings, Event, Receive, Message, WorldEvent, At, Deliver, ModelSite, after_event}
+use Rattle.rb_runs.proofs.Words.{after_events, first_site, is_full, sent_at, IsAmong, sends_of, World, first_world, message_at}
+use Rattle.rb_runs.proofs.Words.{world_after, world_after_all, world_at, world_of_run, me_after, placed, IsRunOfItsHistory, noted}
+use Rattle.rb_runs.proofs.Words.{run_goes_on, among-cases, among-right, first_sites, sends-append, Each, IsEvent, IsFittingCommand}
+use Rattle.rb_runs.proofs.Words.{each_both}
 use Rattle.rb_runs.proofs.OneWorlds.{all_still}
 
 -- a site of the configuration sent the message

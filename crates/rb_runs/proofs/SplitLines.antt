@@ -1,12 +1,9 @@
 -- The first of some lines, and those behind it.
-use Rattle.std.proofs.Common.{◌≡◌, ◌<◌, ◌≤◌, ◌+◌, ◌==◌, ◌⊎◌, ℕ, Bool, true, false, cond, List, [], ◌∷◌, length, take, drop, inl, inr}
-use Rattle.std.proofs.Common.{refl, sym, ap, ◌∙◌, append-nil, arith, position, Some, None}
-use Rattle.std.specs.Prelude.{nat_lt, not}
-use Rattle.std.proofs.lemmas.Bool.{ltb-true, ltb-false}
-use Rattle.std.proofs.lemmas.List.Sums.{prefix_len-le-length}
+use Rattle.rb_runs.proofs.Words.{◌≡◌, ◌<◌, ◌≤◌, ◌+◌, ◌==◌, ◌⊎◌, ℕ, Bool, true, false, cond, List, [], ◌∷◌, length, take, drop, inl, inr}
+use Rattle.rb_runs.proofs.Words.{refl, sym, ap, ◌∙◌, append-nil, arith, position, Some, None, nat_lt, not, ltb-true, ltb-false}
+use Rattle.rb_runs.proofs.Words.{prefix_len-le-length, line_len, lines_of}
 use Rattle.std.proofs.Math.Seq.{take-length}
 use Rattle.std.proofs.Math.ListN.{drop_of_length-le}
-use Rattle.rb_lines.specs.Lines.{line_len, lines_of}
 use Rattle.rb_lines.proofs.Public.Walks.{Walks, after_line}
 
 -- no line was taken, and all bytes wait

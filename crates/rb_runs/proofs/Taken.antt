@@ -1,14 +1,7 @@
 -- The effect of one line of an audit, or of a journal.
-use Rattle.std.proofs.Common.{◌≡◌, ◌+◌, ℕ, zero, suc, false, List, [], ◌∷◌, ◌++◌, Some, Ok, refl, sym, ap, ◌∙◌, replicate}
-use Rattle.std.specs.Prelude.{slice_get, slice_set}
-use Rattle.rb_money.specs.Settings.{Settings}
-use Rattle.rb_site.specs.declared.entry.Entry.{Entry}
-use Rattle.rb_auditor.specs.Audits.{Audited, HasMore}
-use Rattle.rb_history.specs.Configurations.{config_on}
-use Rattle.rb_history.specs.Entries.{entry_on}
-use Rattle.rb_lines.specs.Lines.{is_blank, is_long}
-use Rattle.rb_runs.specs.Inputs.{input_after, input_from, with_entry}
-use Rattle.rb_runs.specs.JournalFiles.{entry_of_site, next, with_lines}
+use Rattle.rb_runs.proofs.Words.{◌≡◌, ◌+◌, ℕ, zero, suc, false, List, [], ◌∷◌, ◌++◌, Some, Ok, refl, sym, ap, ◌∙◌, replicate, slice_get}
+use Rattle.rb_runs.proofs.Words.{slice_set, Settings, Entry, Audited, HasMore, config_on, entry_on, is_blank, is_long, input_after}
+use Rattle.rb_runs.proofs.Words.{input_from, with_entry, entry_of_site, next, with_lines}
 
 -- the configuration's line: no site has an entry yet
 pub takes_config : (n : ℕ) (l : List ℕ) (ls : List (List ℕ)) (s : Settings) → is_long l ≡ false → is_blank l ≡ false → config_on l ≡ Some s

@@ -1,18 +1,9 @@
 -- Journals that are taken one after another, and what closing the books says where it stops.
-use Rattle.std.proofs.Common.{◌≡◌, ◌∙◌, ◌⊎◌, ◌<◌, ◌≤◌, ℕ, ◌+◌, List, [], ◌∷◌, ◌++◌, length, refl, ap, sym, subst, arith, inl, inr}
-use Rattle.std.specs.Option.{option_map_or}
-use Rattle.std.specs.Prelude.{Bool, true, false, if◌then◌else◌, ◌==◌, IfSome, MatchOption, None, Option, Some, Result, Ok, Err}
-use Rattle.std.specs.Prelude.{option_map, suc}
-use Rattle.std.proofs.lemmas.List.{length-append}
-use Rattle.rb_auditor.specs.Audits.{Audited}
-use Rattle.rb_runs.specs.AddedAccounts.{IsAddedFault, added_fault}
-use Rattle.rb_runs.specs.Books.{NextBank}
-use Rattle.rb_money.specs.Settings.{Settings}
-use Rattle.rb_site.specs.declared.entry.Entry.{Entry}
-use Rattle.rb_runs.specs.Inputs.{with_entry}
-use Rattle.rb_runs.specs.JournalFiles.{EndsAtFile, TakesFile, counted, entry_of_site, is_head, is_sealed, journal_lines, next, with_files}
-use Rattle.rb_runs.specs.JournalFiles.{with_journal, with_journal_lines, with_lines, with_next}
-use Rattle.rb_runs.specs.Closes.{ClosesAs, HasTaken}
+use Rattle.rb_runs.proofs.Words.{◌≡◌, ◌∙◌, ◌⊎◌, ◌<◌, ◌≤◌, ℕ, ◌+◌, List, [], ◌∷◌, ◌++◌, length, refl, ap, sym, subst, arith, inl, inr}
+use Rattle.rb_runs.proofs.Words.{option_map_or, Bool, true, false, if◌then◌else◌, ◌==◌, IfSome, MatchOption, None, Option, Some, Result}
+use Rattle.rb_runs.proofs.Words.{Ok, Err, option_map, suc, length-append, Audited, IsAddedFault, added_fault, NextBank, Settings, Entry}
+use Rattle.rb_runs.proofs.Words.{with_entry, EndsAtFile, TakesFile, counted, entry_of_site, is_head, is_sealed, journal_lines, next}
+use Rattle.rb_runs.proofs.Words.{with_files, with_journal, with_journal_lines, with_lines, with_next, ClosesAs, HasTaken}
 use Rattle.rb_runs.specs.declared.books.added_fault.AddedFault.{AddedFault}
 use Rattle.rb_runs.specs.declared.books.close_fault.CloseFault.TheVariants.{Added, Journal, Unread}
 use Rattle.rb_runs.specs.declared.books.journal_fault.JournalFault.TheVariants.{AnotherBank, Count, NotSealed, OutOfMemory}

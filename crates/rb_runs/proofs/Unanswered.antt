@@ -1,14 +1,10 @@
 -- How a run over lines that answers none of them stops.
-use Rattle.std.proofs.Common.{◌≡◌, ◌≢◌, ◌+◌, ℕ, List, [], ◌∷◌, ◌++◌, Option, Some, None, Result, Ok, Err, refl, sym, ap, ◌∙◌, arith}
-use Rattle.std.proofs.Common.{append-nil}
-use Rattle.std.specs.Prelude.{IfSome}
-use Rattle.rb_lines.specs.Answers.{IsFaulty, IsUnfinished, LinesOutcome, RunEndsAs, after_text}
-use Rattle.rb_lines.specs.Lines.{lines_of}
-use Rattle.rb_lines.specs.declared.fault.ScriptFault.{ScriptFault}
-use Rattle.rb_lines.specs.declared.fault.ScriptFault.TheVariants.{NoConfig, Read, Write, OutOfMemory, Gather}
-use Rattle.rb_runs.specs.Inputs.{Input}
-use Rattle.rb_runs.specs.Silent.{EndsSilently, IsFaultyInput, IsUnfinishedInput, StopsUnwritten, input_outcome, unanswered}
-use Rattle.rb_runs.specs.TakesLines.{TakesLine}
+use Rattle.rb_runs.proofs.Words.{◌≡◌, ◌≢◌, ◌+◌, ℕ, List, [], ◌∷◌, ◌++◌, Option, Some, None, Result, Ok, Err, refl, sym, ap, ◌∙◌, arith}
+use Rattle.rb_runs.proofs.Words.{append-nil, subst, true, false, Bool, ◌↔◌, IfSome, false≢true, IfSome_then, IsSilent, IsUnfinished}
+use Rattle.rb_runs.proofs.Words.{LinesOutcome, RunEndsAs, after_text, lines_of, whole_lines, ScriptFault, NoConfig, Read, Write}
+use Rattle.rb_runs.proofs.Words.{OutOfMemory, Gather, Input, EndsSilently, HasInput, IsUnfinishedInput, StopsUnwritten, input_outcome}
+use Rattle.rb_runs.proofs.Words.{unanswered, TakesLine, first_lines, lines_state}
+use Rattle.rb_runs.specs.declared.lines.Lines.{Lines}
 
 -- no text comes before what is to come, and no line is counted
 pub nothing : (o : LinesOutcome) → after_text [] 0 o ≡ o
@@ -35,17 +31,33 @@ no_text (Err f) = refl
 
 -- ---- how the lines end
 
-pub all_taken : (of : List (List ℕ) → LinesOutcome) (a b : Option (List ℕ)) (n : ℕ) (text : List ℕ)
-    → IfSome a (λ input. RunEndsAs of (Ok n) input b text) → IfSome a (λ input. EndsSilently of (Ok tt) input b)
-all_taken of None b n text h = tt
-all_taken of (Some input) b n text h = (ap (λ (o : LinesOutcome). o.fault) h.0, h.1)
+module _ {S M : Type 0} (rest : Option S → ℕ → List (List ℕ) → LinesOutcome) (made : Option S → ℕ → List (List ℕ) → M) (s : Lines S)
+    (first : s ≡ first_lines) where
+  -- if no line has an answer, none has before the first line
+  pub is_silent : ((ls : List (List ℕ)) → (rest None 1 ls).text ≡ []) → IsSilent (lines_state rest s)
+  is_silent none = subst (λ (q : Lines S). IsSilent (lines_state rest q)) (sym first) none
 
-pub stopped_at : (of : List (List ℕ) → LinesOutcome) (a b : Option (List ℕ)) (f : ScriptFault) (text : List ℕ)
-    → IfSome a (λ input. RunEndsAs of (Err f) input b text) → IfSome a (λ input. EndsSilently of (Err f) input b)
-stopped_at of None b f text h = tt
-stopped_at of (Some input) b f text h = (text, h)
+  -- all lines were taken
+  pub all_taken : (a b : Option (List ℕ)) (n : ℕ) (text : List ℕ) (new : Lines S) (o : Option S) → o ≡ new.opened
+      → IfSome a (λ input. RunEndsAs (lines_state rest s).rest (Ok n) input b text)
+      → IfSome a (λ input. made s.opened s.number (lines_of input) ≡ made new.opened new.number [])
+      → IfSome a (λ input. EndsSilently rest made (Ok o) input b)
+  all_taken None b n text new o is h k = tt
+  all_taken (Some input) b n text new o is h k = (
+    h.1,
+    new.number,
+    ap (λ (q : Lines S). made q.opened q.number (lines_of input)) (sym first) ∙ k ∙ ap (λ p. made p new.number []) (sym is),
+  )
 
--- ---- what is said of the input
+  -- the run stopped
+  pub stopped_at : (a b : Option (List ℕ)) (f : ScriptFault) (text : List ℕ)
+      → IfSome a (λ input. RunEndsAs (lines_state rest s).rest (Err f) input b text)
+      → IfSome a (λ input. EndsSilently rest made (Err f) input b)
+  stopped_at None b f text h = tt
+  stopped_at (Some input) b f text h =
+      (text, subst (λ (q : Lines S). RunEndsAs (lines_state rest q).rest (Err f) input b text) first h)
+
+-- ---- what is said of the input; `made` is what its lines say
 
 fault_of : (r : Result Input ScriptFault) (f : ScriptFault) → (input_outcome r).fault ≡ Some f → r ≡ Err f
 fault_of (Ok x) f e = absurd (cc e)
@@ -56,24 +68,44 @@ unfinished_of (Ok x) u = tt
 unfinished_of (Err NoConfig) u = tt
 unfinished_of (Err _) u = absurd u
 
-module _ (all rest : List (List ℕ) → Result Input ScriptFault) (same : (ls : List (List ℕ)) → all ls ≡ rest ls) where
-  faulty : (input text : List ℕ) (f : ScriptFault) → IsFaulty (input_outcome (rest (lines_of input))) text f → IsFaultyInput all input [] f
-  faulty input text f is = (same (lines_of input) ∙ fault_of _ f is.fault_is, refl)
-
-  -- the run stopped as what its lines say has it
-  pub stops : (f : ScriptFault) (input : List ℕ) (left : Option (List ℕ)) (text : List ℕ) → f ≢ Write
-      → RunEndsAs (λ ls. input_outcome (rest ls)) (Err f) input left text → StopsUnwritten all f input left []
+module _ {S : Type 0} (made : Option S → ℕ → List (List ℕ) → Result Input ScriptFault) where
+  stops : (f : ScriptFault) (input : List ℕ) (left : Option (List ℕ)) (text : List ℕ) → f ≢ Write
+      → RunEndsAs (unanswered made None 1) (Err f) input left text → StopsUnwritten (made None 1) f input left []
   stops Read input left text not (behind, is, answered) = (
     behind,
     is,
     record {
       taken = answered.taken;
       whole = answered.whole;
-      unfinished = rw (same _) (unfinished_of _ answered.unfinished);
+      unfinished = unfinished_of (made None 1 (whole_lines answered.taken)) answered.unfinished;
     },
     refl,
   )
   stops Write input left text not h = absurd (not refl)
   stops OutOfMemory input left text not h = refl
   stops Gather input left text not h = absurd h
-  stops f input left text not h = faulty input text f h
+  stops f input left text not h = (fault_of (made None 1 (lines_of input)) f h.fault_is, refl)
+
+  -- the run stopped as what its lines say has it
+  pub stopped : (a b : Option (List ℕ)) (f : ScriptFault) → f ≢ Write
+      → IfSome a (λ input. EndsSilently (unanswered made) made (Err f) input b)
+      → IfSome a (λ input. StopsUnwritten (made None 1) f input b [])
+  stopped a b f not h = IfSome_then a h (λ input e. stops f input b e.0 not e.1)
+
+  -- all lines were taken, and this is the input that they made
+  pub has_input : (a b : Option (List ℕ)) (o : Option S) (x : S) (y : Input) → o ≡ Some x → ((n : ℕ) → made (Some x) n [] ≡ Ok y)
+      → IfSome a (λ input. EndsSilently (unanswered made) made (Ok o) input b) → IfSome a (λ input. HasInput (made None 1) y input b)
+  has_input a b o x y there is h =
+      IfSome_then a h (λ input e. (e.2 ∙ ap (λ p. made p e.1 []) there ∙ is e.1, e.0))
+
+-- one failure is for one reason
+pub same_reason : {A E : Type 0} (d e : E) → ◌≡◌ {A = Result A E} (Err d) (Err e) → d ≡ e
+same_reason d e same = cc
+
+-- a run that answers no line has no failed write
+pub no_write : {A B : Type 0} (f : ScriptFault) (r : Result A ScriptFault) (failed : Bool) → r ≡ Err f
+    → (◌≡◌ {A = Result B ScriptFault} (Err f) (Err Write) → ⊥) → failed ≡ false → (r ≡ Err Write) ↔ (failed ≡ true)
+no_write f r failed is not fresh = (
+  λ e. absurd (not (ap Err (same_reason f Write (sym is ∙ e)))),
+  λ t. absurd (false≢true (sym fresh ∙ t)),
+)

@@ -4,7 +4,7 @@ use Rattle.std.proofs.Common.{ap}
 use Rattle.rb_lines.specs.Answers.{LinesOutcome, RunEndsAs, no_outcome}
 use Rattle.rb_lines.specs.Lines.{is_blank, is_long, lines_of, whole_lines}
 use Rattle.rb_lines.specs.declared.fault.ScriptFault.{ScriptFault}
-use Rattle.rb_lines.specs.declared.fault.ScriptFault.TheVariants.{NoConfig, BadConfig, BadLine, LongLine, Read, Write, OutOfMemory, Gather}
+use Rattle.rb_lines.specs.declared.fault.ScriptFault.TheVariants.{NoConfig, LongLine, Read, Write, OutOfMemory, Gather}
 use Rattle.rb_runs.specs.Inputs.{Input}
 use Rattle.rb_runs.specs.TakesLines.{TakesAll}
 
@@ -36,10 +36,11 @@ takes_unanswered made laws = record {
   ended = λ s n. ap input_outcome (laws.ended s n).1;
 }
 
--- how a run over lines ended that answers none of them
-abbrev pub EndsSilently : (List (List ℕ) → LinesOutcome) → Result Unit ScriptFault → List ℕ → Option (List ℕ) → Type 0
-EndsSilently of (Ok u) input left = ((of (lines_of input)).fault ≡ None) × (left ≡ Some [])
-EndsSilently of (Err f) input left = (text : List ℕ) × RunEndsAs of (Err f) input left text
+-- how a run over lines ended that answers none of them: all lines make what no line makes of what was opened
+abbrev pub EndsSilently : {S M : Type 0} → (Option S → ℕ → List (List ℕ) → LinesOutcome) → (Option S → ℕ → List (List ℕ) → M)
+    → Result (Option S) ScriptFault → List ℕ → Option (List ℕ) → Type 0
+EndsSilently rest made (Ok o) input left = (left ≡ Some []) × (n : ℕ) × (made None 1 (lines_of input) ≡ made o n [])
+EndsSilently rest made (Err f) input left = (text : List ℕ) × RunEndsAs (rest None 1) (Err f) input left text
 
 -- ---- an input; `of` is what its lines say
 
@@ -47,13 +48,7 @@ EndsSilently of (Err f) input left = (text : List ℕ) × RunEndsAs of (Err f) i
 abbrev pub IsUnfinishedInput : Result Input ScriptFault → Type 0
 IsUnfinishedInput (Ok x) = Unit {0}
 IsUnfinishedInput (Err NoConfig) = Unit {0}
-IsUnfinishedInput (Err (BadConfig n)) = ⊥
-IsUnfinishedInput (Err (BadLine n)) = ⊥
-IsUnfinishedInput (Err (LongLine n)) = ⊥
-IsUnfinishedInput (Err Read) = ⊥
-IsUnfinishedInput (Err Write) = ⊥
-IsUnfinishedInput (Err OutOfMemory) = ⊥
-IsUnfinishedInput (Err Gather) = ⊥
+IsUnfinishedInput (Err f) = ⊥
 
 -- these bytes of the input were read, and no whole line of them is bad
 pub record IsCollected (of : List (List ℕ) → Result Input ScriptFault) (input rest : List ℕ) : Type 0 where
@@ -65,14 +60,15 @@ pub record IsCollected (of : List (List ℕ) → Result Input ScriptFault) (inpu
 abbrev pub IsFaultyInput : (List (List ℕ) → Result Input ScriptFault) → List ℕ → List ℕ → ScriptFault → Type 0
 IsFaultyInput of input text f = (of (lines_of input) ≡ Err f) × (text ≡ [])
 
+-- the lines of the input, all of which were taken, say this
+abbrev pub HasInput : (List (List ℕ) → Result Input ScriptFault) → Input → List ℕ → Option (List ℕ) → Type 0
+HasInput of x input left = (of (lines_of input) ≡ Ok x) × (left ≡ Some [])
+
 -- a run over this input, of which the second part is left, stopped at this fault before anything was written
 abbrev pub StopsUnwritten : (List (List ℕ) → Result Input ScriptFault) → ScriptFault → List ℕ → Option (List ℕ) → List ℕ
     → Type 0
-StopsUnwritten of NoConfig input left text = IsFaultyInput of input text NoConfig
-StopsUnwritten of (BadConfig n) input left text = IsFaultyInput of input text (BadConfig n)
-StopsUnwritten of (BadLine n) input left text = IsFaultyInput of input text (BadLine n)
-StopsUnwritten of (LongLine n) input left text = IsFaultyInput of input text (LongLine n)
 StopsUnwritten of Read input left text = (rest : List ℕ) × (left ≡ Some rest) × IsCollected of input rest × (text ≡ [])
 StopsUnwritten of OutOfMemory input left text = text ≡ []
 StopsUnwritten of Write input left text = ⊥
 StopsUnwritten of Gather input left text = ⊥
+StopsUnwritten of f input left text = IsFaultyInput of input text f

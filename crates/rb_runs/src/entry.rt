@@ -22,8 +22,6 @@ pub fn entry_of(
         (λ site. (entry_on config.now line.now ≡ Some (site, entry.new)) × (site < config.now.sites))
         (λ why. why ≡ Bad → entry_on config.now line.now ≡ None) }
 {
-    let Some(text) = text_on(line) else {
-        return Err(LineFault::Bad);
-    };
+    let text = text_on(line).ok_or(LineFault::Bad)?;
     read_entry(alloc, config, text, entry)
 }

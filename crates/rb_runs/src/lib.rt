@@ -5,7 +5,6 @@
 mod audit;
 mod books;
 mod entry;
-mod fault;
 mod lines;
 mod migrate;
 mod recorded;

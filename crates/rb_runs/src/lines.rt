@@ -1,13 +1,12 @@
 //! The lines of a run, one at a time: the first that isn't skipped opens a value, which takes each later one.
 ghost use Rattle.std.specs.Prelude.{◌≡◌, ◌++◌, ◌+◌, ◌^◌, ◌<◌, List, ℕ, None, Some, false, IfSome, MatchResult, length};
 ghost use Rattle.std.specs.Prelude.{string_bytes};
-ghost use Rattle.rb_history.specs.declared.fault.LineFault.TheVariants.{Bad};
+ghost use Rattle.rb_history.specs.declared.fault.LineFault.TheVariants.{Bad, OutOfMemory as NoMemory};
 ghost use Rattle.rb_lines.specs.Lines.{is_blank, is_long};
-ghost use Rattle.rb_lines.specs.declared.fault.ScriptFault.TheVariants.{BadConfig};
+ghost use Rattle.rb_lines.specs.declared.fault.ScriptFault.TheVariants.{BadConfig, OutOfMemory};
 ghost use Rattle.rb_reasons.specs.Reasons.{IsReason};
 ghost use Rattle.rb_runs.specs.TakesLines.{StopsAt, TakesLine, first_lines};
 
-use crate::fault::fault_at;
 use crate::takes_lines::TakesLines;
 use rb_history::LineFault;
 use rb_lines::{Responder, ScriptFault, is_blank};
@@ -39,6 +38,17 @@ fn reason(
     match fault {
         LineFault::Bad => reason_of(alloc, expected, config, line),
         LineFault::OutOfMemory => None,
+    }
+}
+
+/// The fault of a run that stops at a line: `wrong` if the line is not what it should be.
+fn fault_at(why: LineFault, wrong: ScriptFault) -> ScriptFault
+    ensures line { why ≡ Bad → result ≡ wrong }
+    ensures memory { why ≡ NoMemory → result ≡ OutOfMemory }
+{
+    match why {
+        LineFault::Bad => wrong,
+        LineFault::OutOfMemory => ScriptFault::OutOfMemory,
     }
 }
 

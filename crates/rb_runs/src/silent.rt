@@ -1,39 +1,42 @@
 //! Lines that are all taken before any is answered.
-ghost use Rattle.std.specs.Prelude.{◌≡◌, ◌≢◌, ◌+◌, ◌≤◌, ◌⊎◌, List, [], ℕ, true, false, Err, IfSome, OnOk};
+ghost use Rattle.std.specs.Prelude.{◌≡◌, ◌≢◌, ◌+◌, ◌≤◌, ◌⊎◌, List, [], ℕ, None, true, false, Err, IfSome};
 ghost use Rattle.std.specs.Io.KnownBytes.{Appends};
-ghost use Rattle.rb_lines.specs.Answers.{IsSilent};
-ghost use Rattle.rb_lines.specs.Lines.{lines_of};
 ghost use Rattle.rb_lines.specs.declared.fault.ScriptFault.TheVariants.{Gather, Read, Write};
 ghost use Rattle.rb_lines.specs.declared.limits.TheConstants.{MOST_READS};
 ghost use Rattle.rb_runs.specs.Silent.{EndsSilently};
 
-use rb_lines::{Responder, ScriptFault, Sink, Source, run_lines};
+use crate::lines::Lines;
+use crate::takes_lines::TakesLines;
+use rb_lines::{ScriptFault, Sink, Source, run_lines};
 use std::alloc::Global;
 
-/// Takes each line of the reader's bytes. None is answered, so nothing is written.
-pub fn take_lines<S: Source, W: Sink, R: Responder>(
+/// Takes each line of the reader's bytes, and gives what the configuration opened, if there is one. No line is
+/// answered, so nothing is written. `why` becomes the reason of a line that stops the run, if memory suffices to say
+/// it.
+pub fn take_lines<T: TakesLines, S: Source, W: Sink>(
     alloc: Global,
     reader: &mut S,
     writer: &mut W,
-    responder: &mut R,
-) -> Result<(), ScriptFault>
+    why: &mut Option<String>,
+) -> Result<Option<T>, ScriptFault>
     requires unread { S.calls reader.old ≡ 0 }
     requires fresh { W.failed writer.old ≡ false }
-    requires first { (R.state responder.old).number ≡ 1 }
-    requires none { (R.state responder.old).count ≡ 0 }
-    requires silent { IsSilent (R.state responder.old) }
+    requires silent { (ls : List (List ℕ)) → (T.rest None 1 ls).text ≡ [] }
     ensures written { Appends (W.contents writer.old) (W.contents writer.new) [] }
     ensures fresh { W.failed writer.new ≡ false }
     ensures input { IfSome (S.remaining reader.old)
-        (λ input. EndsSilently (R.state responder.old).rest result input (S.remaining reader.new)) }
-    // At the end the responder is as all lines make it.
-    ensures made { OnOk result (IfSome (S.remaining reader.old)
-        (λ input. R.made responder.old (lines_of input) ≡ R.made responder.new [])) }
+        (λ input. EndsSilently T.rest T.made result input (S.remaining reader.new)) }
     ensures read { result ≡ Err Read → (S.failed reader.new ≡ true) ⊎ (S.calls reader.new ≡ MOST_READS) }
     ensures write { result ≢ Err Write }
     ensures gather { result ≢ Err Gather }
     ensures calls { S.calls reader.new ≤ S.calls reader.old + MOST_READS }
 {
-    run_lines(alloc, reader, writer, responder)?;
-    Ok(())
+    let mut lines = Lines::<T>::new();
+    match run_lines(alloc, reader, writer, &mut lines) {
+        Ok(_answered) => Ok(lines.into_opened()),
+        Err(fault) => {
+            *why = lines.close();
+            Err(fault)
+        }
+    }
 }

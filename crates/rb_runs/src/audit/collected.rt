@@ -1,12 +1,6 @@
 //! The auditor of an audit, which its configuration opens.
 //!
 //! The auditor reads each entry as its line comes, so no line is kept. Nothing is answered before the end.
-ghost use Rattle.std.specs.Prelude.{◌≡◌, ◌∷◌, ℕ, [], None, Some, MatchResult};
-ghost use Rattle.rb_auditor.specs.Audits.{HasMore};
-ghost use Rattle.rb_site.specs.declared.entry.Entry.{Entry as TheEntry};
-ghost use Rattle.rb_history.specs.Entries.{entry_on};
-ghost use Rattle.rb_history.specs.declared.fault.LineFault.TheVariants.{Bad};
-
 use crate::entry::entry_of;
 use crate::takes_lines::TakesLines;
 use rb_auditor::Auditor;
@@ -19,24 +13,6 @@ use std::alloc::Global;
 /// An audit over its lines: its auditor, which has read each entry so far.
 pub struct Collected {
     pub auditor: Auditor,
-}
-
-/// Takes the line of an entry: the auditor reads it.
-fn take_entry(alloc: Global, auditor: &mut Auditor, line: &[u8]) -> Result<(), LineFault>
-    ensures { MatchResult result
-        (λ _. (x : ℕ × TheEntry) × (entry_on auditor.old.settings line.now ≡ Some x)
-        × HasMore auditor.old auditor.new x.0 (x.1 ∷ []))
-        (λ why. why ≡ Bad → entry_on auditor.old.settings line.now ≡ None) }
-{
-    let mut entry = Entry {
-        event: Event::Pass(0),
-        reply: Reply::Taken(0),
-    };
-    let site = entry_of(alloc, auditor.config(), line, &mut entry)?;
-    match auditor.take(site, &entry) {
-        Ok(()) => Ok(()),
-        Err(_) => Err(LineFault::OutOfMemory),
-    }
 }
 
 impl TakesLines for Collected {
@@ -58,10 +34,8 @@ impl TakesLines for Collected {
         _buffered: &mut Vec<u8>,
     ) -> Result<(Collected, u64), LineFault> {
         let config = open_config(alloc, line)?;
-        match Auditor::open(alloc, config) {
-            Ok(auditor) => Ok((Collected { auditor }, 0)),
-            Err(_) => Err(LineFault::OutOfMemory),
-        }
+        let auditor = Auditor::open(alloc, config)?;
+        Ok((Collected { auditor }, 0))
     }
 
     fn take(
@@ -70,7 +44,12 @@ impl TakesLines for Collected {
         line: &[u8],
         _buffered: &mut Vec<u8>,
     ) -> Result<u64, LineFault> {
-        take_entry(alloc, &mut self.auditor, line)?;
+        let mut entry = Entry {
+            event: Event::Pass(0),
+            reply: Reply::Taken(0),
+        };
+        let site = entry_of(alloc, self.auditor.config(), line, &mut entry)?;
+        self.auditor.take(site, &entry)?;
         Ok(0)
     }
 

@@ -7,7 +7,6 @@ ghost use Rattle.rb_runs.specs.Audit.{AuditEndsAs};
 
 use crate::audit::collected::Collected;
 use crate::audit::verdict::answer;
-use crate::lines::Lines;
 use crate::silent::take_lines;
 use rb_lines::{ScriptFault, Sink, Source, write_all};
 use std::alloc::Global;
@@ -58,12 +57,8 @@ pub fn run_audit_explained<S: Source, W: Sink>(
     // There are up to `MOST_READS` reads, whatever is answered.
     ensures calls { S.calls reader.new ≤ S.calls reader.old + MOST_READS }
 {
-    let mut lines = Lines::<Collected>::new();
-    if let Err(fault) = take_lines(alloc, reader, writer, &mut lines) {
-        *why = lines.close();
-        return Err(fault);
-    }
-    let Some(collected) = lines.into_opened() else {
+    let opened: Option<Collected> = take_lines(alloc, reader, writer, why)?;
+    let Some(collected) = opened else {
         return Err(ScriptFault::NoConfig);
     };
     let Collected { auditor } = collected;

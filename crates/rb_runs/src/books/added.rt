@@ -3,7 +3,7 @@
 //! Their faults are those that `Config::new` finds, so the rules of accounts are in one place. They are checked alone
 //! before a journal is read, and behind the bank's own accounts once its configuration is known.
 ghost use Rattle.std.specs.Prelude.{◌≡◌, ◌∷◌, ◌≢◌, [], IfErr, IfOk, MatchResult, None, OnOk, Some, length, map};
-ghost use Rattle.std.specs.Prelude.{option_map, replicate};
+ghost use Rattle.std.specs.Prelude.{option_map};
 ghost use Rattle.rb_money.specs.Faults.{account_of, config_fault};
 ghost use Rattle.rb_runs.specs.AddedAccounts.{IsAddedFault, added_fault, as_added, largest};
 
@@ -54,13 +54,6 @@ fn alone(alloc: Global, added: &[&str]) -> Result<Config, ConfigFault>
     Config::new(alloc, 2, accounts, Limits::largest())
 }
 
-/// This number of balances, each of nothing. `Err` means out of memory.
-fn nothing(alloc: Global, accounts: usize) -> Result<Vec<u64>, AllocError>
-    ensures { IfOk result (λ balances. balances.items ≡ replicate accounts 0) }
-{
-    vec![in alloc; 0u64; accounts]
-}
-
 /// Whether accounts with these names may be added behind those of the bank, or, if none is known yet, be accounts at
 /// all: the first thing that is wrong.
 pub fn check_added(alloc: Global, added: &[&str], config: Option<&Config>) -> Result<(), AddedFault>
@@ -78,7 +71,7 @@ pub fn check_added(alloc: Global, added: &[&str], config: Option<&Config>) -> Re
         };
     };
     let before = config.accounts().len();
-    let Ok(balances) = nothing(alloc, before) else {
+    let Ok(balances) = vec![in alloc; 0u64; before] else {
         return Err(AddedFault::OutOfMemory);
     };
     let ask = NextBank::new(None, added);

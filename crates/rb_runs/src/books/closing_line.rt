@@ -1,12 +1,14 @@
 //! The line that closing a bank's books answers.
 //!
 //! Once no site lacks an operation the balances of all sites agree, so the next bank starts with those of the first.
-ghost use Rattle.std.specs.Prelude.{◌≡◌, ◌<◌, ℕ, List, IfOk, None, Some, length, slice_get};
+ghost use Rattle.std.specs.Prelude.{◌≡◌, ◌<◌, ◌≤◌, ℕ, List, IfOk, IfSome, None, Some, length, slice_get};
 ghost use Rattle.rb_money.specs.Faults.{config_fault};
 ghost use Rattle.rb_money.specs.Settings.{IsConfigured};
+ghost use Rattle.rb_money.specs.declared.limits.TheConstants.{MOST_SITES};
 ghost use Rattle.rb_auditor.specs.Replays.{ended_sites};
 ghost use Rattle.rb_history.specs.Verdicts.{limit_json, verdict_line};
 ghost use Rattle.rb_site.specs.Histories.{AreOneWorlds};
+ghost use Rattle.rb_runs.specs.AddedAccounts.{added_fault};
 ghost use Rattle.rb_runs.specs.Books.{ReportsBalances, ReportsClosing, input_at, next_accounts, sites_of_next};
 
 use crate::audit::verdict::fault_line;
@@ -14,7 +16,7 @@ use crate::books::balances::{balances_at, first_above};
 use crate::books::laws::{closed_balances_agree, open_lists_are_lacking};
 use crate::books::next::{NextBank, next_of_balances};
 use crate::books::open::{are_empty, open_lists};
-use crate::recorded::text::buffer_config;
+use crate::recorded::text::config_line;
 use rb_auditor::{Auditor, close_all};
 use rb_history::{limit_line, open_line};
 use rb_ledger::Ledger;
@@ -54,8 +56,7 @@ fn answer_closed(
         return Ok((false, line));
     }
     let next = next_of_balances(alloc, config, balances.as_slice(), ask)?;
-    let mut line = Vec::new(alloc);
-    buffer_config(alloc, &mut line, &next)?;
+    let line = config_line(alloc, &next)?;
     Ok((true, line))
 }
 
@@ -95,13 +96,12 @@ pub fn answer_closing(
     auditor: Auditor,
     ask: &NextBank<'_>,
 ) -> Result<(bool, Vec<u8>), AllocError>
-    // Nothing is wrong with the sites and the accounts that are asked for.
-    requires proper { config_fault (sites_of_next auditor.settings ask.now.sites)
-        (next_accounts auditor.settings auditor.settings.starts ask.now) auditor.settings.limits ≡ None }
+    requires sites { IfSome ask.now.sites (λ n. (2 ≤ n) × (n ≤ MOST_SITES)) }
+    requires added { added_fault (Some auditor.settings) ask.now.added ≡ None }
     ensures { IfOk result (λ found. ReportsClosing ask.now found.0
         (record { settings = auditor.settings; histories = auditor.histories }) found.1.items) }
 {
-    // For a fact alone: there are sites.
+    // For a fact alone: its settings are those of a configuration.
     let _sites = auditor.config().sites();
     match auditor.finish_with_sites() {
         Ok((_order, sites)) => {

@@ -70,9 +70,7 @@ fn take_all<F: JournalFiles>(
     ensures same { F.known files.new ≡ F.known files.old }
 {
     for site in 0..journals as u64 {
-        if let Err(fault) = take_next(alloc, ask, site, files, closing) {
-            return Err(fault);
-        }
+        take_next(alloc, ask, site, files, closing)?;
     }
     Ok(())
 }
@@ -111,8 +109,6 @@ pub fn run_close<F: JournalFiles, W: Sink>(
     let Some(auditor) = closing.into_auditor() else {
         unreachable!();
     };
-    // For a fact alone: its settings are those of a configuration.
-    let _sites = auditor.config().sites();
     let (closed, line) = answer_closing(alloc, auditor, ask)?;
     write_all(writer, line.as_slice())?;
     Ok(closed)

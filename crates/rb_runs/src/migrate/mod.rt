@@ -2,5 +2,4 @@
 
 pub mod laws;
 pub mod run;
-mod session;
 mod versions;

@@ -1,8 +1,7 @@
 //! The world of a script whose histories are asked for, which its configuration opens.
 //!
 //! Only the histories are put out, so commands aren't answered, and the world keeps histories and no list of events.
-use crate::script::command::take_command;
-use crate::script::opening::open_world;
+use crate::script::world::{open_world, take_command};
 use crate::takes_lines::TakesLines;
 use rb_history::LineFault;
 use rb_money::{Config, Refusal};

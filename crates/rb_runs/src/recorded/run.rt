@@ -9,7 +9,6 @@ ghost use Rattle.rb_runs.specs.Texts.{text_of};
 ghost use Rattle.rb_runs.specs.Writing.{Writes};
 ghost use Rattle.rb_runs.specs.declared.recorded.unwritten.Unwritten.TheVariants.{Write as NotWritten};
 
-use crate::lines::Lines;
 use crate::recorded::recorder::{Recorder, RecordingWorld};
 use crate::recorded::text::write_text;
 use crate::recorded::unwritten::Unwritten;
@@ -82,12 +81,8 @@ pub fn run_histories_explained<S: Source, W: Sink>(
     // There are up to `MOST_READS` reads, whatever is answered.
     ensures calls { S.calls reader.new ≤ S.calls reader.old + MOST_READS }
 {
-    let mut lines = Lines::<Recorder>::new();
-    if let Err(fault) = take_lines(alloc, reader, writer, &mut lines) {
-        *why = lines.close();
-        return Err(fault);
-    }
-    let Some(recorder) = lines.into_opened() else {
+    let opened: Option<Recorder> = take_lines(alloc, reader, writer, why)?;
+    let Some(recorder) = opened else {
         return Err(ScriptFault::NoConfig);
     };
     let Recorder { world, reply: _ } = recorder;

@@ -3,7 +3,7 @@
 //! A history goes once its lines are written, so that its memory is given back while the reader is slower. One thread
 //! writes the text: lines made in a thread for each site took 98 % of the time at 8 sites and 64 tellers, and 13 % more
 //! processor time.
-ghost use Rattle.std.specs.Prelude.{◌≡◌, ◌↔◌, ◌++◌, ◌≤◌, [], Err, false, true, map, vec_len, OnOk};
+ghost use Rattle.std.specs.Prelude.{◌≡◌, ◌↔◌, ◌++◌, ◌≤◌, [], Err, false, true, map, vec_len, IfOk, OnOk};
 ghost use Rattle.rb_money.specs.declared.limits.TheConstants.{MOST_SITES};
 ghost use Rattle.rb_site.specs.declared.report.SiteReport.{SiteReport};
 ghost use Rattle.rb_runs.specs.Texts.{config_line, entry_line, histories_text, history_text, text_of};
@@ -17,19 +17,14 @@ use rb_money::Config;
 use rb_site::{Entry, SiteReport};
 use std::alloc::{AllocError, Global};
 
-/// Buffers the line of a configuration.
+/// The line of a configuration, with its line feed. `Err` means out of memory.
 #[tactic(auto, unfolding(crate::specs::Texts::config_line))]
-pub fn buffer_config(
-    alloc: Global,
-    buffered: &mut Vec<u8>,
-    config: &Config,
-) -> Result<(), AllocError>
-    ensures { OnOk result (buffered.new.items ≡ buffered.old.items ++ config_line config.now) }
+pub fn config_line(alloc: Global, config: &Config) -> Result<Vec<u8>, AllocError>
+    ensures { IfOk result (λ line. line.items ≡ config_line config.now) }
 {
-    let line = write_config(alloc, config)?;
-    buffered.extend_from_slice(line.as_bytes())?;
-    buffered.push(b'\n')?;
-    Ok(())
+    let mut line = write_config(alloc, config)?.into_bytes();
+    line.push(b'\n')?;
+    Ok(line)
 }
 
 /// Buffers the line of an entry.
@@ -123,8 +118,7 @@ pub fn write_text<W: Sink>(
         (text_of config.now (map (λ (r : SiteReport). r.history.items) reports.items)) [] }
     ensures write { (result ≡ Err Write) ↔ (W.failed writer.new ≡ true) }
 {
-    let mut buffered = Vec::new(alloc);
-    buffer_config(alloc, &mut buffered, config)?;
+    let mut buffered = config_line(alloc, config)?;
     write_histories(writer, &mut buffered, config, reports)?;
     flush(writer, &mut buffered)?;
     Ok(())

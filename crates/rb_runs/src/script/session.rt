@@ -2,8 +2,7 @@
 //!
 //! One place has all replies, and a batch's names go into the memory of those before. A place for each command is
 //! cleared and let go, 11 to 21 instructions, and names are taken and freed, 150 of 2,490 of a batch of two.
-use crate::script::command::answer_command;
-use crate::script::opening::open_world;
+use crate::script::world::{answer_command, open_world};
 use crate::takes_lines::TakesLines;
 use rb_history::LineFault;
 use rb_money::{Config, Refusal};

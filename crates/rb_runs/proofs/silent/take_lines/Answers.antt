@@ -1,40 +1,37 @@
--- How a run over lines ends that answers none of them.
-use Rattle.std.proofs.Common.{◌≡◌, Err, ap, rules, sym, ◌∙◌}
-use Rattle.std.proofs.lemmas.Bool.{false≢true}
-use Rattle.rb_lines.specs.declared.fault.ScriptFault.TheVariants.{Write as Unwritten}
-use Rattle.rb_runs.proofs.Failures.{same_reason}
-use Rattle.rb_runs.proofs.Unanswered.{all_taken, stopped_at}
+-- A run over the lines is one from before the first.
+use Rattle.rb_runs.proofs.Words.{Err, ap, sym, ◌∙◌, false≢true, NotWritten}
+use Rattle.rb_runs.proofs.Unanswered.{all_taken, is_silent, same_reason, stopped_at}
 use Rattle.rb_runs.proofs.silent.take_lines.Goals as goal
 
-pub returns-clause-written : goal.returns-clause-written
-returns-clause-written g c = (c.in_ok-run_lines.ensures.silent c.requires.silent).0
+pub returns-in-Ok-clause-written : goal.returns-in-Ok-clause-written
+returns-in-Ok-clause-written g c = (c.in-Ok.ensures.silent
+    (is_silent g.T.TakesLines.rest g.T.TakesLines.made c.new-lines.result c.new-lines.ensures c.requires.silent)).0
 
-pub returns-clause-fresh : goal.returns-clause-fresh
-returns-clause-fresh g c = (c.in_ok-run_lines.ensures.silent c.requires.silent).1
+pub returns-in-Ok-clause-fresh : goal.returns-in-Ok-clause-fresh
+returns-in-Ok-clause-fresh g c = (c.in-Ok.ensures.silent
+    (is_silent g.T.TakesLines.rest g.T.TakesLines.made c.new-lines.result c.new-lines.ensures c.requires.silent)).1
 
-pub returns-clause-input : goal.returns-clause-input
-returns-clause-input g c =
-    all_taken (g.R.Responder.state c.args.responder.now).rest (g.S.Source.remaining c.args.reader.now)
-    (g.S.Source.remaining c.run_lines.new.reader) c.in_ok-run_lines.field-0 c.in_ok-run_lines.ensures.written.0
-    c.in_ok-run_lines.ensures.written.2
+pub returns-in-Ok-clause-input : goal.returns-in-Ok-clause-input
+returns-in-Ok-clause-input g c =
+    all_taken g.T.TakesLines.rest g.T.TakesLines.made c.new-lines.result c.new-lines.ensures (g.S.Source.remaining c.args.reader.now)
+    (g.S.Source.remaining c.run_lines.new.reader) c.in-Ok._answered c.in-Ok.ensures.written.0 c.run_lines.new.responder
+    c.into_opened.result c.into_opened.ensures c.in-Ok.ensures.written.2 c.in-Ok.ensures.made
 
-pub returns-in_err-run_lines-clause-written : goal.returns-in_err-run_lines-clause-written
-returns-in_err-run_lines-clause-written g c = (c.in_err-run_lines.ensures.silent c.requires.silent).0
+pub returns-in-Err-clause-written : goal.returns-in-Err-clause-written
+returns-in-Err-clause-written g c = (c.in-Err.ensures.silent
+    (is_silent g.T.TakesLines.rest g.T.TakesLines.made c.new-lines.result c.new-lines.ensures c.requires.silent)).0
 
-pub returns-in_err-run_lines-clause-fresh : goal.returns-in_err-run_lines-clause-fresh
-returns-in_err-run_lines-clause-fresh g c = (c.in_err-run_lines.ensures.silent c.requires.silent).1
+pub returns-in-Err-clause-fresh : goal.returns-in-Err-clause-fresh
+returns-in-Err-clause-fresh g c = (c.in-Err.ensures.silent
+    (is_silent g.T.TakesLines.rest g.T.TakesLines.made c.new-lines.result c.new-lines.ensures c.requires.silent)).1
 
-pub returns-in_err-run_lines-clause-input : goal.returns-in_err-run_lines-clause-input
-returns-in_err-run_lines-clause-input g c =
-    let passed : c.from_residual.result ≡ Err c.in_err-run_lines.field-0.0 = search rules in
-    rw passed
-    (stopped_at (g.R.Responder.state c.args.responder.now).rest (g.S.Source.remaining c.args.reader.now)
-    (g.S.Source.remaining c.run_lines.new.reader) c.in_err-run_lines.field-0.0 c.in_err-run_lines.ensures.written.0
-    c.in_err-run_lines.ensures.written.2)
+pub returns-in-Err-clause-input : goal.returns-in-Err-clause-input
+returns-in-Err-clause-input g c =
+    stopped_at g.T.TakesLines.rest g.T.TakesLines.made c.new-lines.result c.new-lines.ensures (g.S.Source.remaining c.args.reader.now)
+    (g.S.Source.remaining c.run_lines.new.reader) c.in-Err.fault c.in-Err.ensures.written.0 c.in-Err.ensures.written.2
 
-pub returns-in_err-run_lines-clause-write : goal.returns-in_err-run_lines-clause-write
-returns-in_err-run_lines-clause-write g c e =
-    let fresh = (c.in_err-run_lines.ensures.silent c.requires.silent).1 in
-    let passed : c.from_residual.result ≡ Err c.in_err-run_lines.field-0.0 = search rules in
-    let same = same_reason c.in_err-run_lines.field-0.0 Unwritten (sym passed ∙ e) in
-    false≢true (sym fresh ∙ c.in_err-run_lines.ensures.write.0 (ap Err same))
+pub returns-in-Err-clause-write : goal.returns-in-Err-clause-write
+returns-in-Err-clause-write g c e =
+    let quiet = c.in-Err.ensures.silent
+    (is_silent g.T.TakesLines.rest g.T.TakesLines.made c.new-lines.result c.new-lines.ensures c.requires.silent) in
+    false≢true (sym quiet.1 ∙ c.in-Err.ensures.write.0 (ap Err (same_reason c.in-Err.fault NotWritten e)))

@@ -1,6 +1,5 @@
 -- The order, or what shows that there is none.
-use Rattle.std.proofs.Common.{ap, ◌∙◌}
-use Rattle.rb_history.specs.Verdicts.{order_json, verdict_line}
+use Rattle.rb_runs.proofs.Words.{ap, ◌∙◌, order_json, verdict_line}
 use Rattle.rb_runs.proofs.Faulted.{faulted}
 use Rattle.rb_runs.proofs.audit.verdict.answer.Goals as goal
 

@@ -1,6 +1,5 @@
 -- One account more.
-use Rattle.std.proofs.Common.{◌++◌, ◌∙◌, ap, map, refl, sym}
-use Rattle.rb_money.specs.Faults.{account_of}
+use Rattle.rb_runs.proofs.Words.{◌++◌, ◌∙◌, ap, map, refl, sym, account_of}
 use Rattle.rb_runs.proofs.NextAccounts.{added_at, one_more}
 use Rattle.rb_runs.proofs.books.added.named.Goals as goal
 

@@ -1,6 +1,5 @@
 -- So far the accounts, with those that are left, are all of them.
-use Rattle.std.proofs.Common.{◌≡◌, ◌++◌, drop, map}
-use Rattle.rb_money.specs.Faults.{account_of}
+use Rattle.rb_runs.proofs.Words.{◌≡◌, ◌++◌, drop, map, account_of}
 use Rattle.rb_runs.proofs.NextAccounts.{added_from}
 use Rattle.rb_runs.proofs.books.added.named.Given as goal
 

@@ -1,9 +1,6 @@
 -- One balance more.
-use Rattle.std.proofs.Common.{◌≡◌, ◌∙◌, ℕ, ◌++◌, [], ◌∷◌, ap, arith, map, rules, sym}
-use Rattle.std.specs.List.{range_with_len}
-use Rattle.std.proofs.lemmas.List.FromFn.{map-range_with_len_more}
-use Rattle.rb_money.specs.Amounts.{cents}
-use Rattle.rb_shadow.specs.Operations.{bal}
+use Rattle.rb_runs.proofs.Words.{◌≡◌, ◌∙◌, ℕ, ◌++◌, [], ◌∷◌, ap, arith, map, rules, sym, range_with_len, map-range_with_len_more, cents}
+use Rattle.rb_runs.proofs.Words.{bal}
 use Rattle.rb_runs.proofs.books.balances.balances_at.Goals as goal
 
 pub loop-place-preserved : goal.loop-place-preserved

@@ -1,8 +1,5 @@
 -- So far there is a balance for each place below.
-use Rattle.std.proofs.Common.{◌≡◌, map}
-use Rattle.std.specs.List.{range_with_len}
-use Rattle.rb_money.specs.Amounts.{cents}
-use Rattle.rb_shadow.specs.Operations.{bal}
+use Rattle.rb_runs.proofs.Words.{◌≡◌, map, range_with_len, cents, bal}
 use Rattle.rb_runs.proofs.books.balances.balances_at.Given as goal
 
 abbrev pub invariant-loop-place : goal.invariant-loop-place

@@ -1,6 +1,5 @@
 -- The balances so far aren't above.
-use Rattle.std.proofs.Common.{◌≡◌, ◌<◌, ◌≤◌, ℕ, Some, slice_get}
-use Rattle.rb_money.specs.declared.cents.TheConstants.{MOST_CENTS}
+use Rattle.rb_runs.proofs.Words.{◌≡◌, ◌<◌, ◌≤◌, ℕ, Some, slice_get, MOST_CENTS}
 use Rattle.rb_runs.proofs.books.balances.first_above.Given as goal
 
 abbrev pub invariant-loop-place : goal.invariant-loop-place

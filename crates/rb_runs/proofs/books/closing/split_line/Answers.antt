@@ -1,7 +1,5 @@
 -- The line and those behind it.
-use Rattle.std.proofs.Common.{◌≡◌, ◌+◌, ◌∷◌, sym, subst, take}
-use Rattle.std.proofs.lemmas.List.{take_rest}
-use Rattle.rb_lines.specs.Lines.{lines_of}
+use Rattle.rb_runs.proofs.Words.{◌≡◌, ◌+◌, ◌∷◌, sym, subst, take, take_rest, lines_of}
 use Rattle.rb_runs.proofs.SplitLines.{split_there, split_all}
 use Rattle.rb_runs.proofs.books.closing.split_line.Goals as goal
 

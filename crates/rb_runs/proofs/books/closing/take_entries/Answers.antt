@@ -1,7 +1,5 @@
 -- One line more was taken, or it has the first fault.
-use Rattle.std.proofs.Common.{ap, ◌∙◌, arith}
-use Rattle.rb_lines.specs.Lines.{lines_of}
-use Rattle.rb_runs.specs.JournalFiles.{with_lines}
+use Rattle.rb_runs.proofs.Words.{ap, ◌∙◌, arith, lines_of, with_lines}
 use Rattle.rb_runs.proofs.Taken.{entry_more}
 use Rattle.rb_runs.proofs.books.closing.take_entries.Goals as goal
 

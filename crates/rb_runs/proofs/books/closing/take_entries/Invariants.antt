@@ -1,7 +1,5 @@
 -- The lines so far were taken.
-use Rattle.std.proofs.Common.{◌≡◌, ◌+◌, ◌≤◌, length}
-use Rattle.rb_lines.specs.Lines.{lines_of}
-use Rattle.rb_runs.specs.JournalFiles.{with_lines}
+use Rattle.rb_runs.proofs.Words.{◌≡◌, ◌+◌, ◌≤◌, length, lines_of, with_lines}
 use Rattle.rb_runs.proofs.books.closing.take_entries.Given as goal
 
 abbrev pub invariant-lines : goal.invariant-lines

@@ -1,10 +1,6 @@
 -- Open books, or closed ones.
-use Rattle.std.proofs.Common.{◌∙◌, ap, inl, inr, map, refl, slice_get, sym}
-use Rattle.rb_history.specs.Verdicts.{open_json, verdict_line}
-use Rattle.rb_site.specs.Seen.{state_of}
-use Rattle.rb_runs.specs.Books.{input_at}
-use Rattle.rb_runs.proofs.Answered.{closed_reported, first_applied, lists_of_ended, open_reported}
-use Rattle.rb_runs.proofs.Answered.{on_found}
+use Rattle.rb_runs.proofs.Words.{◌∙◌, ap, inl, inr, map, refl, slice_get, sym, open_json, verdict_line, state_of, input_at}
+use Rattle.rb_runs.proofs.Answered.{closed_reported, first_applied, lists_of_ended, open_reported, on_found}
 use Rattle.rb_runs.proofs.books.closing_line.answer_accepted.Goals as goal
 
 pub returns-then-not-are_empty : goal.returns-then-not-are_empty

@@ -1,7 +1,5 @@
 -- The next configuration, or the account that is above.
-use Rattle.std.proofs.Common.{◌∙◌, ◌++◌, ap, length, slice_get, sym}
-use Rattle.rb_money.specs.Settings.{Settings}
-use Rattle.rb_runs.specs.Texts.{config_line}
+use Rattle.rb_runs.proofs.Words.{◌∙◌, ap, length, slice_get, sym, Settings}
 use Rattle.rb_runs.proofs.Answered.{count_is, is_account, started_next}
 use Rattle.rb_runs.proofs.books.closing_line.answer_closed.Goals as goal
 
@@ -24,4 +22,4 @@ returns c =
     started_next c.args.ask.now c.args.ledger.now.settings c.config-config.result.now _ c.args.ledger.now.entries
     c.in_ok-balances.balances.items c.as_slice-2.result.now _ c.config-config.ensures.same c.in_ok-balances.ensures
     c.as_slice-2.ensures.value (λ i n at. c.in_default.ensures i n (ap (λ l. slice_get l i) same ∙ at))
-    c.in_ok-next.ensures (c.in_ok-buffer_config.ensures ∙ ap (λ l. l ++ config_line c.in_ok-next.next) c.new-line.ensures.items)
+    c.in_ok-next.ensures c.in_ok-line-2.ensures

@@ -1,8 +1,8 @@
 -- The sites at the end of one world's histories, or what shows that no world has them.
-use Rattle.std.proofs.Common.{inl, sym, subst}
-use Rattle.rb_money.specs.Settings.{IsConfigured}
+use Rattle.rb_runs.proofs.Words.{inl, sym, subst, IsConfigured}
 use Rattle.rb_runs.proofs.Answered.{IsFirstOf, closing_found, first_of, proper_of}
 use Rattle.rb_runs.proofs.Faulted.{faulted}
+use Rattle.rb_runs.proofs.NextAccounts.{may_be_next}
 use Rattle.rb_runs.proofs.books.closing_line.answer_closing.Goals as goal
 
 -- the first of the sites
@@ -24,7 +24,9 @@ answer_accepted-answer-requires-clause-one c = (first c).one
 
 pub answer_accepted-answer-requires-clause-proper : goal.answer_accepted-answer-requires-clause-proper
 answer_accepted-answer-requires-clause-proper c =
-    proper_of c.args.ask.now c.args.auditor.settings c.index.result.now.settings (first c).settings c.requires.proper
+    proper_of c.args.ask.now c.args.auditor.settings c.index.result.now.settings (first c).settings
+    (may_be_next c.args.auditor.settings c.args.ask.now (subst IsConfigured c.config.ensures.same c.sites-sites.ensures.configured)
+    c.requires.sites c.requires.added)
 
 pub returns-in-Ok : goal.returns-in-Ok
 returns-in-Ok c =

@@ -1,7 +1,5 @@
 -- One account more.
-use Rattle.std.proofs.Common.{◌≡◌, ◌++◌, ◌∷◌, [], ◌∙◌, Some, ap, get_or, map, rules, slice_get, sym}
-use Rattle.rb_money.specs.Faults.{account_of}
-use Rattle.rb_runs.specs.Books.{NextBank}
+use Rattle.rb_runs.proofs.Words.{◌≡◌, ◌++◌, ◌∷◌, [], ◌∙◌, Some, ap, get_or, map, rules, slice_get, sym, account_of, NextBank}
 use Rattle.rb_runs.proofs.NextAccounts.{added_at, left_at, one_more}
 use Rattle.rb_runs.proofs.books.next.accounts.Goals as goal
 

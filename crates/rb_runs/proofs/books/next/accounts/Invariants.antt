@@ -1,8 +1,5 @@
 -- So far the accounts, with those that are left, are all of them.
-use Rattle.std.proofs.Common.{◌≡◌, ◌++◌, drop, map}
-use Rattle.std.specs.Prelude.{zip}
-use Rattle.rb_money.specs.Faults.{account_of}
-use Rattle.rb_runs.specs.Books.{next_accounts}
+use Rattle.rb_runs.proofs.Words.{◌≡◌, ◌++◌, drop, map, zip, account_of, next_accounts}
 use Rattle.rb_runs.proofs.NextAccounts.{added_from}
 use Rattle.rb_runs.proofs.books.next.accounts.Given as goal
 

@@ -1,7 +1,5 @@
 -- The settings are those of the accounts, in the version that is asked for.
-use Rattle.std.proofs.Common.{◌∙◌, ap, map, sym}
-use Rattle.rb_money.specs.Faults.{account_of}
-use Rattle.rb_money.specs.Settings.{in_version_2}
+use Rattle.rb_runs.proofs.Words.{◌∙◌, ap, map, sym, account_of, in_version_2}
 use Rattle.rb_runs.proofs.NextAccounts.{made_first, made_second}
 use Rattle.rb_runs.proofs.books.next.next_config.Goals as goal
 

@@ -1,5 +1,5 @@
 -- Nothing can be wrong.
-use Rattle.std.proofs.Common.{sym, ◌∙◌}
+use Rattle.rb_runs.proofs.Words.{sym, ◌∙◌}
 use Rattle.rb_runs.proofs.NextAccounts.{no_fault}
 use Rattle.rb_runs.proofs.books.next.next_of_balances.Goals as goal
 

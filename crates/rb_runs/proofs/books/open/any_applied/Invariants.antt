@@ -1,8 +1,5 @@
 -- None of the sites so far has applied it.
-use Rattle.std.proofs.Common.{◌≡◌, drop}
-use Rattle.std.specs.List.{list_any}
-use Rattle.rb_shadow.specs.Operations.{names}
-use Rattle.rb_runs.specs.Books.{applied_by}
+use Rattle.rb_runs.proofs.Words.{◌≡◌, drop, list_any, names, applied_by}
 use Rattle.rb_runs.proofs.books.open.any_applied.Given as goal
 
 abbrev pub invariant-loop-site : goal.invariant-loop-site

@@ -1,9 +1,6 @@
 -- Each list is empty, or one isn't.
-use Rattle.std.proofs.Common.{◌≡◌, ◌<◌, ◌∙◌, ap, arith, inl, inr, length, map, refl, slice_get, sym}
-use Rattle.std.proofs.lemmas.List.{length-map}
-use Rattle.std.proofs.lemmas.Option.{slice_get_read, slice_get_within}
-use Rattle.rb_site.proofs.Public.Lists.{map_at}
-use Rattle.rb_site.proofs.Public.Places.{same_number}
+use Rattle.rb_runs.proofs.Words.{◌≡◌, ◌<◌, ◌∙◌, ap, arith, inl, inr, length, map, refl, slice_get, sym, length-map, slice_get_read}
+use Rattle.rb_runs.proofs.Words.{slice_get_within, map_at, same_number}
 use Rattle.rb_runs.proofs.Lacked.{is_none, is_some}
 use Rattle.rb_runs.proofs.books.open.are_empty.Goals as goal
 

@@ -1,6 +1,5 @@
 -- The lists so far have no name.
-use Rattle.std.proofs.Common.{◌≡◌, ◌<◌, ℕ, List, [], Some, map, slice_get}
-use Rattle.rb_shadow.specs.declared.op_name.OpName.{OpName}
+use Rattle.rb_runs.proofs.Words.{◌≡◌, ◌<◌, ℕ, List, [], Some, map, slice_get, OpName}
 use Rattle.rb_runs.proofs.books.open.are_empty.Given as goal
 
 abbrev pub invariant-loop-list : goal.invariant-loop-list

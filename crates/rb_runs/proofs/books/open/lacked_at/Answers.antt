@@ -1,10 +1,5 @@
 -- One name more is looked at.
-use Rattle.std.proofs.Common.{◌≤◌, ◌+◌, ◌∙◌, ap, arith, length}
-use Rattle.rb_money.specs.declared.limits.TheConstants.{MOST_BLUE, MOST_RED}
-use Rattle.rb_shadow.specs.Operations.{blue_count}
-use Rattle.rb_shadow.specs.declared.op_name.OpName.TheVariants.{Blue}
-use Rattle.rb_site.specs.Seen.{state_of}
-use Rattle.rb_runs.specs.Books.{applied_by, lacks}
+use Rattle.rb_runs.proofs.Words.{◌≤◌, ◌+◌, ◌∙◌, ap, arith, length, MOST_BLUE, MOST_RED, blue_count, Blue, state_of, applied_by, lacks}
 use Rattle.rb_runs.proofs.Lacked.{few_blue, few_red, next_listed}
 use Rattle.rb_runs.proofs.books.open.lacked_at.Goals as goal
 

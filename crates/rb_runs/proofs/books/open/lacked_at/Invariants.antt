@@ -1,11 +1,5 @@
 -- So far the list has what the site lacks of the homes below.
-use Rattle.std.proofs.Common.{◌≡◌, ◌+◌, map}
-use Rattle.std.specs.Prelude.{filter}
-use Rattle.std.specs.List.{range_with_len}
-use Rattle.rb_shadow.specs.declared.op_name.OpName.TheVariants.{Blue}
-use Rattle.rb_shadow.specs.Operations.{blue_count}
-use Rattle.rb_site.specs.Seen.{state_of}
-use Rattle.rb_runs.specs.Books.{applied_by, lacks}
+use Rattle.rb_runs.proofs.Words.{◌≡◌, ◌+◌, map, filter, range_with_len, Blue, blue_count, state_of, applied_by, lacks}
 use Rattle.rb_runs.proofs.books.open.lacked_at.Given as goal
 
 abbrev pub invariant-loop-home : goal.invariant-loop-home

@@ -1,7 +1,5 @@
 -- So far there is a list for each of the first sites.
-use Rattle.std.proofs.Common.{◌≡◌, map, take}
-use Rattle.rb_site.specs.Seen.{SeenSite, state_of}
-use Rattle.rb_runs.specs.Books.{applied_by, lacked}
+use Rattle.rb_runs.proofs.Words.{◌≡◌, map, take, SeenSite, state_of, applied_by, lacked}
 use Rattle.rb_runs.proofs.books.open.open_lists.Given as goal
 
 abbrev pub invariant-loop-site : goal.invariant-loop-site

@@ -1,7 +1,5 @@
 -- All journals were taken, so there is a bank, and its accounts may be added.
-use Rattle.std.proofs.Common.{◌∙◌, subst, sym}
-use Rattle.rb_money.specs.Settings.{IsConfigured}
-use Rattle.rb_runs.proofs.NextAccounts.{may_be_next}
+use Rattle.rb_runs.proofs.Words.{◌∙◌, sym}
 use Rattle.rb_runs.proofs.TakenFiles.{added-there, bank-there}
 use Rattle.rb_runs.proofs.books.run.run_close.Goals as goal
 
@@ -11,11 +9,8 @@ unreachable-requires g c = let took = c.in_default-take_all.ensures.taken in
     (sym c.into_auditor.ensures ∙ c.in_default-into_auditor.is)
 
 pub answer_closing-requires : goal.answer_closing-requires
-answer_closing-requires g c =
-    let took = c.in_default-take_all.ensures.taken in
-    let bank = sym c.into_auditor.ensures ∙ c.in-Some.is in
-    let configured = subst IsConfigured c.config.ensures.same c.sites-sites.ensures.configured in
-    record {
-      proper = may_be_next c.in-Some.auditor.settings c.args.ask.now configured c.requires.sites
-          (added-there c.take_all.new.closing c.args.ask.now _ c.in-Some.auditor took.0 bank);
-    }
+answer_closing-requires g c = record {
+  sites = c.requires.sites;
+  added = added-there c.take_all.new.closing c.args.ask.now _ c.in-Some.auditor c.in_default-take_all.ensures.taken.0
+      (sym c.into_auditor.ensures ∙ c.in-Some.is);
+}

@@ -1,7 +1,6 @@
 -- One journal more is taken.
-use Rattle.std.proofs.Common.{◌≡◌, ◌∙◌, ◌+◌, [], Err, ap, arith, refl, subst, sym}
+use Rattle.rb_runs.proofs.Words.{◌≡◌, ◌∙◌, ◌+◌, [], Err, ap, arith, refl, rules, subst, sym, ClosesAs}
 use Rattle.rb_runs.proofs.TakenFiles.{nothing-taken}
-use Rattle.rb_runs.specs.Closes.{ClosesAs}
 use Rattle.rb_runs.proofs.books.run.take_all.Goals as goal
 
 pub loop-site-init : goal.loop-site-init
@@ -22,13 +21,15 @@ take_next-requires-clause-site g c = sym c.loop-site.invariant.at
 pub take_next-requires-clause-taken : goal.take_next-requires-clause-taken
 take_next-requires-clause-taken g c = c.loop-site.invariant.taken
 
-pub returns-in-Err-clause-taken : goal.returns-in-Err-clause-taken
-returns-in-Err-clause-taken g c =
-    subst (λ n. ClosesAs c.args.ask.now n (g.F.JournalFiles.read c.take_next.new.files) (Err c.in-Err.fault) [])
-    c.loop-site.invariant.journals c.in-Err.ensures.taken
+pub returns-in_err-take_next-clause-taken : goal.returns-in_err-take_next-clause-taken
+returns-in_err-take_next-clause-taken g c =
+    let fault = c.in_err-take_next.field-0.0 in
+    let passed : c.from_residual.result ≡ Err fault = search rules in
+    rw passed (subst (λ n. ClosesAs c.args.ask.now n (g.F.JournalFiles.read c.take_next.new.files) (Err fault) [])
+    c.loop-site.invariant.journals c.in_err-take_next.ensures.taken)
 
 pub loop-site-preserved : goal.loop-site-preserved
-loop-site-preserved g c = let took = c.in_default.ensures.taken in let before = c.loop-site.invariant in record {
+loop-site-preserved g c = let took = c.in_ok-take_next.ensures.taken in let before = c.loop-site.invariant in record {
   taken = took.0;
   at = took.1 ∙ ap (λ n. n + 1) before.at;
   journals = took.2 ∙ before.journals;

@@ -1,6 +1,5 @@
 -- This number of journals was taken, and nothing was at fault.
-use Rattle.std.proofs.Common.{◌≡◌}
-use Rattle.rb_runs.specs.Closes.{HasTaken}
+use Rattle.rb_runs.proofs.Words.{◌≡◌, HasTaken}
 use Rattle.rb_runs.proofs.books.run.take_all.Given as goal
 
 abbrev pub invariant-loop-site : goal.invariant-loop-site

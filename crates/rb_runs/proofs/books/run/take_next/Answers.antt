@@ -1,8 +1,6 @@
 -- One journal was taken, or isn't read, or is at fault, or its bank can't have the accounts.
-use Rattle.std.proofs.Common.{◌≡◌, ◌∙◌, ◌<◌, ◌++◌, ◌∷◌, [], Bor, None, ap, arith, subst, sym}
-use Rattle.std.specs.Prelude.{option_map}
+use Rattle.rb_runs.proofs.Words.{◌≡◌, ◌∙◌, ◌<◌, ◌++◌, ◌∷◌, [], Bor, None, ap, arith, subst, sym, option_map, IsAddedFault, added_fault}
 use Rattle.rb_money.specs.declared.config.Config.{Config}
-use Rattle.rb_runs.specs.AddedAccounts.{IsAddedFault, added_fault}
 use Rattle.rb_runs.proofs.TakenFiles.{config-is, fault-of, not-added, one-more-taken, still-added, unread}
 use Rattle.rb_runs.proofs.books.run.take_next.Goals as goal
 

@@ -1,4 +1,4 @@
-use Rattle.rb_money.specs.Settings.{in_version_2}
+use Rattle.rb_runs.proofs.Words.{in_version_2}
 use Rattle.rb_runs.proofs.Kept.{configured, entries}
 use Rattle.rb_runs.proofs.migrate.laws.migrated_lines_are_read.Goals as goal
 

@@ -1,66 +1,53 @@
-use Rattle.std.proofs.Common.{◌∙◌, [], Err, ap, sym}
-use Rattle.std.proofs.lemmas.Bool.{false≢true}
-use Rattle.rb_lines.specs.declared.fault.ScriptFault.TheVariants.{Gather, Read, Write}
-use Rattle.rb_runs.specs.declared.lines.Lines.{Lines}
-use Rattle.rb_runs.specs.declared.recorded.recorder.Recorder.{Recorder}
-use Rattle.rb_runs.proofs.Failures.{same_reason}
-use Rattle.rb_runs.proofs.Recording.{all_written, ended, front_written, or_nothing, recorded, silent}
+-- The lines of the histories, or at a fault of the script nothing.
+use Rattle.rb_runs.proofs.Words.{◌≡◌, [], Err, ap, inr, refl, rules, IfSome_then, recording_in, recording_of, recorder_rest}
+use Rattle.rb_runs.proofs.Recording.{all_written, front_written, stopped_script}
+use Rattle.rb_runs.proofs.Unanswered.{has_input, no_text, no_write, stopped}
 use Rattle.rb_runs.proofs.recorded.run.run_histories_explained.Goals as goal
+
+pub take_lines-requires-clause-silent : goal.take_lines-requires-clause-silent
+take_lines-requires-clause-silent g c = λ ls. no_text (recording_of ls)
+
+pub returns-in_err-opened-clause-written : goal.returns-in_err-opened-clause-written
+returns-in_err-opened-clause-written g c =
+    let f = c.in_err-opened.field-0.0 in
+    let passed : c.from_residual.result ≡ Err f = search rules in
+    let a = g.S.Source.remaining c.args.reader.now in
+    let b = g.S.Source.remaining c.take_lines.new.reader in
+    let stops = stopped recorder_rest a b f (λ e. c.in_err-opened.ensures.write (ap Err e)) c.in_err-opened.ensures.input in
+    rw passed ([], c.in_err-opened.ensures.written, stopped_script a b f stops)
+
+pub returns-in_err-opened-clause-write : goal.returns-in_err-opened-clause-write
+returns-in_err-opened-clause-write g c =
+    let passed : c.from_residual.result ≡ Err c.in_err-opened.field-0.0 = search rules in
+    no_write c.in_err-opened.field-0.0 c.from_residual.result _ passed c.in_err-opened.ensures.write c.in_err-opened.ensures.fresh
 
 pub returns-in-Ok-clause-written : goal.returns-in-Ok-clause-written
 returns-in-Ok-clause-written g c =
-    let all = c.in_default.ensures in
-    let has =
-    recorded (g.S.Source.remaining c.args.reader.now) (g.S.Source.remaining c.take_lines.new.reader) c.new-lines.result
-    c.take_lines.new.responder c.in-Some.recorder tt c.new-lines.ensures (sym c.into_opened.ensures ∙ c.in-Some.is) all.input all.made in
+    let a = g.S.Source.remaining c.args.reader.now in
+    let b = g.S.Source.remaining c.take_lines.new.reader in
+    let w = c.in-Some.recorder.world in
+    let has = has_input recorder_rest a b c.in_ok-opened.opened c.in-Some.recorder (recording_in w) c.in-Some.is (λ n. refl)
+    c.in_ok-opened.ensures.input in
     all_written (g.W.Sink.contents c.args.writer.now) (g.W.Sink.contents c.take_lines.new.writer)
-    (g.W.Sink.contents c.write_world.new.writer) (g.S.Source.remaining c.args.reader.now)
-    (g.S.Source.remaining c.take_lines.new.reader) c.in-Some.recorder.world tt all.written c.in-Ok.ensures.written has
+    (g.W.Sink.contents c.write_world.new.writer) a b w tt c.in_ok-opened.ensures.written c.in-Ok.ensures.written has
 
 pub returns-in-Err-Write-clause-written : goal.returns-in-Err-Write-clause-written
 returns-in-Err-Write-clause-written g c =
-    let all = c.in_default.ensures in
-    let has =
-    recorded (g.S.Source.remaining c.args.reader.now) (g.S.Source.remaining c.take_lines.new.reader) c.new-lines.result
-    c.take_lines.new.responder c.in-Some.recorder tt c.new-lines.ensures (sym c.into_opened.ensures ∙ c.in-Some.is) all.input all.made in
+    let a = g.S.Source.remaining c.args.reader.now in
+    let b = g.S.Source.remaining c.take_lines.new.reader in
+    let w = c.in-Some.recorder.world in
+    let has = has_input recorder_rest a b c.in_ok-opened.opened c.in-Some.recorder (recording_in w) c.in-Some.is (λ n. refl)
+    c.in_ok-opened.ensures.input in
     front_written (g.W.Sink.contents c.args.writer.now) (g.W.Sink.contents c.take_lines.new.writer)
-    (g.W.Sink.contents c.write_world.new.writer) (g.S.Source.remaining c.args.reader.now)
-    (g.S.Source.remaining c.take_lines.new.reader) c.in-Some.recorder.world all.written c.in-Err-Write.ensures.written has
+    (g.W.Sink.contents c.write_world.new.writer) a b w c.in_ok-opened.ensures.written c.in-Err-Write.ensures.written has
 
 pub returns-in-Err-OutOfMemory-clause-written : goal.returns-in-Err-OutOfMemory-clause-written
 returns-in-Err-OutOfMemory-clause-written g c =
-    let all = c.in_default.ensures in
-    let has =
-    recorded (g.S.Source.remaining c.args.reader.now) (g.S.Source.remaining c.take_lines.new.reader) c.new-lines.result
-    c.take_lines.new.responder c.in-Some.recorder tt c.new-lines.ensures (sym c.into_opened.ensures ∙ c.in-Some.is) all.input all.made in
-    let front =
-    front_written (g.W.Sink.contents c.args.writer.now) (g.W.Sink.contents c.take_lines.new.writer)
-    (g.W.Sink.contents c.write_world.new.writer) (g.S.Source.remaining c.args.reader.now)
-    (g.S.Source.remaining c.take_lines.new.reader) c.in-Some.recorder.world all.written c.in-Err-OutOfMemory.ensures.written has in
-    (front.0, front.1, or_nothing (g.S.Source.remaining c.args.reader.now) front.0 front.2)
-
-pub take_lines-requires : goal.take_lines-requires
-take_lines-requires g c = record {
-  unread = c.requires.unread;
-  fresh = c.requires.fresh;
-  first = ap (λ (r : Lines Recorder). r.number) c.new-lines.ensures;
-  none = ap (λ (r : Lines Recorder). r.count) c.new-lines.ensures;
-  silent = silent c.new-lines.result;
-}
-
-pub returns-in-Err : goal.returns-in-Err
-returns-in-Err g c = record {
-  written = (
-    [],
-    c.in-Err.ensures.written,
-    ended (g.S.Source.remaining c.args.reader.now) (g.S.Source.remaining c.take_lines.new.reader) c.new-lines.result
-        c.in-Err.fault c.new-lines.ensures (λ e. c.in-Err.ensures.write (ap Err e)) c.in-Err.ensures.input,
-  );
-  read = λ e. c.in-Err.ensures.read (ap Err (same_reason c.in-Err.fault Read e));
-  write = (
-    λ e. absurd (c.in-Err.ensures.write (ap Err (same_reason c.in-Err.fault Write e))),
-    λ t. absurd (false≢true (sym c.in-Err.ensures.fresh ∙ t)),
-  );
-  gather = λ e. c.in-Err.ensures.gather (ap Err (same_reason c.in-Err.fault Gather e));
-  calls = c.in-Err.ensures.calls;
-}
+    let a = g.S.Source.remaining c.args.reader.now in
+    let b = g.S.Source.remaining c.take_lines.new.reader in
+    let w = c.in-Some.recorder.world in
+    let has = has_input recorder_rest a b c.in_ok-opened.opened c.in-Some.recorder (recording_in w) c.in-Some.is (λ n. refl)
+    c.in_ok-opened.ensures.input in
+    let (front, went, begins) = front_written (g.W.Sink.contents c.args.writer.now) (g.W.Sink.contents c.take_lines.new.writer)
+    (g.W.Sink.contents c.write_world.new.writer) a b w c.in_ok-opened.ensures.written c.in-Err-OutOfMemory.ensures.written has in
+    (front, went, IfSome_then a begins (λ input h. inr h))

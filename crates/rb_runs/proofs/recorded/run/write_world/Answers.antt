@@ -1,4 +1,4 @@
-use Rattle.std.proofs.Common.{◌∙◌}
+use Rattle.rb_runs.proofs.Words.{◌∙◌}
 use Rattle.rb_runs.proofs.Recording.{world_written}
 use Rattle.rb_runs.proofs.recorded.run.write_world.Goals as goal
 

@@ -1,6 +1,4 @@
-use Rattle.std.proofs.Common.{rules, ◌≡◌, Err, arith}
-use Rattle.std.proofs.lemmas.Bool.{false_from_ne_true}
-use Rattle.std.specs.Vec.Iter.{into_iter_items}
+use Rattle.rb_runs.proofs.Words.{rules, ◌≡◌, Err, arith, false_from_ne_true, into_iter_items}
 use Rattle.rb_runs.proofs.HistoryLines.{histories_go_on, histories_stop, next_left}
 use Rattle.rb_runs.proofs.recorded.text.write_histories.Goals as goal
 

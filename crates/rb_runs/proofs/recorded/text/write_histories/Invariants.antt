@@ -1,9 +1,5 @@
 -- So far the lines of the histories before went out or are buffered, and the reports from here on are left.
-use Rattle.std.proofs.Common.{◌≡◌, ◌≤◌, ◌++◌, drop, take, map, false, vec_len}
-use Rattle.std.specs.Vec.Iter.{into_iter_items}
-use Rattle.rb_lines.specs.Buffers.{Sends}
-use Rattle.rb_site.specs.declared.report.SiteReport.{SiteReport}
-use Rattle.rb_runs.specs.Texts.{histories_text}
+use Rattle.rb_runs.proofs.Words.{◌≡◌, ◌≤◌, ◌++◌, drop, take, map, false, vec_len, into_iter_items, Sends, SiteReport, histories_text}
 use Rattle.rb_runs.proofs.recorded.text.write_histories.Given as goal
 
 abbrev pub invariant-loop-report : goal.invariant-loop-report

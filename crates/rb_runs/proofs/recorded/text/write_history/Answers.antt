@@ -1,5 +1,4 @@
-use Rattle.std.proofs.Common.{rules, ◌≡◌, Err}
-use Rattle.std.proofs.lemmas.Bool.{false_from_ne_true}
+use Rattle.rb_runs.proofs.Words.{rules, ◌≡◌, Err, false_from_ne_true}
 use Rattle.rb_runs.proofs.HistoryLines.{history_goes_on, history_stops}
 use Rattle.rb_runs.proofs.recorded.text.write_history.Goals as goal
 

@@ -1,7 +1,5 @@
 -- So far the lines of the entries before went out or are buffered.
-use Rattle.std.proofs.Common.{◌≡◌, ◌++◌, take, false}
-use Rattle.rb_lines.specs.Buffers.{Sends}
-use Rattle.rb_runs.specs.Texts.{history_text}
+use Rattle.rb_runs.proofs.Words.{◌≡◌, ◌++◌, take, false, Sends, history_text}
 use Rattle.rb_runs.proofs.recorded.text.write_history.Given as goal
 
 abbrev pub invariant-loop-entry : goal.invariant-loop-entry

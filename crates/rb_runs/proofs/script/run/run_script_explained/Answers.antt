@@ -1,10 +1,5 @@
 -- A run over the lines of a script is a run from its first session.
-use Rattle.std.proofs.Common.{List, ℕ, subst}
-use Rattle.std.specs.Prelude.{IfSome}
-use Rattle.std.specs.Io.KnownBytes.{Appends}
-use Rattle.rb_lines.specs.Answers.{RunEndsAs}
-use Rattle.rb_runs.specs.ScriptSession.{session_rest}
-use Rattle.rb_runs.specs.TakesLines.{lines_state}
+use Rattle.rb_runs.proofs.Words.{List, ℕ, subst, IfSome, Appends, RunEndsAs, session_rest, lines_state}
 use Rattle.rb_runs.proofs.script.run.run_script_explained.Goals as goal
 
 pub returns-clause-written : goal.returns-clause-written

@@ -1,7 +1,6 @@
 -- The text of a wrong number of journals.
-use Rattle.std.proofs.Common.{subst, sym}
+use Rattle.rb_runs.proofs.Words.{subst, sym, journal_reason_of}
 use Rattle.std.specs.Fmt.{HasWritten}
-use Rattle.rb_runs.specs.JournalFiles.{journal_reason_of}
 use Rattle.rb_runs.proofs.books.journal_fault.JournalFaultDisplay.fmt.Goals as goal
 
 pub returns-in-Count-clause-writes : goal.returns-in-Count-clause-writes

@@ -1,7 +1,4 @@
-use Rattle.std.proofs.Common.{None, Some}
-use Rattle.rb_money.specs.declared.refusal.Refusal.TheVariants.{NoSite}
-use Rattle.rb_site.specs.declared.reply.Reply.TheVariants.{Refused}
-use Rattle.rb_runs.specs.RecordingSession.{recorder_rest}
+use Rattle.rb_runs.proofs.Words.{None, Some, NoSite, Refused, recorder_rest}
 use Rattle.rb_runs.proofs.Recording.{recorder_opens}
 use Rattle.rb_runs.proofs.Unanswered.{taken_unanswered}
 use Rattle.rb_runs.proofs.recorded.recorder.RecorderTakesLines.open.Goals as goal

@@ -1,5 +1,4 @@
-use Rattle.std.proofs.Common.{Some}
-use Rattle.rb_runs.specs.RecordingSession.{recorder_rest}
+use Rattle.rb_runs.proofs.Words.{Some, recorder_rest}
 use Rattle.rb_runs.proofs.Recording.{recorder_takes}
 use Rattle.rb_runs.proofs.Unanswered.{taken_unanswered}
 use Rattle.rb_runs.proofs.recorded.recorder.RecorderTakesLines.take.Goals as goal

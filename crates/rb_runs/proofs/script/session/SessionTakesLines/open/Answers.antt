@@ -1,6 +1,4 @@
-use Rattle.std.proofs.Common.{[], sym, append-nil}
-use Rattle.rb_money.specs.declared.refusal.Refusal.TheVariants.{NoSite}
-use Rattle.rb_site.specs.declared.reply.Reply.TheVariants.{Refused}
+use Rattle.rb_runs.proofs.Words.{[], sym, append-nil, NoSite, Refused}
 use Rattle.rb_runs.proofs.Opens.{opens}
 use Rattle.rb_runs.proofs.script.session.SessionTakesLines.open.Goals as goal
 

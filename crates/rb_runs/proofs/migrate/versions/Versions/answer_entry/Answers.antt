@@ -1,13 +1,9 @@
 -- The entry of the line is written.
-use Rattle.std.proofs.Common.{◌≡◌, ◌++◌, ℕ, List, Some, None, true, ap, subst}
-use Rattle.std.specs.Prelude.{MatchResult}
-use Rattle.std.specs.Str.{is_utf8}
-use Rattle.rb_money.specs.Settings.{Settings}
+use Rattle.rb_runs.proofs.Words.{◌≡◌, ◌++◌, ℕ, List, Some, None, true, ap, subst, MatchResult, is_utf8, Settings, asked_entry_of_line}
+use Rattle.rb_runs.proofs.Words.{AskedEntry, migrated_entry_line}
 use Rattle.rb_history.specs.declared.fault.LineFault.TheVariants.{Bad}
-use Rattle.rb_history.specs.Entries.{asked_entry_of_line, asked_entry_on}
-use Rattle.rb_history.specs.Ids.{AskedEntry}
-use Rattle.rb_runs.specs.Migration.{migrated_entry_line}
-use Rattle.rb_runs.proofs.migrate.session.answer_entry.Goals as goal
+use Rattle.rb_history.specs.Entries.{asked_entry_on}
+use Rattle.rb_runs.proofs.migrate.versions.Versions.answer_entry.Goals as goal
 
 -- the entry on a line is that of its text
 on_text : (s : Settings) (line text : List ℕ) → text ≡ line → is_utf8 line ≡ true → asked_entry_of_line s text ≡ asked_entry_on s line
@@ -16,7 +12,7 @@ on_text s line text e utf8 = rw utf8 (ap (asked_entry_of_line s) e)
 
 pub returns-clause-answered : goal.returns-clause-answered
 returns-clause-answered c =
-    let s = c.args.versions.now in
+    let s = c.args.self.now in
     let old = c.args.buffered.now.items in
     let new = c.append_migrated_entry.new.out.items in
     let some = c.in-Some in

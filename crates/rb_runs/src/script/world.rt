@@ -1,13 +1,29 @@
-//! The commands of a script, given to its world.
-ghost use Rattle.std.specs.Prelude.{◌≡◌, MatchResult, OnErr};
+//! The world of a script: how its configuration opens it, and its commands.
+ghost use Rattle.std.specs.Prelude.{◌≡◌, None, Some, MatchResult, OnErr};
+ghost use Rattle.rb_money.specs.Settings.{Settings};
+ghost use Rattle.rb_world.specs.Laws.{opened};
 ghost use Rattle.rb_history.specs.declared.fault.LineFault.TheVariants.{Bad};
+ghost use Rattle.rb_history.specs.Configurations.{config_on};
 ghost use Rattle.rb_history.specs.OnLines.{command_on};
 ghost use Rattle.rb_runs.specs.ScriptSession.{AnswersCommand, TakesCommand};
 
-use rb_history::{LineFault, append_reply, open_command};
+use rb_history::{LineFault, append_reply, open_command, open_config};
 use rb_site::{KeepsEntry, Reply};
 use rb_world::{ErasedEvent, LeanWorld, World};
 use std::alloc::Global;
+
+/// The world before any event of the configuration on a line.
+pub fn open_world<E: KeepsEntry>(
+    alloc: Global,
+    line: &[u8],
+) -> Result<World<E, ErasedEvent>, LineFault>
+    ensures { MatchResult result
+        (λ world. (s : Settings) × (config_on line.now ≡ Some s) × (world ≡ opened s))
+        (λ why. why ≡ Bad → config_on line.now ≡ None) }
+{
+    let config = open_config(alloc, line)?;
+    Ok(World::open_keeping(alloc, config)?)
+}
 
 /// Gives the world the command on a line, and puts its reply in the place of another. An `Err` ends the script.
 #[inline(always)]
@@ -22,10 +38,7 @@ pub fn take_command<E: KeepsEntry>(
         (λ why. why ≡ Bad → command_on world.old.settings line.now ≡ None) }
 {
     let command = open_command(alloc, world.config(), line)?;
-    match world.answer(&command, reply) {
-        Ok(()) => Ok(()),
-        Err(_) => Err(LineFault::OutOfMemory),
-    }
+    Ok(world.answer(&command, reply)?)
 }
 
 /// Gives the world the command on a line, and buffers its reply, which is put in the place of another. An `Err` buffers
@@ -45,8 +58,5 @@ pub fn answer_command(
     ensures err { OnErr result (buffered.new.items ≡ buffered.old.items) }
 {
     take_command(alloc, world, reply, line)?;
-    match append_reply(buffered, reply) {
-        Ok(()) => Ok(()),
-        Err(_) => Err(LineFault::OutOfMemory),
-    }
+    Ok(append_reply(buffered, reply)?)
 }

@@ -1,6 +1,6 @@
-use Rattle.rb_runs.specs.Migration.{migrated_entry_line}
+use Rattle.rb_runs.proofs.Words.{migrated_entry_line}
 use Rattle.rb_runs.proofs.Ends.{answers}
-use Rattle.rb_runs.proofs.migrate.session.VersionsTakesLines.take.Goals as goal
+use Rattle.rb_runs.proofs.migrate.versions.VersionsTakesLines.take.Goals as goal
 
 pub returns : goal.returns
 returns c =
