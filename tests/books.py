@@ -60,7 +60,7 @@ def run_until_done(bank: Bank, words: list[str], following: str) -> None:
         if run.returncode != 0 or without_notes(errors.decode()):
             raise Failed(f"close.py ended in {run.returncode}: {out.decode()}{errors.decode()}")
     refused = subprocess.run(words, capture_output=True)
-    if refused.returncode != 1 or b"0.journal: No such file" not in refused.stderr:
+    if refused.returncode != 1 or b" isn't begun: " not in refused.stderr:
         raise Failed(f"close.py closed a period that hasn't begun: {refused}")
 
 

@@ -90,7 +90,11 @@ def journals_of(period: Period) -> list[Journal]:
         sites = int(json.loads(first)["sites"])
     except (KeyError, TypeError, ValueError):
         raise bank.Stop(f"{period.bank}: no configuration") from None
-    return [Journal(period.journal(site)) for site in range(sites)]
+    paths = [period.journal(site) for site in range(sites)]
+    if not any(map(os.path.exists, paths)):
+        raise bank.Stop(f"{period.name} isn't begun: none of its journals is there; start its sites with "
+                        f"--bank {period.name}")
+    return [Journal(path) for path in paths]
 
 
 # ---- what the sites still lack
