@@ -114,14 +114,20 @@ def example():
 
 
 def restart():
-    """Whether a site goes on from its journal, and what a crash left after its last line is cut off."""
+    """Whether a site goes on from its journal, and what a crash left after its last line is cut off. A new journal has
+    to be asked for, and then there may be none."""
     program = compiled("restart")
     if program is None:
         return False
     with tempfile.TemporaryDirectory() as folder:
         journal = os.path.join(folder, "journal")
-        _, sent, _ = run([program, "0", journal], b'{"deposit":["ann",500]}\n{"pass":1}\n')
+        missing = run([program, "0", journal])
+        made = os.path.exists(journal)
+        _, sent, _ = run([program, "0", journal, "--new"], b'{"deposit":["ann",500]}\n{"pass":1}\n')
         before = stored(journal)
+        twice = run([program, "0", journal, "--new"])
+        fresh = not made and (missing, twice) == ((b"", b"restart: no journal\n", 1),
+                                                  (b"", b"restart: there is a journal\n", 1))
         with open(journal, "ab") as file:
             file.write(b'{"event":')
         found, again, status = run([program, "0", journal], b'{"balance":"ann"}\n{"balance"')
@@ -132,7 +138,7 @@ def restart():
         sealed = run([program, "0", journal])
     answer = b'{"reply":{"balance":500},"sends":[],"then":[]}\ncolumn 11: a colon is missing behind the key balance\n'
     entry = b'{"event":{"balance":"ann"},"reply":{"balance":500},"site":0}\n'
-    return ((found, again, status) == (answer, sent, 0) and kept == before + entry
+    return (fresh and (found, again, status) == (answer, sent, 0) and kept == before + entry
             and re.fullmatch(rb'to all: \{"shadow":.*\}\nto 1: \{"token":\[1,1,0\]\}\n', sent) is not None
             and sealed == (b"", b"restart: the journal is sealed, and no site goes on from it\n", 1)
             and another == (b"", b"restart: the journal has a line that isn't the site's next entry\n", 1))

@@ -1,6 +1,8 @@
-/* A site that goes on from its journal, or begins a new one, and then answers the lines of its input.
+/* A site that begins a new journal with `--new`, else goes on from the one that is there, and then answers the lines of
+ * its input.
  *
- *     cc -I bindings/c bindings/c/restart.c bindings/out/librbbank.a -o restart && ./restart 0 site.journal < events
+ *     cc -I bindings/c bindings/c/restart.c bindings/out/librbbank.a -o restart
+ *     ./restart 0 site.journal --new < events
  *
  * Each reply is one line on standard output. Each message is a line on standard error, `to 1: {..}` or `to all: {..}`:
  * here a program hands it to its network. What a restart sends again comes first.
@@ -100,22 +102,24 @@ static size_t replay(struct rbbank_site *site, struct text journal) {
     return at;
 }
 
-/* The journal, at the place where its next line goes. One that is there is opened, not cut; a new one gets its first
- * line. */
-static FILE *opened(struct rbbank_site *site, const char *path) {
-    FILE *journal = fopen(path, "r+b");
-    if (journal == NULL) {
-        if ((journal = fopen(path, "wbx")) == NULL)
-            stop("the journal can't be opened");
-        keep_entries(site, journal);
-        return journal;
-    }
+/* The journal, at the place where its next line goes. A new one, which gets its first line, is made only where it is
+ * asked for: a mistyped name is never a new site, which would make other operations under names that are taken. */
+static FILE *opened(struct rbbank_site *site, const char *path, int is_new) {
+    FILE *journal = fopen(path, is_new ? "a+b" : "r+b");
+    if (journal == NULL)
+        stop(is_new ? "the journal can't be made" : "no journal");
     struct text before = read_all(journal);
-    size_t end = replay(site, before);
+    if (is_new && before.length != 0)
+        stop("there is a journal");
+    if (is_new) {
+        keep_entries(site, journal);
+    } else {
+        size_t end = replay(site, before);
+        /* After the last whole line is what a crash left of an entry whose answer nobody has seen. */
+        if (ftruncate(fileno(journal), (off_t)end) != 0 || fseek(journal, 0, SEEK_END) != 0)
+            stop("the journal can't be written");
+    }
     free(before.bytes);
-    /* Behind the last whole line is what a crash left of an entry whose answer nobody has seen. */
-    if (ftruncate(fileno(journal), (off_t)end) != 0 || fseek(journal, 0, SEEK_END) != 0)
-        stop("the journal can't be written");
     return journal;
 }
 
@@ -140,11 +144,12 @@ static void answer(struct rbbank_site *site, FILE *journal, const char *line, si
 
 int main(int count, char **words) {
     struct rbbank_site site = {0};
-    if (count != 3)
-        stop("usage: restart SITE JOURNAL < EVENTS");
+    int is_new = count == 4 && strcmp(words[3], "--new") == 0;
+    if (count != 3 && !is_new)
+        stop("usage: restart SITE JOURNAL [--new] < EVENTS");
     if (rbbank_site_open(&site, (uint8_t)atoi(words[1]), CONFIG, strlen(CONFIG)) != RBBANK_OK)
         stop("no such site");
-    FILE *journal = opened(&site, words[2]);
+    FILE *journal = opened(&site, words[2], is_new);
     char *line = NULL;
     size_t size = 0;
     for (ssize_t length; (length = getline(&line, &size, stdin)) > 0;)
