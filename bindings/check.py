@@ -34,6 +34,7 @@ import closings
 import odd_lines
 
 LINES, SEED = 10_000, 31
+REGISTRY = "/usr/share/cargo/registry"  # where Debian's librust-serde-json-dev and its like put crates
 UNDER_VALGRIND = 300  # odd lines, since it takes a hundred times as long
 ENVIRONMENT = os.environ | {
     "RBBANK_LIB": build.OUT, "CARGO_TARGET_DIR": os.path.join(build.OUT, "cargo"), "PYTHONDONTWRITEBYTECODE": "1",
@@ -208,6 +209,10 @@ def of_rust():
     if shutil.which("cargo-clippy"):
         words = ["cargo", "clippy", "--offline", "--quiet", "--all-targets", "--", "-D", "warnings"]
         yield "Rust, no warning of clippy", passes(words, crate)
+    if glob.glob(os.path.join(REGISTRY, "serde_json-*")):
+        words = ["cargo", "test", "--offline", "--quiet", "--config", 'source.crates-io.replace-with="there"',
+                 "--config", f'source.there.directory="{REGISTRY}"']
+        yield "Rust, values by serde", passes(words, os.path.join(crate, "serde"))
 
 
 def of_python():

@@ -1,5 +1,6 @@
 #!/usr/bin/env python3
-"""Compares the declarations of the library's calls with its exports: names, order and widths; and the version.
+"""Compares the declarations of the library's calls with its exports: names, order and widths; the version; and the
+names of refusals.
 
 usage: declarations.py             the table of calls
        declarations.py --check     nothing, or what is different, with status 1
@@ -7,7 +8,8 @@ usage: declarations.py             the table of calls
 The exports are the `extern "C"` functions of crates/rb_capi/src; the declarations are those of c/rbbank.h,
 rust/src/c.rs and python/rbbank. What an export takes is compared as C passes it: a slice is a pointer and a length,
 the allocator is nothing, and a handle is one pointer, to a struct of one pointer. The version is that of
-crates/rb_capi/src/version.rt: rust/Cargo.toml has to say the same.
+crates/rb_capi/src/version.rt: Rust's crates have to say the same. A refusal's name and number are those of the
+program, in crates/rb_money and rb_node, and its meaning is that of docs/FORMAT.md; each language has them again.
 """
 import ctypes
 import glob
@@ -17,8 +19,10 @@ import sys
 
 sys.dont_write_bytecode = True
 HERE = os.path.dirname(os.path.abspath(__file__))
-EXPORTS = os.path.join(os.path.dirname(HERE), "crates", "rb_capi", "src")
-sys.path.insert(0, os.path.join(HERE, "python"))
+CRATES = os.path.join(os.path.dirname(HERE), "crates")
+EXPORTS = os.path.join(CRATES, "rb_capi", "src")
+sys.path[1:1] = [os.path.join(HERE, "python"), os.path.join(os.path.dirname(HERE), "examples", "tools")]
+import bank
 import build
 import rbbank
 
@@ -103,14 +107,53 @@ def as_python_has_it(kinds):
     return [re.sub("^(u64|u8)s? .*", r"\1s", kind) for kind in known]
 
 
-def version_of_rust():
-    return re.search(r'(?m)^version = "(.*)"$', read(HERE, "rust", "Cargo.toml"))[1]
+def version_of(manifest):
+    return re.search(r'(?m)^version = "(.*)"$', read(HERE, manifest))[1]
+
+
+# ---- refusals
+
+def refusals():
+    """Each number of a refusal, with its name and what it means."""
+    ledger = read(CRATES, "rb_money", "src", "refusal.rt")
+    of_ledger = re.findall(r"Refusal::(\w+)(?: \{ \.\. \})? => ([1-9]\d*),", ledger)
+    of_site = re.findall(r"(?m)^const (OTHER_\w+): u64 = (\d+);", read(CRATES, "rb_node", "src", "again.rt"))
+    named = {int(number): upper(name) for name, number in [*of_ledger, *of_site]}
+    return {number: (named.get(number), re.sub(r" \(only `.*", "", bank.meaning(number)))
+            for number in sorted(named | bank.NUMBERS)}
+
+
+def upper(name):
+    """BadAmount as BAD_AMOUNT."""
+    return re.sub(r"(?<=[a-z])(?=[A-Z])", "_", name).upper()
+
+
+def refusals_of_c():
+    found = re.findall(r"(?s)RBBANK_REFUSAL_(\w+) = (\d+),? +/\* (.*?) \*/", read(HERE, "c", "rbbank.h"))
+    return {int(number): (name, re.sub(r"\s+", " ", meaning)) for name, number, meaning in found}
+
+
+def refusals_of_rust():
+    found = re.findall(r'(?m)^    (\w+) = (\d+), "(.*)";$', read(HERE, "rust", "src", "refusal.rs"))
+    return {int(number): (upper(name), meaning) for name, number, meaning in found}
+
+
+def refusals_that_differ():
+    """What isn't the same of the names of refusals, in words."""
+    wanted, of_module = refusals(), {it.value: (it.name, it.words) for it in rbbank.Refusal}
+    for where, found in [("c/rbbank.h", refusals_of_c()), ("rust/src/refusal.rs", refusals_of_rust()),
+                         ("python/rbbank", of_module)]:
+        for number in sorted(wanted.keys() | found.keys()):
+            if wanted.get(number) != found.get(number):
+                yield f"refusal {number}: {found.get(number)} in {where}; {wanted.get(number)} in crates/ and docs/"
 
 
 def differences():
     """What isn't the same, in words."""
-    if version_of_rust() != build.version():
-        yield f"rust/Cargo.toml has the version {version_of_rust()}; crates/rb_capi/src/version.rt {build.version()}"
+    yield from refusals_that_differ()
+    for manifest in ("rust/Cargo.toml", "rust/serde/Cargo.toml"):
+        if version_of(manifest) != build.version():
+            yield f"{manifest} has the version {version_of(manifest)}; crates/rb_capi/src/version.rt {build.version()}"
     made, in_c, in_rust, in_python = exports(), of_c(), of_rust(), of_python()
     if not made:
         yield "crates/rb_capi/src has no export"

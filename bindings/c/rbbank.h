@@ -63,6 +63,37 @@ enum {
                             nothing has changed */
 };
 
+/* Why something was refused: the number of a reply {"refused":N}. What is in backticks are keys of the reply. */
+enum {
+    RBBANK_REFUSAL_UNKNOWN_ACCOUNT = 1,   /* unknown account */
+    RBBANK_REFUSAL_BAD_AMOUNT = 2,        /* amount out of range */
+    RBBANK_REFUSAL_BAD_RATE = 3,          /* rate out of range */
+    RBBANK_REFUSAL_UNKNOWN_OPERATION = 4, /* unknown operation */
+    RBBANK_REFUSAL_NOT_CANCELLABLE = 5,   /* can't be cancelled (declined, or a cancellation) */
+    RBBANK_REFUSAL_ALREADY_CANCELLED = 6, /* already cancelled, first at `position` */
+    RBBANK_REFUSAL_NUMBERS_EXHAUSTED = 7, /* numbers, or epochs, are used up */
+    RBBANK_REFUSAL_NEED_TOKEN = 8,        /* the site hasn't the token */
+    RBBANK_REFUSAL_RED_BEHIND = 9,        /* `seen` red operations applied, `needed` before the next */
+    RBBANK_REFUSAL_WOULD_OVERDRAW = 10,   /* would leave a balance below zero */
+    RBBANK_REFUSAL_DELTA_TOO_LARGE = 11,  /* interest over its limit */
+    RBBANK_REFUSAL_BAD_BATCH = 12,        /* bad batch: no request, or more than 16 */
+    RBBANK_REFUSAL_BATCH_REFUSED = 13,    /* a request of the batch would be declined or is refused */
+    RBBANK_REFUSAL_NOT_HELD = 14,         /* nothing is held under the name */
+    RBBANK_REFUSAL_NOT_READY = 15,        /* its past isn't applied here yet */
+    RBBANK_REFUSAL_INBOX_FULL = 16,       /* the inbox is full, and the operation isn't ready */
+    RBBANK_REFUSAL_BAD_MESSAGE = 17,      /* bad message */
+    RBBANK_REFUSAL_CONFLICT = 18,         /* another operation has the name, or it is said to be of this site, which
+                                             didn't make it */
+    RBBANK_REFUSAL_NO_MESSAGE = 19,       /* no such message */
+    RBBANK_REFUSAL_NO_SITE = 20,          /* no such site, or the token passed to the own one */
+    RBBANK_REFUSAL_NOT_YOURS = 21,        /* the token message is for another site */
+    RBBANK_REFUSAL_POSITION_BEYOND = 22,  /* the position is beyond the operations that the site applied */
+    RBBANK_REFUSAL_HISTORY_FULL = 23,     /* the site's history is full */
+    RBBANK_REFUSAL_SAME_ACCOUNT = 24,     /* a transfer's two accounts are one */
+    RBBANK_REFUSAL_OTHER_REQUEST = 25,    /* the id is that of another request */
+    RBBANK_REFUSAL_OTHER_BANK = 26        /* the line is of another bank */
+};
+
 /* ---- All sites of a bank, with the messages between them, as `rbbank script` has them */
 
 struct rbbank {

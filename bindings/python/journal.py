@@ -1,6 +1,6 @@
 """A site whose journal is in a file, as a filter: journal.py SITE JOURNAL [--new] < EVENTS. It begins a new journal
-with --new, else it goes on from the one that is there, and answers each line of its input by a line. Kill it at any
-moment and start it again, without --new."""
+with --new, else it goes on from the one that is there, and answers each line of its input by a line, a bad one by
+{"bad":..}. Kill it at any moment and start it again, without --new."""
 import sys
 
 import rbbank
@@ -15,7 +15,10 @@ def main() -> int:
         return 2
     with rbbank.Journal(path, int(me), CONFIG, new=bool(more)) as site:
         for line in sys.stdin.buffer:
-            reply = site.answer(line.removesuffix(b"\n"))
+            try:
+                reply = site.answer(line.removesuffix(b"\n"))
+            except rbbank.BadLine:
+                reply = site.reply()
             if reply:
                 print(reply, flush=True)
     return 0

@@ -29,7 +29,10 @@ def lines_of(data):
 
 
 class Stop(Exception):
-    """A fault of the input, in words, with the status."""
+    """A fault of the input, in words, without why."""
+
+    def __init__(self, words):
+        super().__init__(re.sub(": column .*", "", str(words)))
 
 
 def write(text):
@@ -48,7 +51,7 @@ def whole(word, data):
         return 0
     except rbbank.LineFault as fault:
         write(fault.written)
-        raise Stop(str(fault)) from None
+        raise Stop(fault) from None
 
 
 def first(lines):
@@ -179,10 +182,18 @@ def journal(given, data):
     number, config = first(lines_of(data))
     with opened(given, number, config) as at:
         lines = data.split(b"\n")
-        answers = (at.answer(line) for line in lines[:number - 1] + lines[number:])
+        answers = (taken(at, line) for line in lines[:number - 1] + lines[number:])
         for answer in filter(None, itertools.chain([at.reply()], answers)):
             write(answer + "\n")
     return 0
+
+
+def taken(at, line):
+    """The answer to a line, or what is said of one that isn't taken."""
+    try:
+        return at.answer(line)
+    except rbbank.BadLine:
+        return at.reply()
 
 
 def read(path):

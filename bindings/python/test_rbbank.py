@@ -1,8 +1,10 @@
 """Each call once, and each exception that a caller can bring about: python3 -m unittest -v test_rbbank."""
 import copy
 import doctest
+import glob
 import json
 import os
+import re
 import subprocess
 import sys
 import tempfile
@@ -121,6 +123,47 @@ class Banks(unittest.TestCase):
             entry = '{"event":{"balance":"ann"},"reply":{"balance":0},"site":1}'
             self.assertRaisesRegex(rbbank.BadLine, "^$", site.replay, entry)
 
+    def test_the_programs_words(self):
+        """The column and the reason of each bad line of examples/ are those that the program says."""
+        folder, count = os.path.join(os.path.dirname(os.path.abspath(__file__)), "..", "..", "examples"), 0
+        for runs, path in [(rbbank.script, "scripts/*.fault"), (rbbank.audit, "histories/*.fault")]:
+            for fault in glob.glob(os.path.join(folder, path)):
+                with open(fault, encoding="utf-8") as file:
+                    where, *reason = file.read().splitlines()
+                with open(fault.removesuffix("fault") + "jsonl", encoding="utf-8") as file:
+                    with self.assertRaises(rbbank.LineFault) as bad:
+                        runs(file.read())
+                self.assertEqual(bad.exception.line, int((re.findall(r"line (\d+)", where) or [0])[0]))
+                if reason:
+                    self.assertEqual(f"  column {bad.exception.column}: {bad.exception.why}", reason[0])
+                    count += 1
+        self.assertGreater(count, 4)
+
+    def test_values(self):
+        """Dicts in place of lines."""
+        configuration = json.loads(CONFIG)
+        with rbbank.Bank(configuration) as bank, rbbank.Site(0, configuration) as home, rbbank.Site(1, CONFIG) as other:
+            self.assertEqual(bank.answer(json.loads(DEPOSIT)), json.loads(MADE))
+            self.assertEqual(bank.reply(), MADE)
+            self.assertEqual(bank.answer({"balance": "\xe9", "site": 0}), {"refused": rbbank.Refusal.UNKNOWN_ACCOUNT})
+            self.assertRaisesRegex(rbbank.BadLine, "^column 19: 1.0 has a point", bank.answer,
+                                   {"deposit": ["ann", 1.0], "site": 0})
+            self.assertRaises(TypeError, bank.answer, {"deposit": {1}})
+            answer = home.answer(json.loads(EVENT))
+            self.assertEqual(other.answer(answer["sends"][0])["then"], [{"applied": "B0.1"}])
+            self.assertEqual(home.answer({"resend": 1})["reply"], {"resent": 1})
+        self.assertRaises(rbbank.BadLine, rbbank.Bank, {})
+
+    def test_refusals(self):
+        self.assertEqual([int(it) for it in rbbank.Refusal], list(range(1, 27)))
+        self.assertEqual(rbbank.Refusal(8).words, "the site hasn't the token")
+        self.assertRaises(ValueError, rbbank.Refusal, 27)
+        with rbbank.Site(1, CONFIG) as site:
+            site.answer({"deposit": ["ann", 5], "id": "x"})
+            for event, refusal in [({"pass": 1}, rbbank.Refusal.NO_SITE), ({"pass": 0}, rbbank.Refusal.NEED_TOKEN),
+                                   ({"deposit": ["ann", 6], "id": "x"}, rbbank.Refusal.OTHER_REQUEST)]:
+                self.assertEqual(site.answer(event)["reply"], {"refused": refusal})
+
     def test_version(self):
         self.assertRegex(rbbank.version(), r"^\d+\.\d+\.\d+$")
 
@@ -177,6 +220,11 @@ class Runs(unittest.TestCase):
         with self.assertRaises(rbbank.LineFault) as fault:
             rbbank.script(f"{CONFIG}\n\n{DEPOSIT}\n{{}}\n{DEPOSIT}\n")
         self.assertEqual((fault.exception.line, fault.exception.written), (4, MADE + "\n"))
+        self.assertEqual(str(fault.exception), f"line 4: column 2: {fault.exception.why}")
+        self.assertEqual(fault.exception.column, 2)
+        with self.assertRaises(rbbank.LineFault) as fault:
+            rbbank.script(f"\n {DEPOSIT}\n{DEPOSIT}\n")
+        self.assertRegex(str(fault.exception), "^line 2: column 2: the first line is the configuration, as {")
         self.assertRaisesRegex(rbbank.LineFault, "no configuration", rbbank.script, " \n")
 
     def test_an_output_longer_than_was_thought(self):
@@ -224,7 +272,13 @@ class Journals(unittest.TestCase):
             self.assertTrue(site.answer(EVENT).startswith('{"reply":{"kind":"deposit","name":"B0.1"},'))
             self.assertEqual(len(site.sends()), 1)
             self.assertEqual(site.answer(" "), "")
-            self.assertTrue(site.answer("{}").startswith('{"bad":"line","line":4,"why":"column 2: '))
+            with self.assertRaises(rbbank.BadLine) as bad:
+                site.answer("{}")
+            self.assertEqual(bad.exception.column, 2)
+            self.assertTrue(site.reply().startswith('{"bad":"line","line":4,"why":"column 2: '))
+            self.assertRaisesRegex(rbbank.BadLine, "1,048,576", site.answer, " " * 1_048_577 + "{}")
+            self.assertRaises(rbbank.BadLine, site.answer, {"deposit": ["ann", 1.0]})
+            self.assertEqual(site.sends(), [])
             self.assertRaises(BlockingIOError, rbbank.Journal, self.path, 0, CONFIG)
         self.assertRaises(rbbank.Closed, site.answer, EVENT)
         before = self.stored()
@@ -255,6 +309,7 @@ class Journals(unittest.TestCase):
             with self.assertRaises(rbbank.JournalFault) as fault:
                 rbbank.Journal(self.path, 0, CONFIG)
             self.assertEqual((fault.exception.reason, fault.exception.line), (reason, line))
+            self.assertEqual(getattr(fault.exception.fault, "column", None), 2 if reason == "bad line" else None)
             self.assertEqual(self.stored(), data)
         self.store(b"")
         self.assertRaises(rbbank.BadLine, rbbank.Journal, self.path, 0, "{}")
@@ -315,7 +370,8 @@ class Closings(unittest.TestCase):
             ([first, second[:-1]], "not sealed", 1, None, "journal 1: not sealed"),
             ([b"{}\n\t", second], "another bank's journal", 0, None, "journal 0: another bank's journal"),
             ([first, first], "another site's entry", 1, 2, "journal 1: line 2: another site's entry"),
-            ([first, second[:-1] + b"{}\n\t"], "bad line", 1, 4, "journal 1: line 4: bad line"),
+            ([first, second[:-1] + b"{}\n\t"], "bad line", 1, 4, "journal 1: line 4: bad line: column 2: "
+             'the key "event" of an entry is missing'),
             ([first], "number of journals", None, None, "1 journals for 2 sites"),
             ([], "no journal", None, None, "no journal"),
         ]:

@@ -16,6 +16,14 @@ A site is one of them, whose messages and journal are the caller's to carry and 
 '{"reply":{"balance":0},"sends":[],"then":[]}'
 b'{"event":{"balance":"ann"},"reply":{"balance":0},"site":1}\\n'
 
+A dict is taken in place of a line, and then a dict is given back; a `Refusal` is a number with a name:
+
+>>> with Bank({"accounts": [["ann", 0]], "sites": 2, "version": 1}) as bank:
+...     bank.answer({"deposit": ["ann", 500], "site": 0})["name"]
+...     Refusal(bank.answer({"balance": "eve", "site": 0})["refused"]).words
+'B0.1'
+'unknown account'
+
 A `Journal` is a site that keeps its own journal, in a file.
 
 `script`, `audit`, `migrate` and `close` are whole runs. Lines, limits and refusals are those of docs/FORMAT.md; a
@@ -30,6 +38,8 @@ call raises OSError, in a sentence.
 from __future__ import annotations
 
 import ctypes
+import enum
+import json
 import os
 import re
 import threading
@@ -37,9 +47,10 @@ import typing
 import weakref
 
 __all__ = ["Audit", "BadLine", "Bank", "Books", "CloseFault", "Closed", "Journal", "JournalFault", "LineFault",
-           "Message", "NoSuchSite", "Site", "WrongReply", "audit", "close", "migrate", "script", "version"]
+           "Message", "NoSuchSite", "Refusal", "Site", "WrongReply", "audit", "close", "migrate", "script", "version"]
 
 Line = typing.Union[str, bytes]
+Values = typing.Mapping[str, typing.Any]
 _Self = typing.TypeVar("_Self", bound="_Handle")
 
 
@@ -51,14 +62,20 @@ class BadLine(ValueError):
     """The line is no configuration, command, event or entry of this site. Nothing has changed.
 
     Its text says why, in words that may change, as "column 47: 25 is out of range: a refusal is 1 to 24"; `column` is
-    which character of the line that is, from 1. The text is empty and the column None if there was no memory, or if
-    nothing is wrong with the line itself: an entry is another site's, or has the id of an entry before.
+    which character of the line that is, from 1, and `why` the text without it. The text is empty and the column None if
+    there was no memory, or if nothing is wrong with the line itself: an entry is another site's, or has the id of an
+    entry before. Of a dict the line is its JSON with no spaces.
     """
 
-    def __init__(self, why: str = "") -> None:
-        super().__init__(why)
-        column = re.match(r"column (\d+): ", why)
-        self.column = int(column[1]) if column else None
+    def __init__(self, text: str = "") -> None:
+        super().__init__(text)
+        column = re.match(r"column (\d+): ", text)
+        self.column, self.why = (int(column[1]), text[column.end():]) if column else (None, text)
+
+
+def _with_why(text: str, fault: BadLine | None) -> str:
+    """A text, and after it why, if that is known."""
+    return f"{text}: {fault}" if fault and str(fault) else text
 
 
 class NoSuchSite(ValueError):
@@ -80,22 +97,25 @@ class JournalFault(ValueError):
 
     `reason` is "another bank's journal", "bad line", "wrong reply", "damaged", "sealed", "no journal" if it isn't there
     and no new one was asked for, or "there is a journal" if a new one was, and it is there with bytes in it. With "bad
-    line", "wrong reply" and "damaged" `line` is the number of the line in the file, from 1, else None.
+    line", "wrong reply" and "damaged" `line` is the number of the line in the file, from 1, else None. With "bad line"
+    `fault` is the BadLine of that line, else None.
     """
 
-    def __init__(self, reason: str, line: int | None = None) -> None:
-        super().__init__(f"journal line {line}: {reason}" if line else reason)
-        self.reason, self.line = reason, line
+    def __init__(self, reason: str, line: int | None = None, fault: BadLine | None = None) -> None:
+        super().__init__(_with_why(f"journal line {line}: {reason}" if line else reason, fault))
+        self.reason, self.line, self.fault = reason, line, fault
 
 
 class LineFault(BadLine):
     """An input with a bad line, at which the run ended.
 
-    `line` is its number, from 1, or 0 if the input has no configuration; `written` is what was written before it.
+    `line` is its number, from 1, or 0 if the input has no configuration; `written` is what was written before it. The
+    column and why are those of a BadLine.
     """
 
-    def __init__(self, line: int, written: str) -> None:
-        super().__init__(f"line {line}" if line else "no configuration")
+    def __init__(self, line: int, written: str, fault: BadLine | None = None) -> None:
+        super().__init__(str(fault or ""))
+        self.args = (_with_why(f"line {line}" if line else "no configuration", fault),)
         self.line, self.written = line, written
 
 
@@ -124,14 +144,53 @@ class CloseFault(ValueError):
 
     `reason` is "bad line", "not sealed", "another bank's journal", "another site's entry", "number of journals",
     "no journal", "number of sites", "there is one already", "no name" or "too many accounts". With the first four
-    `journal` is the index of the journal, and with a line that is wrong `line` is its number in it, from 1. If it is of
-    an account's name, `account` is the name. Else they are None.
+    `journal` is the index of the journal, and with a line that is wrong `line` is its number in it, from 1. With "bad
+    line" `fault` is the BadLine of that line. If it is of an account's name, `account` is the name. Else they are None.
     """
 
     def __init__(self, reason: str, text: str, journal: int | None = None, line: int | None = None,
-                 account: str | None = None) -> None:
-        super().__init__(text)
-        self.reason, self.journal, self.line, self.account = reason, journal, line, account
+                 account: str | None = None, fault: BadLine | None = None) -> None:
+        super().__init__(_with_why(text, fault))
+        self.reason, self.journal, self.line, self.account, self.fault = reason, journal, line, account, fault
+
+
+class Refusal(enum.IntEnum):
+    """Why something was refused: the number of a reply `{"refused":N}`. `words` says what it means, with keys of the
+    reply in backticks."""
+
+    words: str
+
+    def __new__(cls, number: int, words: str) -> Refusal:
+        refusal = int.__new__(cls, number)
+        refusal._value_, refusal.words = number, words
+        return refusal
+
+    UNKNOWN_ACCOUNT = 1, "unknown account"
+    BAD_AMOUNT = 2, "amount out of range"
+    BAD_RATE = 3, "rate out of range"
+    UNKNOWN_OPERATION = 4, "unknown operation"
+    NOT_CANCELLABLE = 5, "can't be cancelled (declined, or a cancellation)"
+    ALREADY_CANCELLED = 6, "already cancelled, first at `position`"
+    NUMBERS_EXHAUSTED = 7, "numbers, or epochs, are used up"
+    NEED_TOKEN = 8, "the site hasn't the token"
+    RED_BEHIND = 9, "`seen` red operations applied, `needed` before the next"
+    WOULD_OVERDRAW = 10, "would leave a balance below zero"
+    DELTA_TOO_LARGE = 11, "interest over its limit"
+    BAD_BATCH = 12, "bad batch: no request, or more than 16"
+    BATCH_REFUSED = 13, "a request of the batch would be declined or is refused"
+    NOT_HELD = 14, "nothing is held under the name"
+    NOT_READY = 15, "its past isn't applied here yet"
+    INBOX_FULL = 16, "the inbox is full, and the operation isn't ready"
+    BAD_MESSAGE = 17, "bad message"
+    CONFLICT = 18, "another operation has the name, or it is said to be of this site, which didn't make it"
+    NO_MESSAGE = 19, "no such message"
+    NO_SITE = 20, "no such site, or the token passed to the own one"
+    NOT_YOURS = 21, "the token message is for another site"
+    POSITION_BEYOND = 22, "the position is beyond the operations that the site applied"
+    HISTORY_FULL = 23, "the site's history is full"
+    SAME_ACCOUNT = 24, "a transfer's two accounts are one"
+    OTHER_REQUEST = 25, "the id is that of another request"
+    OTHER_BANK = 26, "the line is of another bank"
 
 
 # ---- the library
@@ -211,8 +270,15 @@ def _call(name: str) -> typing.Any:
     return _loaded[name]
 
 
-def _bytes(line: Line) -> bytes:
-    return line.encode() if isinstance(line, str) else line
+def _bytes(line: Line | Values) -> bytes:
+    if isinstance(line, str):
+        return line.encode()
+    return line if isinstance(line, bytes) else json.dumps(line, separators=(",", ":")).encode()
+
+
+def _last(text: str) -> typing.Any:
+    """The values of the last of some lines."""
+    return json.loads(text.rpartition("\n")[2])
 
 
 def version() -> str:
@@ -237,13 +303,20 @@ def _bad_line(kind: int, configuration: bytes, line: bytes) -> BadLine:
     return BadLine(_copied(lambda out, size: int(error(*given, out, size))).decode())
 
 
+def _bad_line_of(kind: int, data: bytes, number: int) -> BadLine:
+    """The same of the line of this number, from 1, of a text whose first line that isn't blank is a configuration."""
+    lines = data.split(b"\n")
+    first = next((at for at, line in enumerate(lines) if line.strip(b" \t\r")), 0)
+    return _bad_line(_CONFIG if number == first + 1 else kind, lines[first], lines[number - 1])
+
+
 class _Handle:
     """What C keeps of a bank or of a site, with the lock that lets one thread at a time use it."""
 
     _prefix: typing.ClassVar[str]
     _kind: typing.ClassVar[int] = _EVENT
 
-    def __init__(self, configuration: Line) -> None:
+    def __init__(self, configuration: Line | Values) -> None:
         self._configuration = _bytes(configuration)
         self._at = ctypes.c_void_p()
         self._ref = ctypes.byref(self._at)
@@ -270,17 +343,29 @@ class _Handle:
             return bytes(self._view[:length])
         return _copied(lambda out, size: int(call(self._ref, out, size)))
 
-    def answer(self, line: Line) -> str:
-        """Gives it a line, and returns the line that it answers, without a line feed.
+    @typing.overload
+    def answer(self, line: Line) -> str: ...
+
+    @typing.overload
+    def answer(self, line: Values) -> dict[str, typing.Any]: ...
+
+    def answer(self, line: Line | Values) -> str | dict[str, typing.Any]:
+        """Gives it a line, and returns the line that it answers, without a line feed; or a dict, and returns a dict, of
+        several lines the last.
 
         Raises BadLine, after which all is as it was; Closed; MemoryError, after which it is closed.
         """
-        data = line.encode() if isinstance(line, str) else line
+        data = _bytes(line)
         with self._lock:
-            status = self._answer(self._ref, data, len(data))
-            if status != _OK:
-                self._raise(status, self._kind, data)
-            return self._kept(self._reply)[:-1].decode()
+            text = self._answered(data)[:-1].decode()
+        return text if isinstance(line, (str, bytes)) else typing.cast(dict[str, typing.Any], _last(text))
+
+    def _answered(self, data: bytes) -> bytes:
+        """What it answers to a line."""
+        status = self._answer(self._ref, data, len(data))
+        if status != _OK:
+            self._raise(status, self._kind, data)
+        return self._kept(self._reply)
 
     def reply(self) -> str:
         """The last answer once more, without a line feed; empty if there was none, or it is closed."""
@@ -305,7 +390,7 @@ class Bank(_Handle):
     _prefix = "rbbank_"
     _kind = _COMMAND
 
-    def __init__(self, configuration: Line) -> None:
+    def __init__(self, configuration: Line | Values) -> None:
         """Raises BadLine if the line is no configuration, and MemoryError."""
         super().__init__(configuration)
         data = self._configuration
@@ -361,7 +446,7 @@ class Site(_Sending):
 
     _prefix = "rbbank_site_"
 
-    def __init__(self, me: int, configuration: Line) -> None:
+    def __init__(self, me: int, configuration: Line | Values) -> None:
         """Raises BadLine if the line is no configuration, NoSuchSite, and MemoryError."""
         if not 0 <= me <= 255:
             raise NoSuchSite
@@ -484,14 +569,26 @@ class Journal(_Sending):
     """Site `me`, 0 to 15, of a configuration, whose journal is in a file: what was answered is on the disk before its
     reply can be seen. The file is the one that `rbbank site` has, and either goes on from it. It is for a Unix system.
 
-    A line is answered as `rbbank site` does: an event, a question, or, if it is neither, by `{"bad":..}` with its
-    number, where the configuration's line is the first, and why. A blank line is answered by nothing.
+    A line is answered as a `Site` does, with BadLine if it is no event and no question: `reply` is then the line
+    `{"bad":..}` of `rbbank site`, with its number, where the configuration's line is the first. A blank line is
+    answered by nothing.
+
+    >>> import tempfile
+    >>> configuration = {"accounts": [["ann", 0]], "sites": 2, "version": 1}
+    >>> with tempfile.TemporaryDirectory() as folder:
+    ...     path = os.path.join(folder, "0.journal")
+    ...     with Journal(path, 0, configuration, new=True) as site:  # the first start alone
+    ...         site.answer({"deposit": ["ann", 500]})["reply"]
+    ...     with Journal(path, 0, configuration) as site:            # each later one
+    ...         site.answer({"balance": "ann"})["reply"]
+    {'kind': 'deposit', 'name': 'B0.1'}
+    {'balance': 500}
     """
 
     _prefix = "rbbank_journal_"
     _faults = {5: "another bank's journal", 6: "bad line", 7: "wrong reply", 8: "damaged", 9: "sealed"}
 
-    def __init__(self, path: str | os.PathLike[str], me: int, configuration: Line, resend: int = 0,
+    def __init__(self, path: str | os.PathLike[str], me: int, configuration: Line | Values, resend: int = 0,
                  new: bool = False) -> None:
         """Opens the journal at this path, or with `new` begins a new one there. Only then the file is made: a mistyped
         name, or a disk that isn't mounted, is never a new site, which would make other operations under names that are
@@ -517,7 +614,9 @@ class Journal(_Sending):
         status = _call("rbbank_journal_open")(self._ref, me, resend, data, len(data), before, len(before),
                                               ctypes.byref(line))
         if status in self._faults:
-            raise JournalFault(self._faults[status], line.value or None)
+            reason = self._faults[status]
+            fault = _bad_line_of(_ENTRY, before, line.value) if reason == "bad line" else None
+            raise JournalFault(reason, line.value or None, fault)
         if status != _OK:
             self._raise(status, _CONFIG, data, NoSuchSite)
         self._make_calls()
@@ -543,20 +642,18 @@ class Journal(_Sending):
             done(self._ref, 1)
             data = _copied(given)
 
-    def answer(self, line: Line) -> str:
-        """Gives it a line, and returns the lines that it answers, without the last line feed; all that was recorded is
-        on the disk then.
-
-        Raises Closed; OSError if the file fails, and MemoryError, after each of which it is closed.
-        """
-        data = _bytes(line)
-        with self._lock:
-            self._number += 1
-            status = self._answer(self._ref, self._number, data, len(data))
-            if status != _OK:
-                self._raise(_NONE if status == _NONE else _NO_MEMORY, self._kind, data)
-            self._make_calls()
-            return self._kept(self._reply)[:-1].decode()
+    def _answered(self, data: bytes) -> bytes:
+        """What it answers to a line; all that was recorded is on the disk then. Raises OSError as well, if the file
+        fails, after which it is closed."""
+        self._number += 1
+        status = self._answer(self._ref, self._number, data, len(data))
+        if status != _OK:
+            self._raise(_NONE if status == _NONE else _NO_MEMORY, self._kind, data)
+        self._make_calls()
+        reply = self._kept(self._reply)
+        if reply.startswith(b'{"bad":'):
+            raise _bad_line(self._kind, self._configuration, data)
+        return reply
 
     def close(self) -> None:
         """Ends it, and gives the file back. A second time does nothing."""
@@ -579,12 +676,12 @@ def _grown(name: str, thought: int, given: tuple[typing.Any, ...], *more: typing
     return status, number.value, ctypes.string_at(out, written.value).decode()
 
 
-def _run(name: str, lines: Line) -> tuple[int, str]:
-    """Runs a call from lines to lines: its status, and the output."""
+def _run(name: str, kind: int, lines: Line) -> tuple[int, str]:
+    """Runs a call from lines of this kind to lines: its status, and the output."""
     data = _bytes(lines)
     status, number, text = _grown(name, 4096 + len(data), (data, len(data)))
     if status == _BAD_LINE:
-        raise LineFault(number, text)
+        raise LineFault(number, text, _bad_line_of(kind, data, number) if number else None)
     return status, text
 
 
@@ -593,12 +690,12 @@ def script(lines: Line) -> str:
 
     Raises LineFault and MemoryError.
     """
-    return _run("rbbank_script", lines)[1]
+    return _run("rbbank_script", _COMMAND, lines)[1]
 
 
 def migrate(lines: Line) -> str:
     """Histories of either version, written in version 2. Raises LineFault and MemoryError."""
-    return _run("rbbank_migrate", lines)[1]
+    return _run("rbbank_migrate", _ENTRY, lines)[1]
 
 
 def audit(histories: Line) -> Audit:
@@ -606,7 +703,7 @@ def audit(histories: Line) -> Audit:
 
     Raises LineFault and MemoryError.
     """
-    status, text = _run("rbbank_audit", histories)
+    status, text = _run("rbbank_audit", _ENTRY, histories)
     return Audit(status == 0, text[:-1])
 
 
@@ -616,16 +713,18 @@ _REASONS = {2: "bad line", 5: "not sealed", 6: "another bank's journal", 7: "ano
             12: "too many accounts", 13: "no journal"}
 
 
-def _close_fault(status: int, number: int, journal: int, journals: int, accounts: list[str]) -> CloseFault:
-    """What a status above 1 means, with its number and its journal, of so many journals and of these accounts."""
+def _close_fault(status: int, number: int, journal: int, journals: list[bytes], accounts: list[str]) -> CloseFault:
+    """What a status above 1 means, with its number and its journal, of these journals and accounts."""
     reason = _REASONS[status]
     if reason in ("not sealed", "another bank's journal"):
         return CloseFault(reason, f"journal {journal}: {reason}", journal)
     if reason in ("bad line", "another site's entry"):
-        return CloseFault(reason, f"journal {journal}: line {number}: {reason}", journal, number)
+        fault = _bad_line_of(_ENTRY, journals[journal], number) if reason == "bad line" else None
+        return CloseFault(reason, f"journal {journal}: line {number}: {reason}", journal, number, fault=fault)
     if reason in ("there is one already", "no name"):
         return CloseFault(reason, f"account {accounts[number]}: {reason}", account=accounts[number])
-    more = {"number of journals": f"{journals} journals for {number} sites", "number of sites": "not 2 to 16 sites"}
+    more = {"number of journals": f"{len(journals)} journals for {number} sites",
+            "number of sites": "not 2 to 16 sites"}
     return CloseFault(reason, more.get(reason, reason))
 
 
@@ -663,5 +762,5 @@ def close(journals: typing.Iterable[bytes], sites: int | None = None, accounts: 
     given = (asked, names, len(names), data, len(data), lengths, len(files))
     status, number, text = _grown("rbbank_close_books", 4096 + len(names), given, ctypes.byref(journal))
     if status > 1:
-        raise _close_fault(status, number, journal.value, len(files), added)
+        raise _close_fault(status, number, journal.value, files, added)
     return Books(status == 0, text[:-1])

@@ -1,7 +1,7 @@
 //! A site whose journal is in a file, as a filter: `journal SITE JOURNAL [--new] < EVENTS`. It begins a new journal
-//! with `--new`, else it goes on from the one that is there, and answers each line of its input by a line. Kill it at
-//! any moment and start it again, without `--new`.
-use rbbank::Journal;
+//! with `--new`, else it goes on from the one that is there, and answers each line of its input by a line, a bad one by
+//! `{"bad":..}`. Kill it at any moment and start it again, without `--new`.
+use rbbank::{Journal, JournalError};
 use std::error::Error;
 use std::io::{self, BufRead, Write};
 use std::process::ExitCode;
@@ -17,7 +17,10 @@ fn run() -> Result<(), Box<dyn Error>> {
     };
     let mut site = Journal::open(path, me.parse()?, CONFIG, 0, new)?;
     for line in io::stdin().lock().lines() {
-        let reply = site.answer(&line?)?;
+        let reply = match site.answer(&line?) {
+            Err(JournalError::BadLine(_)) => site.reply(),
+            other => other?,
+        };
         if !reply.is_empty() {
             writeln!(io::stdout(), "{reply}")?;
         }

@@ -41,7 +41,7 @@ fn lines_of(input: &str) -> impl Iterator<Item = (usize, &str)> {
 fn whole(run: Result<String, RunError>) -> Result<(), Stop> {
     match run {
         Ok(text) => write(&text),
-        Err(RunError::BadLine { line, written }) => {
+        Err(RunError::BadLine { line, written, .. }) => {
             write(&written);
             return stop(format!("line {line}"));
         }
@@ -191,6 +191,12 @@ fn site(asked: &Asked, input: &str) -> Result<(), Stop> {
     Ok(())
 }
 
+/// A fault without the reason of a bad line.
+fn without_why(fault: &impl ToString) -> String {
+    let text = fault.to_string();
+    text.split(": column ").next().unwrap_or("").to_owned()
+}
+
 /// A site whose journal the library keeps. It counts its lines itself, so that the blank ones are given as well.
 fn journal(asked: &Asked, input: &str) -> Result<(), Stop> {
     let Some((number, config)) = lines_of(input).next() else {
@@ -200,7 +206,7 @@ fn journal(asked: &Asked, input: &str) -> Result<(), Stop> {
     let mut site = match Journal::open(asked.path, asked.me, config, resend, asked.is_new) {
         Ok(site) => site,
         Err(JournalError::BadConfiguration(_)) => return stop(format!("line {number}")),
-        Err(why) => return stop(why.to_string()),
+        Err(why) => return stop(without_why(&why)),
     };
     let put = |reply: &str| {
         if !reply.is_empty() {
@@ -210,7 +216,10 @@ fn journal(asked: &Asked, input: &str) -> Result<(), Stop> {
     put(site.reply());
     for (at, line) in input.split('\n').enumerate() {
         if at + 1 != number {
-            put(site.answer(line).or_else(|why| stop(why.to_string()))?);
+            put(match site.answer(line) {
+                Err(JournalError::BadLine(_)) => site.reply(),
+                other => other.or_else(|why| stop(why.to_string()))?,
+            });
         }
     }
     Ok(())
@@ -247,7 +256,7 @@ fn close(words: &[String]) -> Result<ExitCode, Stop> {
     match rbbank::close(&journals, sites, &accounts) {
         Ok(Books::Closed(line)) => whole(Ok(line + "\n")).map(|()| ExitCode::SUCCESS),
         Ok(Books::NotClosed(line)) => whole(Ok(line + "\n")).map(|()| ExitCode::from(1)),
-        Err(why) => stop(with_file(&why.to_string(), &files)),
+        Err(why) => stop(with_file(&without_why(&why), &files)),
     }
 }
 

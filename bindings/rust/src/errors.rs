@@ -1,7 +1,8 @@
 //! Why a call gave nothing.
-use crate::LineFault;
+use crate::texts::fault_in;
 #[cfg(unix)]
 use crate::{fault_of, LineKind::Configuration};
+use crate::{LineFault, LineKind::Entry};
 use std::error::Error;
 use std::fmt;
 #[cfg(unix)]
@@ -52,10 +53,12 @@ pub enum JournalError {
     NoSuchSite,
     /// The file is another bank's journal, or isn't a journal.
     AnotherJournal,
-    /// A line is no entry of this site.
+    /// A line of the journal is no entry of this site.
     BadEntry {
         /// Its number.
         line: u64,
+        /// Why it isn't.
+        why: LineFault,
     },
     /// The site gives another reply than a line has, or its history is full.
     WrongReply {
@@ -75,6 +78,8 @@ pub enum JournalError {
     JournalThere,
     /// Another process has the journal, or this one has it open already.
     InUse,
+    /// The line that was given is no event and no question. Nothing has changed.
+    BadLine(LineFault),
     /// A call on the file failed. An open site has ended: it is opened again.
     File(io::Error),
     /// There was no memory. An open site has ended.
@@ -85,14 +90,22 @@ pub enum JournalError {
 
 #[cfg(unix)]
 impl JournalError {
-    /// The error of an opening's status with its number, if it is one.
-    pub(crate) fn of_open(status: i32, line: u64, configuration: &str) -> Result<(), JournalError> {
+    /// The error of an opening's status with its number, if it is one, over these bytes.
+    pub(crate) fn of_open(
+        status: i32,
+        line: u64,
+        configuration: &str,
+        file: &[u8],
+    ) -> Result<(), JournalError> {
         Err(match status {
             0 => return Ok(()),
             2 => JournalError::BadConfiguration(fault_of(Configuration, "", configuration)),
             3 => JournalError::NoSuchSite,
             5 => JournalError::AnotherJournal,
-            6 => JournalError::BadEntry { line },
+            6 => JournalError::BadEntry {
+                line,
+                why: fault_in(Entry, file, line),
+            },
             7 => JournalError::WrongReply { line },
             8 => JournalError::Damaged { line },
             9 => JournalError::Sealed,
@@ -125,13 +138,16 @@ impl fmt::Display for JournalError {
             JournalError::BadConfiguration(why) => write(f, "bad configuration", why),
             JournalError::NoSuchSite => f.write_str("no such site"),
             JournalError::AnotherJournal => f.write_str("another bank's journal"),
-            JournalError::BadEntry { line } => write!(f, "journal line {line}: bad line"),
+            JournalError::BadEntry { line, why } => {
+                write(f, format_args!("journal line {line}: bad line"), why)
+            }
             JournalError::WrongReply { line } => write!(f, "journal line {line}: wrong reply"),
             JournalError::Damaged { line } => write!(f, "journal line {line}: damaged"),
             JournalError::Sealed => f.write_str("journal is sealed"),
             JournalError::NoJournal => f.write_str("no journal"),
             JournalError::JournalThere => f.write_str("there is a journal"),
             JournalError::InUse => f.write_str("journal is in use"),
+            JournalError::BadLine(why) => write(f, "bad line", why),
             JournalError::File(why) => write!(f, "journal failed: {why}"),
             JournalError::OutOfMemory => f.write_str("out of memory"),
             JournalError::Ended => f.write_str("ended before"),
@@ -160,6 +176,8 @@ pub enum RunError {
         line: u64,
         /// What was written before.
         written: String,
+        /// Why it isn't.
+        why: LineFault,
     },
     /// There was no memory.
     OutOfMemory,
@@ -174,6 +192,8 @@ pub enum CloseError {
         journal: usize,
         /// Its number there.
         line: u64,
+        /// Why it isn't.
+        why: LineFault,
     },
     /// A journal isn't sealed: it doesn't end in a line feed and a TAB.
     NotSealed {
@@ -220,15 +240,15 @@ pub enum CloseError {
 }
 
 impl CloseError {
-    /// The error of a status above 1 with its number and its journal, of so many journals and of these added accounts.
+    /// The error of a status above 1 with its number and its journal, of these journals and added accounts.
     pub(crate) fn of(
         status: i32,
         number: u64,
-        journal: u64,
-        journals: usize,
+        journal: usize,
+        journals: &[&[u8]],
         accounts: &[&str],
     ) -> CloseError {
-        let (line, journal) = (number, journal as usize);
+        let line = number;
         let name = || {
             accounts
                 .get(number as usize)
@@ -237,12 +257,16 @@ impl CloseError {
                 .to_owned()
         };
         match status {
-            2 => CloseError::BadLine { journal, line },
+            2 => CloseError::BadLine {
+                journal,
+                line,
+                why: fault_in(Entry, journals[journal], line),
+            },
             5 => CloseError::NotSealed { journal },
             6 => CloseError::AnotherBank { journal },
             7 => CloseError::AnotherSite { journal, line },
             8 => CloseError::NumberOfJournals {
-                journals,
+                journals: journals.len(),
                 sites: number,
             },
             9 => CloseError::NumberOfSites,
@@ -256,8 +280,8 @@ impl CloseError {
 }
 
 /// A fault, and after it why, if that is known.
-fn write(f: &mut fmt::Formatter<'_>, fault: &str, why: &LineFault) -> fmt::Result {
-    f.write_str(fault)?;
+fn write(f: &mut fmt::Formatter<'_>, fault: impl fmt::Display, why: &LineFault) -> fmt::Result {
+    write!(f, "{fault}")?;
     if why.why.is_empty() {
         return Ok(());
     }
@@ -299,7 +323,9 @@ impl fmt::Display for RunError {
     fn fmt(&self, f: &mut fmt::Formatter<'_>) -> fmt::Result {
         match self {
             RunError::NoConfiguration => f.write_str("no configuration"),
-            RunError::BadLine { line, .. } => write!(f, "line {line}: bad line"),
+            RunError::BadLine { line, why, .. } => {
+                write(f, format_args!("line {line}: bad line"), why)
+            }
             RunError::OutOfMemory => f.write_str("out of memory"),
         }
     }
@@ -308,9 +334,11 @@ impl fmt::Display for RunError {
 impl fmt::Display for CloseError {
     fn fmt(&self, f: &mut fmt::Formatter<'_>) -> fmt::Result {
         match self {
-            CloseError::BadLine { journal, line } => {
-                write!(f, "journal {journal}: line {line}: bad line")
-            }
+            CloseError::BadLine { journal, line, why } => write(
+                f,
+                format_args!("journal {journal}: line {line}: bad line"),
+                why,
+            ),
             CloseError::NotSealed { journal } => write!(f, "journal {journal}: not sealed"),
             CloseError::AnotherBank { journal } => {
                 write!(f, "journal {journal}: another bank's journal")

@@ -1,7 +1,7 @@
 //! A site whose journal is in a file, on a Unix system: the calls on the file that the library asks for.
 use crate::c::{self, Handle};
 use crate::handles::{copy, message, without_line_feed};
-use crate::{JournalError, Message};
+use crate::{fault_of, JournalError, LineKind::Event, Message};
 use std::ffi::OsString;
 use std::fmt;
 use std::fs::{self, File, OpenOptions};
@@ -25,16 +25,17 @@ extern "C" {
 ///
 /// let path = std::env::temp_dir().join(format!("rbbank-doc-{}", std::process::id()));
 /// let configuration = r#"{"accounts":[["ann",0]],"sites":2,"version":1}"#;
-/// let mut site = Journal::open(&path, 0, configuration, 0, true)?;
+/// let mut site = Journal::open(&path, 0, configuration, 0, true)?; // the first start alone
 /// assert!(site.answer(r#"{"deposit":["ann",500]}"#)?.starts_with(r#"{"reply":{"kind":"deposit","name":"B0.1"}"#));
 /// drop(site); // or a crash
-/// let mut site = Journal::open(&path, 0, configuration, 0, false)?;
+/// let mut site = Journal::open(&path, 0, configuration, 0, false)?; // each start after the first
 /// assert_eq!(site.answer(r#"{"balance":"ann"}"#)?, r#"{"reply":{"balance":500},"sends":[],"then":[]}"#);
 /// # std::fs::remove_file(path)?;
 /// # Ok::<(), Box<dyn std::error::Error>>(())
 /// ```
 pub struct Journal {
     handle: Handle,
+    configuration: String,
     file: File,
     path: PathBuf,
     text: Vec<u8>,
@@ -106,7 +107,7 @@ impl Journal {
     ///
     /// # Errors
     ///
-    /// Each of `JournalError` but `Ended`. The file is as it was then, unless it failed.
+    /// Each of `JournalError` but `BadLine` and `Ended`. The file is as it was then, unless it failed.
     pub fn open(
         path: impl AsRef<Path>,
         me: u8,
@@ -119,6 +120,7 @@ impl Journal {
         let read = read_whole(&mut file, &path)?;
         let mut journal = Journal {
             handle: Handle::NONE,
+            configuration: configuration.to_owned(),
             file,
             path,
             text: Vec::new(),
@@ -139,18 +141,19 @@ impl Journal {
                 &mut number,
             )
         };
-        JournalError::of_open(status, number, configuration)?;
+        JournalError::of_open(status, number, configuration, &read)?;
         journal.make_calls()?;
         Ok(journal)
     }
 
-    /// Answers a line as `rbbank site` does: an event, a question, or, if it is neither, by `{"bad":..}` with its
-    /// number, where the configuration's line is the first, and why. A blank line is answered by nothing. At `Ok` all
-    /// that was recorded is on the disk.
+    /// Answers a line, an event or a question, as a [`Site`](crate::Site) does. A blank line is answered by nothing.
+    /// At `Ok` all that was recorded is on the disk.
     ///
     /// # Errors
     ///
-    /// `File` and `OutOfMemory`, each of which ends the site; `Ended`.
+    /// `BadLine`, after which all is as it was, and [`reply`](Journal::reply) is the line `{"bad":..}` of `rbbank
+    /// site`, with its number, where the configuration's line is the first; `File` and `OutOfMemory`, each of which
+    /// ends the site; `Ended`.
     pub fn answer(&mut self, line: &str) -> Result<&str, JournalError> {
         self.number += 1;
         // SAFETY: the handle was opened, and the line is that long.
@@ -161,6 +164,10 @@ impl Journal {
             0 => self.make_calls()?,
             1 => return Err(JournalError::Ended),
             _ => return Err(JournalError::OutOfMemory),
+        }
+        if self.reply().starts_with(r#"{"bad":"#) {
+            let why = fault_of(Event, &self.configuration, line);
+            return Err(JournalError::BadLine(why));
         }
         Ok(self.reply())
     }

@@ -13,7 +13,8 @@
 //!
 //! A [`Site`] is one of them, whose messages and journal are the caller's to carry and to keep. A [`Journal`] is one
 //! that keeps its own journal in a file. [`script`], [`audit`], [`migrate`] and [`close`] are whole runs. Lines, limits
-//! and refusals are those of docs/FORMAT.md; a refusal is a reply, and no error.
+//! and refusals are those of docs/FORMAT.md; a refusal is a reply, and no error. A [`Refusal`] is its number with a
+//! name.
 //!
 //! Either may go to another thread, and is used by one at a time: they are `Send`, and not `Sync`. They are ended when
 //! they are dropped.
@@ -24,6 +25,7 @@ mod errors;
 mod handles;
 #[cfg(unix)]
 mod journal;
+mod refusal;
 mod runs;
 mod texts;
 
@@ -33,5 +35,6 @@ pub use errors::{AnswerError, CloseError, OpenError, ReplayError, RunError};
 pub use handles::{Bank, Message, Site};
 #[cfg(unix)]
 pub use journal::Journal;
+pub use refusal::Refusal;
 pub use runs::{audit, close, migrate, script, Audit, Books};
 pub use texts::{fault_of, version, LineFault, LineKind};

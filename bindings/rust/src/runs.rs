@@ -1,4 +1,6 @@
 //! Whole runs, from all lines of an input to all lines of the output.
+use crate::texts::fault_in;
+use crate::LineKind::{self, Command, Entry};
 use crate::{c, CloseError, RunError};
 
 /// A call from bytes to bytes.
@@ -23,8 +25,8 @@ fn grown(
     }
 }
 
-/// Runs a call: its status, 0 or 1, and the output.
-fn run(call: Running, input: &str) -> Result<(i32, String), RunError> {
+/// Runs a call on lines of this kind: its status, 0 or 1, and the output.
+fn run(call: Running, kind: LineKind, input: &str) -> Result<(i32, String), RunError> {
     let (status, number, text) = grown(4096 + input.len(), |out, written, number| {
         // SAFETY: the input and the output are that long, and nothing overlaps.
         unsafe {
@@ -44,6 +46,7 @@ fn run(call: Running, input: &str) -> Result<(i32, String), RunError> {
         2 => Err(RunError::BadLine {
             line: number,
             written: text,
+            why: fault_in(kind, input.as_bytes(), number),
         }),
         _ => Err(RunError::OutOfMemory),
     }
@@ -55,7 +58,7 @@ fn run(call: Running, input: &str) -> Result<(i32, String), RunError> {
 ///
 /// `NoConfiguration`; `BadLine`, with what was written before; `OutOfMemory`.
 pub fn script(lines: &str) -> Result<String, RunError> {
-    run(c::rbbank_script, lines).map(|(_, text)| text)
+    run(c::rbbank_script, Command, lines).map(|(_, text)| text)
 }
 
 /// Histories of either version, written in version 2.
@@ -64,7 +67,7 @@ pub fn script(lines: &str) -> Result<String, RunError> {
 ///
 /// As those of [`script`].
 pub fn migrate(lines: &str) -> Result<String, RunError> {
-    run(c::rbbank_migrate, lines).map(|(_, text)| text)
+    run(c::rbbank_migrate, Entry, lines).map(|(_, text)| text)
 }
 
 /// What an audit found.
@@ -90,7 +93,7 @@ pub enum Audit {
 ///
 /// As those of [`script`].
 pub fn audit(histories: &str) -> Result<Audit, RunError> {
-    let (status, text) = run(c::rbbank_audit, histories)?;
+    let (status, text) = run(c::rbbank_audit, Entry, histories)?;
     let line = text.trim_end_matches('\n').to_owned();
     Ok(if status == 0 {
         Audit::Order(line)
@@ -178,8 +181,8 @@ pub fn close(
         _ => Err(CloseError::of(
             status,
             number,
-            journal,
-            journals.len(),
+            journal as usize,
+            journals,
             accounts,
         )),
     }

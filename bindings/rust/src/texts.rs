@@ -72,6 +72,24 @@ impl Error for LineFault {}
 /// assert_eq!(fault.to_string(), "column 47: 25 is out of range: a refusal is 1 to 24");
 /// ```
 pub fn fault_of(kind: LineKind, configuration: &str, line: &str) -> LineFault {
+    fault_of_bytes(kind, configuration.as_bytes(), line.as_bytes())
+}
+
+/// The same of the line of this number, from 1, of a text whose first line that isn't blank is a configuration.
+pub(crate) fn fault_in(kind: LineKind, text: &[u8], number: u64) -> LineFault {
+    let lines: Vec<&[u8]> = text.split(|byte| *byte == b'\n').collect();
+    let is_blank = |line: &&[u8]| line.iter().all(|byte| b" \t\r".contains(byte));
+    let first = lines.iter().position(|line| !is_blank(line)).unwrap_or(0);
+    let at = (number as usize).saturating_sub(1);
+    let kind = if at == first {
+        LineKind::Configuration
+    } else {
+        kind
+    };
+    fault_of_bytes(kind, lines[first], lines.get(at).copied().unwrap_or(b""))
+}
+
+fn fault_of_bytes(kind: LineKind, configuration: &[u8], line: &[u8]) -> LineFault {
     // SAFETY: the texts are that long, and nothing overlaps.
     let said = whole(|out| unsafe {
         c::rbbank_error(

@@ -1,7 +1,7 @@
 //! Each call once, and each error that a caller can bring about.
 use rbbank::{
     audit, close, fault_of, migrate, script, AnswerError, Audit, Bank, Books, CloseError, Journal,
-    JournalError, LineKind, Message, OpenError, ReplayError, RunError, Site,
+    JournalError, LineFault, LineKind, Message, OpenError, Refusal, ReplayError, RunError, Site,
 };
 use std::fs;
 use std::path::PathBuf;
@@ -233,6 +233,46 @@ fn what_is_not_opened() {
 }
 
 #[test]
+fn refusals_have_names() {
+    for number in 0..=u8::MAX {
+        let found = Refusal::numbered(number);
+        assert_eq!(
+            found.map(Refusal::number),
+            (1..=26).contains(&number).then_some(number)
+        );
+    }
+    assert_eq!(
+        Refusal::NeedToken.to_string(),
+        "refused 8: the site hasn't the token"
+    );
+    let mut bank = Bank::open(CONFIG).unwrap();
+    let mut site = Site::open(1, CONFIG).unwrap();
+    assert_eq!(Refusal::of(bank.answer(DEPOSIT).unwrap()), None);
+    for (command, refusal) in [
+        (r#"{"balance":"eve","site":0}"#, Refusal::UnknownAccount),
+        (
+            r#"{"batch":[{"cancel":"B0.9"}],"site":0}"#,
+            Refusal::BatchRefused,
+        ),
+        (r#"{"pass":0,"site":1}"#, Refusal::NeedToken),
+    ] {
+        assert_eq!(Refusal::of(bank.answer(command).unwrap()), Some(refusal));
+    }
+    for (event, refusal) in [
+        (r#"{"deposit":["ann",5],"id":"x"}"#, None),
+        (r#"{"deposit":["ann",5],"id":"x"}"#, None),
+        (
+            r#"{"deposit":["ann",6],"id":"x"}"#,
+            Some(Refusal::OtherRequest),
+        ),
+        (r#"{"pass":1}"#, Some(Refusal::NoSite)),
+        (r#"{"resend":9}"#, None),
+    ] {
+        assert_eq!(Refusal::of(site.answer(event).unwrap()), refusal);
+    }
+}
+
+#[test]
 fn whole_runs() {
     let lines = format!("{CONFIG}\n{DEPOSIT}\n");
     assert_eq!(script(&lines), Ok(format!("{MADE}\n")));
@@ -241,8 +281,13 @@ fn whole_runs() {
         bad,
         Err(RunError::BadLine {
             line: 3,
-            written: format!("{MADE}\n")
+            written: format!("{MADE}\n"),
+            why: fault_of(LineKind::Command, CONFIG, "{}")
         })
+    );
+    let first = script(&format!("\n {DEPOSIT}\n")).unwrap_err().to_string();
+    assert!(
+        first.starts_with("line 2: bad line: column 2: the first line is the configuration, as {")
     );
     assert_eq!(script("\n"), Err(RunError::NoConfiguration));
     let history = format!(
@@ -337,7 +382,11 @@ fn books_that_are_not_closed() {
         fault(&[&first, &spoilt]),
         CloseError::BadLine {
             journal: 1,
-            line: 4
+            line: 4,
+            why: LineFault {
+                why: "the key \"event\" of an entry is missing".to_owned(),
+                column: Some(2)
+            }
         }
     );
     let few = CloseError::NumberOfJournals {
@@ -394,10 +443,14 @@ fn a_journal_goes_on() {
         .starts_with(r#"{"reply":{"kind":"deposit","name":"B0.1"},"#));
     assert_eq!(site.sends().unwrap().len(), 1);
     assert_eq!(site.answer(" ").unwrap(), "");
+    let Err(JournalError::BadLine(why)) = site.answer("{}") else {
+        panic!("taken");
+    };
+    assert_eq!(why.column, Some(2));
     assert!(site
-        .answer("{}")
-        .unwrap()
+        .reply()
         .starts_with(r#"{"bad":"line","line":4,"why":"column 2: "#));
+    assert_eq!(site.sends().unwrap(), []);
     assert!(matches!(
         Journal::open(&path, 0, CONFIG, 0, false),
         Err(JournalError::InUse)
@@ -444,7 +497,10 @@ fn journals_that_are_not_opened() {
     assert_eq!(fault(b"", 2, CONFIG), "no such site");
     assert_eq!(fault(b"{}\n ", 0, CONFIG), "another bank's journal");
     let bad = format!("{head}{{}}\n ");
-    assert_eq!(fault(bad.as_bytes(), 0, CONFIG), "journal line 2: bad line");
+    assert_eq!(
+        fault(bad.as_bytes(), 0, CONFIG),
+        "journal line 2: bad line: column 2: the key \"event\" of an entry is missing"
+    );
     let twice = format!("{head}{entry}{entry} ");
     assert_eq!(
         fault(twice.as_bytes(), 0, CONFIG),
