@@ -44,7 +44,7 @@ help:
 	@echo '  make play-test     the page of make play, used in a browser, and its mutants; wants chromium (play/README.md)'
 	@echo
 	@echo 'As a service (service/README.md):'
-	@echo '  make service-setup installs what it wants, by apt-get: RabbitMQ, aiohttp, aio-pika'
+	@echo '  make service-setup installs what it wants, by apt-get: RabbitMQ, aiohttp, aio-pika, uvloop'
 	@echo '  make service       three nodes of the broker and three sites with HTTP on this machine'
 	@echo '  make service-test  its parts killed for SECONDS=60, SEEDS=1 times; SEED=7 makes the same choices again'
 	@echo '  make service-page  its console used in a browser, mutants of the page, and the files of service/deploy'
@@ -231,7 +231,7 @@ SECONDS ?= 60
 SEEDS ?= 1
 service-setup:
 	apt-get update
-	apt-get install -y rabbitmq-server python3-aiohttp python3-aio-pika
+	apt-get install -y rabbitmq-server python3-aiohttp python3-aio-pika python3-uvloop
 
 service:
 	@test -x $(SERVICE_PROGRAM) || { echo 'there is no program yet: make build'; exit 1; }

@@ -2,7 +2,7 @@
 """Measures the service beside the site alone, SQLite and PostgreSQL: durable ledger transactions a second, in one run
 and on one disk.
 
-usage: bench.py PROGRAM [--disk FOLDER] [--seconds 5] [--rounds 3] [--only WORD]
+usage: bench.py PROGRAM [--disk FOLDER] [--seconds 5] [--rounds 3] [--only NAME ..]
 
 A transaction adds an operation under an id that is its own, and adds to or takes from one of 1,000 accounts, which may
 not fall below zero. It is on the disk before it is answered. All are measured in turn, --rounds times; the best counts.
@@ -10,7 +10,9 @@ not fall below zero. It is on the disk before it is answered. All are measured i
 | Name | What is measured |
 |---|---|
 | service | `wrk` asks one of three sites by HTTP, a request each, with an Idempotency-Key; three nodes of the broker |
+| lists | as service, this number of events a request |
 | health | the same, `GET /health`: what HTTP alone costs here |
+| alone | as service, but by a site whose broker and other sites are down |
 | site | `rbbank site` through two pipes, this number of lines in flight |
 | sqlite | in this process, WAL and synchronous=FULL, this number of transactions a commit |
 | postgresql | `pgbench` by TCP, prepared and in a pipeline; as many clients, or transactions a commit |
@@ -35,6 +37,7 @@ import sys
 import tempfile
 import time
 from collections.abc import Callable, Iterator
+from typing import NamedTuple
 
 sys.dont_write_bytecode = True
 import cluster  # noqa: E402
@@ -51,12 +54,16 @@ local threads = 0
 function setup(thread) threads = threads + 1; thread:set("me", threads) end
 function init() math.randomseed(SEED + me); made = 0 end
 local headers = {["Content-Type"] = "application/json"}
+local function event()
+  return string.format('{"%s":["a%d",%d]}', math.random() < 0.5 and "deposit" or "withdraw", math.random(0, 999),
+                       math.random(1, 100))
+end
 function request()
   made = made + 1
   headers["Idempotency-Key"] = "SEED." .. me .. "." .. made
-  local verb = math.random() < 0.5 and "deposit" or "withdraw"
-  return wrk.format("POST", "/events", headers,
-                    string.format('{"%s":["a%d",%d]}', verb, math.random(0, 999), math.random(1, 100)))
+  local body = event()
+  for more = 2, MANY do body = body .. "," .. event() end
+  return wrk.format("POST", "/events", headers, MANY > 1 and "[" .. body .. "]" or body)
 end
 """
 SETS = """
@@ -177,23 +184,49 @@ class Postgresql:
         self.run("pg_ctl", "stop", "-s", "-m", "fast", "-D", f"{self.data}/base")
 
 
-class Service:
-    """Three nodes of the broker and three sites. The first one is asked, and has the token."""
+class Used(NamedTuple):
+    """Seconds of processor time: the program's own, and the kernel's for it."""
+    own: float
+    kernel: float
 
-    def __init__(self, program: str, folder: str) -> None:
-        self.folder, self.seed = os.path.join(folder, "service"), 0
+    @classmethod
+    def by(cls, pids: list[int]) -> Used:
+        fields = []
+        for pid in pids:
+            with open(f"/proc/{pid}/stat", encoding="utf-8") as file:
+                fields.append(file.read().rpartition(")")[2].split())
+        tick = os.sysconf("SC_CLK_TCK")
+        return cls(*(sum(int(each[place]) for each in fields) / tick for place in (11, 12)))
+
+
+class Service:
+    """Three nodes of the broker and three sites, or the first one alone: that one is asked, and has the token."""
+
+    def __init__(self, program: str, folder: str, is_alone: bool = False) -> None:
+        self.folder, self.seed = os.path.join(folder, "alone" if is_alone else "service"), 0
         os.mkdir(self.folder)
         self.cluster = cluster.Cluster(os.path.join(self.folder, "broker"))
         accounts = [[f"a{n}", BEGIN] for n in range(ACCOUNTS)]
         self.bank = cluster.Bank(program, self.folder, self.cluster, accounts=accounts, sites=3)
-        self.cluster.start_all()
-        for site in range(self.bank.sites):
+        if not is_alone:
+            self.cluster.start_all()
+        sites = range(1 if is_alone else self.bank.sites)
+        for site in sites:
             self.bank.start(site)
-        for site in range(self.bank.sites):
-            self.bank.wait(site)
+        for site in sites:
+            self.bank.wait(site, wanted="up" if is_alone else "broker")
+
+    def parts(self) -> dict[str, Used]:
+        """The processor time that each part has used."""
+        services = [process.pid for process in self.bank.running if process]
+        children = [child for site in range(self.bank.sites) if (child := self.bank.child(site))]
+        nodes = [pid for node in range(cluster.NODES) for pid in self.cluster.members(node)]
+        parts = {"service": services[:1], "its child": children[:1], "others": services[1:],
+                 "their children": children[1:], "broker": nodes}
+        return {name: Used.by(pids) for name, pids in parts.items()}
 
     def wrk(self, clients: int, seconds: float, path: str, *words: str) -> float:
-        threads = min(2, clients)
+        threads, before = min(2, clients), self.parts()
         given = [f"-t{threads}", f"-c{clients}", f"-d{int(seconds)}s", "--latency", "--timeout", "30s", *words]
         url = f"http://{self.bank.http[0]}{path}"
         out = subprocess.run(["wrk", *given, url], capture_output=True, text=True).stdout
@@ -201,14 +234,18 @@ class Service:
             raise SystemExit(f"wrk: {out}")
         half, most = (re.findall(rf"(?m)^\s+{part}%\s+(\S+)", out)[0] for part in (50, 99))
         print(f"  half of the answers in {half}, 99 of 100 in {most}")
+        count = int(re.findall(r"(\d+) requests in", out)[0]) / 1e6
+        print("  microseconds of processor time a request, the kernel's after the +: " + ", ".join(
+            f"{name} {(now.own - before[name].own) / count:.0f}+{(now.kernel - before[name].kernel) / count:.0f}"
+            for name, now in self.parts().items()))
         return float(re.findall(r"Requests/sec:\s+([\d.]+)", out)[0])
 
-    def measure(self, clients: int, seconds: float) -> float:
+    def measure(self, clients: int, seconds: float, many: int = 1) -> float:
         self.seed += 1
         script = os.path.join(self.folder, "wrk.lua")
         with open(script, "w", encoding="utf-8") as file:
-            file.write(WRK.replace("SEED", str(self.seed)))
-        return self.wrk(clients, seconds, "/events", "-s", script)
+            file.write(WRK.replace("SEED", str(self.seed)).replace("MANY", str(many)))
+        return many * self.wrk(clients, seconds, "/events", "-s", script)
 
     def health(self, clients: int, seconds: float) -> float:
         return self.wrk(clients, seconds, "/health")
@@ -226,7 +263,7 @@ def measures(asked: argparse.Namespace, folder: str, stops: list[Callable[[], No
     seconds = asked.seconds
 
     def wanted(name: str) -> bool:
-        return asked.only in ("", name)
+        return not asked.only or name in asked.only
     if wanted("sqlite"):
         base = Sqlite(folder)
         stops.append(base.stop)
@@ -243,7 +280,13 @@ def measures(asked: argparse.Namespace, folder: str, stops: list[Callable[[], No
         service = Service(asked.program, folder)
         stops.append(service.stop)
         yield from ((f"service, {n} clients", lambda n=n: service.measure(n, seconds)) for n in CLIENTS)
+        yield f"service, lists of {BATCH}, 16 clients", lambda: service.measure(16, seconds, BATCH)
         yield from ((f"health, {n} clients", lambda n=n: service.health(n, seconds)) for n in CLIENTS)
+    if wanted("alone"):
+        alone = Service(asked.program, folder, True)
+        stops.append(alone.stop)
+        yield from ((f"alone, {n} clients", lambda n=n: alone.measure(n, seconds)) for n in CLIENTS)
+        yield f"alone, lists of {BATCH}, 16 clients", lambda: alone.measure(16, seconds, BATCH)
 
 
 def options() -> argparse.Namespace:
@@ -252,7 +295,8 @@ def options() -> argparse.Namespace:
     reader.add_argument("--disk", metavar="FOLDER", default=".")
     reader.add_argument("--seconds", metavar="N", type=float, default=5)
     reader.add_argument("--rounds", metavar="N", type=int, default=3)
-    reader.add_argument("--only", metavar="NAME", default="", choices=("sqlite", "postgresql", "site", "service"))
+    reader.add_argument("--only", metavar="NAME", nargs="+",
+                        choices=("sqlite", "postgresql", "site", "service", "alone"))
     asked = reader.parse_args()
     asked.program = os.path.abspath(asked.program)
     return asked

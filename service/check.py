@@ -17,6 +17,7 @@ import json
 import logging
 import os
 import signal
+import socket
 import subprocess
 import sys
 import tempfile
@@ -55,7 +56,7 @@ class Running:
         period = Period(folder, "b", 1)
         period.keep("confirmed", confirmed)
         self.site = Site(PROGRAM, period, me, CONFIG)
-        self.view, self.site.send = self.site.view, lambda entry, messages: self.sent.extend(messages)
+        self.view, self.site.send = self.site.view, lambda entry, messages: self.sent.extend(map(json.loads, messages))
         self.task = asyncio.create_task(self.site.run())
 
     async def ask(self, *events: Json) -> list[Json]:
@@ -236,7 +237,7 @@ async def token(folder: str) -> None:
             await here.hears(message(said | {"site": other}))
         await until("the token is passed", lambda: not one.view.token["here"])
         same("to the next that wants it", (one.view.token["to"], set(here.wanted)), (1, {3}))
-        made = asyncio.create_task(here.ask(lambda: one.site.ask({"withdraw": ["ann", 1], "id": "w"}), PATIENCE))
+        made = here.ask(lambda: one.site.ask({"withdraw": ["ann", 1], "id": "w"}), PATIENCE)
         await until("a client waits, and says so", lambda: here.waiters == 1 and here.says()["wants"])
         await one.ask({"bank": NAME, "token": [2, 0, 0]})
         same("it asks again as the token comes", (await made)["reply"], {"kind": "withdraw", "name": "R1"})
@@ -374,6 +375,7 @@ def refuses(service: Http) -> None:
     same("a bad event's reason", service.event({"deposit": ["ann", -5], "id": "r"})[1]["error"].split(" and ")[0],
          "column 19: -5 has a sign,")
     same("a form", service.event("x=1", Content_Type="application/x-www-form-urlencoded")[0], 400)
+    same("JSON as a form", service.event({"pass": 1}, Content_Type="text/plain")[0], 400)
     same("another page", service.event({"pass": 1}, Origin="http://evil.example")[0], 403)
     same("another name", service.ask("/state", Host="evil.example")[0], 403)
 
@@ -432,6 +434,51 @@ def asks(folder: str) -> None:
         same("nothing was confirmed", file.read(), "0\n")
 
 
+def answered(port: int, count: int, *parts: bytes) -> list[tuple[int, bytes]]:
+    """The statuses and bodies of this many answers to bytes that come in parts, one a moment after another."""
+    found = []
+    with socket.create_connection(("127.0.0.1", port), PATIENCE) as asked, asked.makefile("rb") as said:
+        for part in parts:
+            asked.sendall(part)
+            time.sleep(0.2 if len(parts) > 1 else 0)
+        for _ in range(count):
+            status, length = int(said.readline().split()[1]), 0
+            while (line := said.readline()) != b"\r\n":
+                length = int(line.split()[1]) if line.lower().startswith(b"content-length:") else length
+            found.append((status, said.read(length)))
+    return found
+
+
+def fronts(folder: str) -> None:
+    """A request is answered alike however its bytes come, by front.py or by aiohttp."""
+    service = Http(folder)
+    service.wait()
+
+    def post(body: bytes, *heads: str, length: int | None = None) -> bytes:
+        more = [f"Host: {service.http[0]}", "Content-Type: application/json", *heads]
+        more += [f"Content-Length: {len(body) if length is None else length}"] if length != -1 else []
+        return "\r\n".join(["POST /events HTTP/1.1", *more, "", ""]).encode() + body
+    deposit, other = b'{"deposit":["ann",5],"id":"k"}', b'{"deposit":["bob",7],"id":"l"}'
+    made, second = ((200, b'{"kind": "deposit", "name": "B0.%d"}' % n) for n in (1, 2))
+    whole, chunks = post(deposit), b"%x\r\n%b\r\n0\r\n\r\n" % (len(deposit), deposit)
+    for what, count, parts, wanted in (
+            ("whole", 1, [whole], [made]), ("its body in parts", 1, [whole[:-20], whole[-20:-5], whole[-5:]], [made]),
+            ("its head in parts", 1, [whole[:30], whole[30:]], [made]),
+            ("two at once", 2, [whole + post(other)], [made, second]),
+            ("and a half", 2, [whole + post(other)[:-9], post(other)[-9:]], [made, second]),
+            ("a question between", 3, [whole + b"GET /zed HTTP/1.1\r\nHost: %b\r\n\r\n" % service.http[0].encode()
+                                       + whole], [made, (404, b'{"error": "Not Found"}'), made]),
+            ("in chunks", 1, [post(chunks, "Transfer-Encoding: chunked", length=-1)], [made]),
+            ("an old client", 1, [whole.replace(b"HTTP/1.1", b"HTTP/1.0")], [made])):
+        same(what, answered(service.port, count, *parts), wanted)
+    for what, text in (("two lengths", post(deposit, "Content-Length: 5")), ("no length", post(b"", length=-1)),
+                       ("chunks and a length", post(chunks, "Transfer-Encoding: chunked", length=len(chunks)))):
+        same(what, answered(service.port, 1, text)[0][0], 400)
+    same("too long", answered(service.port, 1, post(b" " * (1 << 20) + deposit))[0][0], 413)
+    both = answered(service.port, 2, post(deposit) + post(b'{"x":1}'))
+    same("one at a time", [status for status, _ in both], [200, 400])
+
+
 def apart(folder: str) -> None:
     """The books aren't closed while a site lacks what another one has, and clients are served again."""
     first = Http(folder)
@@ -452,16 +499,16 @@ async def waits(folder: str) -> None:
     given = {"name": "b", "config": CONFIG, "program": PROGRAM, "folder": folder, "broker": [], "http": ["127.0.0.1:1"]}
     one = service.Service(given, 0, True)
     for waiting, unconfirmed in ((service.MOST_WAITING, 0), (0, service.MOST_UNCONFIRMED)):
-        asked: tuple[Json, Any] = ({}, asyncio.get_running_loop().create_future())
+        asked: tuple[Json, str, Any] = ({}, "{}", asyncio.get_running_loop().create_future())
         one.site.asked.clear()
         one.site.asked.extend([asked] * waiting)
         one.wires.out[1].clear()
-        one.wires.out[1].extend([(0, "")] * unconfirmed)
-        same("not yet too much", (await one.answer({"x": 1}, None, set()))[0], 400)
+        one.wires.out[1].extend([(0, b"")] * unconfirmed)
+        same("not yet too much", (await one.takes({"x": 1}, None, set()))[0], 400)
         one.ask({"balance": "ann"})
         one.site.asked.append(asked)
-        one.wires.out[1].append((0, ""))
-        status, said = await one.answer({"balance": "ann"}, None, {"read"})
+        one.wires.out[1].append((0, b""))
+        status, said = await one.takes({"balance": "ann"}, None, {"read"})
         same("too much", (status, said), (503, {"error": "too much waits"}))
 
 
@@ -503,7 +550,7 @@ class Pretended:
         self.asked: list[str] = []
         self.refusals = list(refusals)
 
-    def ask(self, event: Json) -> Awaitable[Json]:
+    def ask(self, event: Json, line: str = "") -> Awaitable[Json]:
         self.asked.append(event["shadow"]["name"] if event else "nothing")
         return asyncio.ensure_future(self.answer())
 
@@ -511,6 +558,11 @@ class Pretended:
         await self.up.wait()
         self.view.clock["R"] += 1
         return {"reply": {"refused": self.refusals.pop(0)} if self.refusals else {"held": "B0.1"}}
+
+
+def shadow(name: str) -> bytes:
+    """A message of a site."""
+    return json.dumps({"shadow": {"name": name}}).encode()
 
 
 class Lost:
@@ -544,7 +596,7 @@ async def keeps(folder: str) -> None:
     same("given until there is a place", site.asked, ["B0.1", "B0.2", "B0.1", "B0.1", "B0.2"])
     await made.take(b'{"deposit":["ann",5]}\n[{')
     same("what is no message is no event", site.asked[5:], ["nothing", "nothing"])
-    made.send(3, [{"shadow": {"name": "B1.1"}}])
+    made.send(3, [shadow("B1.1")])
     with contextlib.suppress(ConnectionError):
         await made.publish(Lost(), 0)
     same("what isn't confirmed", (made.unconfirmed(), made.confirmed()), (1, 3))
@@ -574,7 +626,7 @@ async def ordered(folder: str, broker: cluster.Cluster) -> None:
     (sender, _), (first, slow), (second, late) = (wires(folder, me, broker.urls()[:1]) for me in (0, 1, 1))
     names = [f"B0.{n}" for n in range(1, 42)]
     for entry, name in enumerate(names[:-1]):
-        sender.send(entry, [{"shadow": {"name": name}}])
+        sender.send(entry, [shadow(name)])
     same("confirmed before there is a broker", sender.confirmed(), 0)
     tasks = [asyncio.create_task(first.run())]
     await until("connected", lambda: bool(first.is_connected))
@@ -583,7 +635,7 @@ async def ordered(folder: str, broker: cluster.Cluster) -> None:
     await until("the first is asked", lambda: bool(slow.asked))
     await until("all is confirmed", lambda: sender.confirmed() == 7 and not sender.unconfirmed())
     broker.signal(0, signal.SIGSTOP)
-    sender.send(40, [{"shadow": {"name": names[-1]}}])
+    sender.send(40, [shadow(names[-1])])
     await asyncio.sleep(1)
     same("unconfirmed while the broker is held", sender.unconfirmed(), 1)
     broker.signal(0, signal.SIGCONT)
@@ -597,7 +649,7 @@ async def ordered(folder: str, broker: cluster.Cluster) -> None:
     await until("the second has all", lambda: len(late.asked) >= len(names))
     same("in order", late.asked, names)
     await asyncio.to_thread(broker.ctl, 0, "delete_queue", f"{NAME}.0.1")  # its consumer ends without a word
-    sender.send(41, [{"shadow": {"name": "B0.42"}}])
+    sender.send(41, [shadow("B0.42")])
     await until("a consumer that was lost is there again", lambda: late.asked[-1] == "B0.42")
     for task in tasks:
         task.cancel()
@@ -636,7 +688,7 @@ def periods(folder: str) -> None:
 
 
 ALONE, HTTP, BROKER = (
-    (lines, kills, unheard, restarts, faults, token, closes, texts), (asks, apart, waits, tokens, keeps),
+    (lines, kills, unheard, restarts, faults, token, closes, texts), (asks, fronts, apart, waits, tokens, keeps),
     (queues, periods))
 GROUPS: dict[str, tuple[Callable[[str], Any], ...]] = {
     "": ALONE, "--http": ALONE + HTTP, "--broker": ALONE + HTTP + BROKER}

@@ -8,6 +8,7 @@ own node. Nothing is shared with a RabbitMQ of the system: ports, cookie, HOME a
 """
 from __future__ import annotations
 
+import contextlib
 import importlib.util
 import json
 import os
@@ -142,17 +143,20 @@ class Cluster:
             self.wait(node)
         self.ctl(0, "await_online_nodes", str(NODES))
 
-    def signal(self, node: int, number: int) -> None:
-        """Sends a signal to a node and its helpers: the session that its start made, which nothing else is in."""
-        process = self.nodes[node]
+    def members(self, node: int) -> list[int]:
+        """The processes of a node and its helpers: the session that its start made, which nothing else is in."""
+        process, found = self.nodes[node], []
         for pid in filter(str.isdigit, os.listdir("/proc") if process else []):
-            try:
-                with open(f"/proc/{pid}/stat") as file:
-                    is_of_node = process and file.read().rpartition(")")[2].split()[3] == str(process.pid)
-                if is_of_node:
-                    os.kill(int(pid), number)
-            except OSError:
-                pass
+            with contextlib.suppress(OSError), open(f"/proc/{pid}/stat") as file:
+                if process and file.read().rpartition(")")[2].split()[3] == str(process.pid):
+                    found.append(int(pid))
+        return found
+
+    def signal(self, node: int, number: int) -> None:
+        """Sends a signal to a node and its helpers."""
+        for pid in self.members(node):
+            with contextlib.suppress(OSError):
+                os.kill(pid, number)
 
     def kill(self, node: int) -> None:
         """Ends a node by SIGKILL."""
@@ -208,12 +212,12 @@ class Bank:
         with urllib.request.urlopen(f"http://{self.http[site]}{path}", timeout=10) as reply:
             return json.load(reply)
 
-    def wait(self, site: int, patience: float = 300) -> None:
+    def wait(self, site: int, patience: float = 300, wanted: str = "broker") -> None:
         """Waits until a site is up, and has a broker."""
         until = time.monotonic() + patience
         while time.monotonic() < until:
             try:
-                if self.get(site, "/health")["broker"]:
+                if self.get(site, "/health")[wanted]:
                     return
             except OSError:
                 pass

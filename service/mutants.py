@@ -18,9 +18,9 @@ sys.dont_write_bytecode = True
 import cluster
 
 PATIENCE = 1500  # seconds, after which a check has caught what it doesn't end by
-LINES, KILLS, UNHEARD, RESTARTS, FAULTS, TOKEN, CLOSES, ASKS, APART, WAITS, TOKENS, KEEPS, QUEUES, PERIODS = (
-    "lines", "kills", "unheard", "restarts", "faults", "token", "closes", "asks", "apart", "waits", "tokens", "keeps",
-    "queues", "periods")
+LINES, KILLS, UNHEARD, RESTARTS, FAULTS, TOKEN, CLOSES, ASKS, FRONTS, APART, WAITS, TOKENS, KEEPS, QUEUES, PERIODS = (
+    "lines", "kills", "unheard", "restarts", "faults", "token", "closes", "asks", "fronts", "apart", "waits", "tokens",
+    "keeps", "queues", "periods")
 
 
 class Mutant(NamedTuple):
@@ -34,7 +34,7 @@ MUTANTS = {
     "sent_again_from_the_last": Mutant("site_child.py", '{"resend": entries - known}', '{"resend": 0}', RESTARTS),
     "handed_on_before_it_came": Mutant("site_child.py", '{"resend": entries - known}',
                                        '{"resend": 0 if self.starts else entries - known}', UNHEARD),
-    "unanswered_are_forgotten": Mutant("site_child.py", "self.give(*(event for event, _ in self.asked))",
+    "unanswered_are_forgotten": Mutant("site_child.py", "self.give(*(line for _, line, _ in self.asked))",
                                        "self.asked.clear()", KILLS),
     "no_id_of_its_own": Mutant("site_child.py", 'if "id" not in event and', "if False and", UNHEARD),
     "older_copy_is_served": Mutant("site_child.py", "        if entries < known:",
@@ -63,9 +63,20 @@ MUTANTS = {
                                        "self.is_sealed", CLOSES),
     "key_is_dropped": Mutant("service.py", 'event.setdefault("id", key)', 'event.get("id", key)', ASKS),
     "anyone_may": Mutant("service.py", "if not wanted <= may:", "if False:", TOKENS),
-    "a_beginning_is_enough": Mutant("service.py", "hmac.compare_digest(row[\"token\"].encode(), given)",
-                                    "row['token'].encode().startswith(given)", TOKENS),
-    "another_page_may": Mutant("service.py", 'request.headers.get("Origin") not in (None, *self.urls) or', "", ASKS),
+    "a_beginning_is_enough": Mutant("service.py", "hmac.compare_digest(row[\"token\"].encode(), token)",
+                                    "row['token'].encode().startswith(token)", TOKENS),
+    "another_page_may": Mutant("service.py", 'if request.headers.get("Origin") not in (None, *self.urls):', "if False:",
+                               ASKS),
+    "another_name_may": Mutant("service.py", 'if host != self.bank["http"][self.me]:', "if False:", ASKS),
+    "a_page_is_plain": Mutant("front.py", 'b"origin", ', "", ASKS),
+    "a_form_is_plain": Mutant("service.py", 'if heads.get(b"content-type", b"").lower() == b"application/json":',
+                              "if True:", ASKS),
+    "two_lengths_are_plain": Mutant("front.py", "if len(heads) == len(pairs) and ODD", "if ODD", FRONTS),
+    "chunks_are_plain": Mutant("front.py", ' b"transfer-encoding",', "", FRONTS),
+    "what_comes_next_is_lost": Mutant("front.py", "self.came, self.is_busy = self.came[end:], True",
+                                      'self.came, self.is_busy = b"", True', FRONTS),
+    "a_part_is_all": Mutant("front.py", "if len(self.came) < end < MOST:", "if False:", FRONTS),
+    "a_second_at_once": Mutant("front.py", "        if not self.is_busy:\n", "        if True:\n", FRONTS),
     "listens_to_all": Mutant("service.py", "if not self.clients and self.host not in", "if False and self.host in",
                              TOKENS),
     "clients_arent_stopped": Mutant("service.py", "if self.ends.is_set() or self.desk.closing:",

@@ -8,6 +8,8 @@ what clients may ask, and the keys of BANK.
 """
 import asyncio
 import contextlib
+import functools
+import gc
 import hmac
 import json
 import logging
@@ -15,11 +17,13 @@ import os
 import signal
 import sys
 from collections import Counter
+from collections.abc import Callable
 from typing import Any
 
 from aiohttp import web
 from aiohttp.typedefs import Handler
 
+from front import Front, Says
 from site_child import REQUESTS, Desk, Fault, Json, Site, compact, last_period, load, requests_of, until
 from wires import Wires, together
 
@@ -37,8 +41,18 @@ PATIENCE = 15  # seconds for each part of an orderly end
 REFUSALS: dict[str, str] = load(os.path.join(HERE, "refusals.json"))
 
 
-def says(status: int, value: Any) -> web.Response:
+def reply_of(status: int, value: Any) -> web.Response:
     return web.json_response(value, status=status)
+
+
+def says(answer: Json) -> Says:
+    """What a client hears of a site's answer."""
+    if (reply := answer.get("reply")) is None:
+        return 400, {"error": answer.get("why", "no event, or no key, as docs/FORMAT.md has it")}
+    if "refused" not in reply:
+        return 200, reply
+    error = REFUSALS.get(str(reply["refused"]), "refused")
+    return {1: 404, 25: 422}.get(reply["refused"], 409), reply | {"error": error}
 
 
 def allow(wanted: set[str], may: set[str]) -> None:
@@ -63,35 +77,53 @@ class Service:
         self.site = Site(bank["program"], self.period, me, self.period.begin(me, bank["config"]))
         self.view, self.desk = self.site.view, Desk(self.site)
         self.wires = Wires(self.desk, bank["broker"])
-        self.asking = dict[str, asyncio.Task[Json]]()  # requests with ids that are under way, by their lines
+        self.asking = dict[str, asyncio.Future[Json]]()  # requests with ids that are under way, by their lines
         self.statuses, self.ends = Counter[int](), asyncio.Event()
         logging.info("%s at %s", self.period.name, self.urls[me])
 
     # ---- events
 
-    def ask(self, event: Json) -> asyncio.Future[Json]:
+    def ask(self, event: Json, line: str | None = None) -> asyncio.Future[Json]:
         """Gives the site an event, unless clients have to wait."""
         if self.ends.is_set() or self.desk.closing:
             raise web.HTTPServiceUnavailable(text="the service ends, or its books are being closed")
         if len(self.site.asked) + self.desk.waiters > MOST_WAITING or self.wires.unconfirmed() > MOST_UNCONFIRMED:
             raise web.HTTPServiceUnavailable(text="too much waits")
-        return self.site.ask(event)
+        return self.site.ask(event, line)
 
-    async def answer(self, event: Any, key: str | None, may: set[str]) -> tuple[int, Json]:
-        """The status and what the site answers to a client's event, once that is on the disk."""
-        try:
-            self.check(event, key, may)
-            answer = self.known(event) or await asyncio.wait_for(asyncio.shield(self.once(event)), ANSWER)
-        except web.HTTPException as why:
-            return why.status, {"error": why.text}
-        except asyncio.TimeoutError:
-            return 503, {"error": "no answer yet: ask again by the same key"}
-        if (reply := answer.get("reply")) is None:
-            return 400, {"error": answer.get("why", "no event, or no key, as docs/FORMAT.md has it")}
-        if "refused" not in reply:
-            return 200, reply
-        error = REFUSALS.get(str(reply["refused"]), "refused")
-        return {1: 404, 25: 422}.get(reply["refused"], 409), reply | {"error": error}
+    def answers(self, events: list[Any], keys: list[str | None], may: set[str],
+                shape: Callable[[list[Says]], Says]) -> asyncio.Future[Says]:
+        """The statuses and what the site answers to a client's events, in this shape, once that is on the disk."""
+        loop = asyncio.get_running_loop()
+        done: asyncio.Future[Says] = loop.create_future()
+        found: list[Says] = [(503, {"error": "no answer yet: ask again by the same key"})] * len(events)
+        left = 1
+
+        def ends(least: int = 0) -> None:
+            nonlocal left
+            left -= 1
+            if left <= least and not done.done():
+                timer.cancel()
+                done.set_result(shape(found))
+
+        def hears(place: int, asked: asyncio.Future[Json]) -> None:
+            why = asked.exception()
+            found[place] = (503, {"error": str(getattr(why, "text", why))}) if why else says(asked.result())
+            ends()
+
+        timer = loop.call_later(ANSWER, ends, len(events))
+        for place, (event, key) in enumerate(zip(events, keys)):
+            try:
+                self.check(event, key, may)
+                if known := self.known(event):
+                    found[place] = says(known)
+                else:
+                    self.once(event).add_done_callback(functools.partial(hears, place))
+                    left += 1
+            except web.HTTPException as why:
+                found[place] = why.status, {"error": why.text}
+        ends()
+        return done
 
     def check(self, event: Any, key: str | None, may: set[str]) -> None:
         """Gives an event its key, if it is one that the client may ask for. The site looks at the rest."""
@@ -101,7 +133,7 @@ class Service:
         verb, = verbs
         if key is not None and MAY[verb] != "read" and event.setdefault("id", key) != key:
             raise web.HTTPBadRequest(text="the event has another id than its Idempotency-Key")
-        allow({MAY[verb]} | ({"cancel"} if '"cancel":' in compact(event) else set()), may)  # (it may be in a batch)
+        allow({MAY[verb]} | ({"cancel"} if verb == "batch" and '"cancel":' in compact(event) else set()), may)
 
     def known(self, event: Json) -> Json:
         """The answer to a request that was made in the period before, unless this one is said to be meant; or none."""
@@ -112,32 +144,48 @@ class Service:
         is_same = entry["event"] == {verb: given for verb, given in event.items() if verb not in ("id", "bank")}
         return {"reply": entry["reply"] | {"bank": self.period.other(-1).name} if is_same else {"refused": 25}}
 
-    def once(self, event: Json) -> asyncio.Task[Json]:
+    def once(self, event: Json) -> asyncio.Future[Json]:
         """Asks the site. A request that is under way isn't asked beside itself, since it may be refused yet."""
+        if "id" not in event:
+            return self.desk.ask(lambda: self.ask(event), TOKEN)
         line = compact(event)
-        task = self.asking.get(line) or asyncio.create_task(self.desk.ask(lambda: self.ask(event), TOKEN))
-        if "id" in event:
-            self.asking[line] = task
-            task.add_done_callback(lambda done: self.asking.pop(line, None))
-        return task
+        if not (future := self.asking.get(line)):
+            future = self.asking[line] = self.desk.ask(lambda: self.ask(event, line), TOKEN)
+            future.add_done_callback(lambda done: self.asking.pop(line, None))
+        return future
 
     async def post(self, request: web.Request) -> web.Response:
-        key, may = request.headers.get("Idempotency-Key"), request["may"]
         try:
             if request.content_type != "application/json":
                 raise ValueError("another one may be sent by anybody's page")
-            event = json.loads(await request.read())
+            given = json.loads(await request.read())
         except (ValueError, RecursionError) as why:
             raise web.HTTPBadRequest(text=f"wanted: JSON, with Content-Type: application/json ({why})") from None
-        if not isinstance(event, list):
-            return says(*await self.answer(event, key, may))
-        keys = [None if key is None else f"{key}.{number}" for number in range(len(event))]
-        replies = await asyncio.gather(*(self.answer(each, at, may) for each, at in zip(event, keys)))
-        return says(max((status for status, _ in replies), default=200), [reply for _, reply in replies])
+        return reply_of(*await self.takes(given, request.headers.get("Idempotency-Key"), request["may"]))
+
+    def takes(self, given: Any, key: str | None, may: set[str]) -> asyncio.Future[Says]:
+        """What a client hears of an event, or of a list."""
+        if not isinstance(given, list):
+            return self.answers([given], [key], may, lambda found: found[0])
+        keys = [None if key is None else f"{key}.{number}" for number in range(len(given))]
+        return self.answers(given, keys, may, lambda found: (
+            max((status for status, _ in found), default=200), [reply for _, reply in found]))
+
+    def plain(self, heads: dict[bytes, bytes], body: bytes) -> asyncio.Future[Says] | None:
+        """Begins to answer a plain POST /events, if it is one that is answered by the site; for front.py."""
+        with contextlib.suppress(ValueError, RecursionError, web.HTTPException):
+            given = json.loads(body)
+            may = self.may(heads.get(b"authorization", b"").decode(), heads.get(b"host", b"").decode())
+            if heads.get(b"content-type", b"").lower() == b"application/json":
+                key = heads.get(b"idempotency-key")
+                future = self.takes(given, None if key is None else key.decode(), may)
+                future.add_done_callback(lambda done: self.statuses.update((done.result()[0],)))
+                return future
+        return None
 
     async def question(self, request: web.Request) -> web.Response:
         asked = {request.match_info["verb"]: request.match_info["account"]}
-        return says(*await self.answer(asked, None, request["may"]))
+        return reply_of(*await self.takes(asked, None, request["may"]))
 
     # ---- the console and machines
 
@@ -159,7 +207,7 @@ class Service:
         return self.facts() | self.view.shown() | {"sites": self.urls}
 
     async def state(self, request: web.Request) -> web.Response:
-        return says(200, await self.shown())
+        return reply_of(200, await self.shown())
 
     async def live(self, request: web.Request) -> web.StreamResponse:
         """The state, and again whenever it changed, ten times a second at most; less often to one who reads slowly."""
@@ -179,7 +227,7 @@ class Service:
 
     async def health(self, request: web.Request) -> web.Response:
         facts = {name: sum(it.values()) if isinstance(it, dict) else it for name, it in self.facts().items()}
-        return says(200 if self.site.up and not self.ends.is_set() else 503, facts)
+        return reply_of(200 if self.site.up and not self.ends.is_set() else 503, facts)
 
     async def metrics(self, request: web.Request) -> web.Response:
         """What is counted, in the text format of Prometheus."""
@@ -194,33 +242,37 @@ class Service:
 
     async def step(self, request: web.Request) -> web.Response:
         """A step of close.py."""
-        return says(*await self.desk.step(await request.json()))
+        return reply_of(*await self.desk.step(await request.json()))
 
     # ---- from start to end
 
     @web.middleware
     async def guard(self, request: web.Request, handler: Handler) -> web.StreamResponse:
-        """Who may ask. Without tokens, a name that someone else's page gave to this address is no name of ours."""
+        """Who may ask."""
         try:
-            if request.headers.get("Origin") not in (None, *self.urls) or (
-                    not self.clients and request.host != self.bank["http"][self.me]):
+            if request.headers.get("Origin") not in (None, *self.urls):
                 raise web.HTTPForbidden(text="not from here")
             if request.method == "OPTIONS":
                 return web.Response()
             if (wanted := PATHS.get(request.path.strip("/").split("/")[0], {"read"})) is not None:
-                request["may"] = self.may(request)
+                request["may"] = self.may(request.headers.get("Authorization", ""), request.host)
                 allow(wanted, request["may"])
             return await handler(request)
         except web.HTTPException as why:
-            return says(why.status, {"error": (why.text or "").removeprefix(f"{why.status}: ")})
+            return reply_of(why.status, {"error": (why.text or "").removeprefix(f"{why.status}: ")})
 
-    def may(self, request: web.Request) -> set[str]:
-        """What the client of a request may do: anything, if no token is configured. Each token is compared whole."""
-        given = request.headers.get("Authorization", "").removeprefix("Bearer ").encode(errors="surrogateescape")
-        found = [set(row["may"]) for row in self.clients if hmac.compare_digest(row["token"].encode(), given)]
-        if self.clients and not found:
+    def may(self, given: str, host: str) -> set[str]:
+        """What a client may do: anything, if no token is configured. Each token is compared whole. Without tokens, a
+        name that someone else's page gave to this address is no name of ours."""
+        if not self.clients:
+            if host != self.bank["http"][self.me]:
+                raise web.HTTPForbidden(text="not from here")
+            return {"ask", "cancel", "close", "read"}
+        token = given.removeprefix("Bearer ").encode(errors="surrogateescape")
+        found = [set(row["may"]) for row in self.clients if hmac.compare_digest(row["token"].encode(), token)]
+        if not found:
             raise web.HTTPUnauthorized(text="a token is wanted: Authorization: Bearer ...")
-        return found[0] if found else {"ask", "cancel", "close", "read"}
+        return found[0]
 
     async def finish(self, request: web.Request, response: web.StreamResponse) -> None:
         """Counts an answer. Pages of the other sites of this bank may read it; those of anyone else may not."""
@@ -252,8 +304,12 @@ class Service:
         runner = web.AppRunner(app, access_log=None)
         await runner.setup()
         host = self.bank.get("listen", self.host)
-        await web.TCPSite(runner, host, int(self.port), shutdown_timeout=1, backlog=1024).start()
+        loop = asyncio.get_running_loop()
+        server = await loop.create_server(lambda: Front(self.plain, runner.server, loop=loop, access_log=None), host,
+                                          int(self.port), backlog=1024)
         await together(PATIENCE, self.site.run(), self.wires.run(), self.desk.run(), self.ending())
+        server.close()
+        await runner.server.shutdown(1)
         await runner.cleanup()
         if not self.ends.is_set():
             os.execv(sys.executable, [sys.executable, *sys.argv[:3]])
@@ -273,4 +329,8 @@ async def main() -> None:
 
 
 if __name__ == "__main__":
+    with contextlib.suppress(ImportError):
+        import uvloop
+        uvloop.install()
+    gc.set_threshold(100_000, 10, 10)  # (each event makes some objects and no cycle: looking for those took a third)
     asyncio.run(main())

@@ -18,6 +18,7 @@ from __future__ import annotations
 
 import asyncio
 import contextlib
+import functools
 import json
 import logging
 import os
@@ -37,6 +38,7 @@ HEARD = 3.0  # seconds for which a site is taken to want the token after it said
 TAIL = 4 << 20  # bytes of the journal that are read as a child starts
 KNOWN = 64 << 20  # bytes at the end of a closed journal whose requests are still known
 PIPE = asyncio.subprocess.PIPE
+SENDS, THEN = b',"sends":[', b'],"then":['  # what is before and after the messages in an answer
 compact: Callable[[Any], str] = json.JSONEncoder(separators=(",", ":"), sort_keys=True).encode
 
 
@@ -139,10 +141,27 @@ async def until(fact: Callable[[], bool], seconds: float) -> bool:
     return fact()
 
 
-async def lines_of(pipe: asyncio.StreamReader) -> AsyncIterator[Json]:
-    """The lines of a pipe; not what is behind the last, if its writer was ended."""
-    while (line := await pipe.readline()).endswith(b"\n"):
-        yield json.loads(line)
+async def lines_of(pipe: asyncio.StreamReader) -> AsyncIterator[bytes]:
+    """The lines of a pipe; not what is after the last, if its writer was ended."""
+    parts: list[bytes] = []
+    while chunk := await pipe.read(1 << 20):
+        parts.append(chunk)
+        if b"\n" in chunk:
+            *lines, rest = b"".join(parts).split(b"\n")
+            parts = [rest]
+            for line in lines:
+                yield line
+
+
+def texts(messages: list[Json]) -> list[bytes]:
+    return [compact(message).encode() for message in messages]
+
+
+def sends_of(answer: Json, line: bytes) -> list[bytes]:
+    """The texts of the messages in an answer: if there is one, as the child wrote it."""
+    if len(answer["sends"]) == 1:
+        return [line[line.index(SENDS) + len(SENDS):line.rindex(THEN)]]
+    return texts(answer["sends"])
 
 
 class Site:
@@ -150,26 +169,31 @@ class Site:
         self.words = [program, "site", "--me", str(me), "--journal", period.journal(me)]
         self.period, self.me, self.config, self.view = period, me, config, View(config, me)
         self.entries = int(period.kept("confirmed") or 0)  # from the first on, those whose messages were handed on
-        self.asked: deque[tuple[Json, asyncio.Future[Json]]] = deque()  # what isn't answered yet, in order
+        self.asked: deque[tuple[Json, str, asyncio.Future[Json]]] = deque()  # what isn't answered yet, in order
+        self.ready: list[str] = []  # lines of it that the child isn't given yet
         self.process: asyncio.subprocess.Process | None = None
         self.starts, self.up, self.stopping, self.sealing, self.is_sealed = 0, False, False, False, False
         self.next = asyncio.Event()  # the next period has begun
-        self.send: Callable[[int, list[Json]], None]  # is given each entry's messages
+        self.send: Callable[[int, list[bytes]], None]  # is given each entry's messages
 
-    def ask(self, event: Json) -> asyncio.Future[Json]:
-        """An event for the site. The future has its answer, once that is on the disk."""
+    def ask(self, event: Json, line: str | None = None) -> asyncio.Future[Json]:
+        """An event for the site, whose text may be known. The future has its answer, once that is on the disk."""
         if "id" not in event and not event.keys().isdisjoint(REQUESTS):
-            event = event | {"id": secrets.token_hex(12)}
+            event, line = event | {"id": secrets.token_hex(12)}, None
         future: asyncio.Future[Json] = asyncio.get_running_loop().create_future()
-        self.asked.append((event, future))
+        line = line or compact(event)
+        self.asked.append((event, line, future))
         if self.up:
-            self.give(event)
+            if not self.ready:
+                asyncio.get_running_loop().call_soon(self.give)
+            self.ready.append(line)
         return future
 
-    def give(self, *values: Json) -> None:
-        """Gives the child lines."""
+    def give(self, *lines: str) -> None:
+        """Gives the child lines, and all that wait to be given."""
         assert self.process and self.process.stdin
-        self.process.stdin.write("".join(compact(value) + "\n" for value in values).encode())
+        ready, self.ready = [*self.ready, *lines, ""], []
+        self.process.stdin.write("\n".join(ready).encode())
 
     async def run(self) -> None:
         """Starts a child on the journal, and again whenever it ended, until the site stops or is sealed. Then it waits
@@ -193,22 +217,23 @@ class Site:
         answers = lines_of(process.stdout)
         with contextlib.suppress(StopAsyncIteration):
             await self.begin(answers)
-        async for answer in answers:
-            self.heard(answer)
+        async for line in answers:
+            self.heard(line)
         self.up = False
         errors = await process.stderr.read()
         return await process.wait(), errors.decode(errors="replace").strip()
 
-    async def begin(self, answers: AsyncIterator[Json]) -> None:
+    async def begin(self, answers: AsyncIterator[bytes]) -> None:
         """Asks a new child where the site is, and for the messages that weren't handed on; then what isn't answered."""
         async def own(event: Json) -> tuple[Json, list[Json]]:
-            self.give(event)
+            self.give(compact(event))
             sent: list[Json] = []
-            while "reply" not in (answer := await anext(answers)):
+            while "reply" not in (answer := json.loads(await anext(answers))):
                 sent += answer["sends"]
             return answer["reply"], sent
 
-        self.give(self.config)
+        self.ready = []
+        self.give(compact(self.config))
         about = (await own({"about": "site"}))[0]["about"]
         entries, known = about["entries"], self.entries
         if entries < known:
@@ -216,18 +241,18 @@ class Site:
         lines = tail(self.period.journal(self.me), TAIL).split(b"\n")[1:]  # (the first may be a part of one)
         last = [json.loads(line) for line in lines[-KEPT:] if line.startswith(b"{")]
         self.view.begin(about, last, (await own({"resend": min(KEPT, entries)}))[1])
-        self.send(known, (await own({"resend": entries - known}))[1])
+        self.send(known, texts((await own({"resend": entries - known}))[1]))
         self.entries, self.starts, self.up = entries, self.starts + 1, True
-        self.give(*(event for event, _ in self.asked))
+        self.give(*(line for _, line, _ in self.asked))
 
-    def heard(self, answer: Json) -> None:
+    def heard(self, line: bytes) -> None:
         """Counts the entries of an answer, and hands its messages on. Those of a request that is answered again were
         handed on before, as its entry was counted, or are among those that this child sent again."""
-        event, future = self.asked.popleft()
+        answer, (event, _, future) = json.loads(line), self.asked.popleft()
+        if "reply" in answer and "again" not in answer:
+            self.send(self.entries, sends_of(answer, line))
+            self.entries += LEAVE_NO_ENTRY.isdisjoint(answer["reply"]) + len(answer["then"])
         if "reply" in answer:
-            if "again" not in answer:
-                self.send(self.entries, answer["sends"])
-                self.entries += LEAVE_NO_ENTRY.isdisjoint(answer["reply"]) + len(answer["then"])
             self.view.record(event, answer)
         if not future.done():
             future.set_result(answer)
@@ -278,16 +303,31 @@ class Desk:
                 self.told.add(other)
                 logging.error("site %d has another %s: an older copy of this journal was started", other, name)
 
-    async def ask(self, ask: Callable[[], asyncio.Future[Json]], patience: float) -> Json:
+    def ask(self, ask: Callable[[], asyncio.Future[Json]], patience: float) -> asyncio.Future[Json]:
         """Asks the site, and again while it lacks the token, for this number of seconds at most."""
-        end = time.monotonic() + patience
-        while True:
-            moved, answer = self.view.moved, await asyncio.shield(ask())
-            if (left := end - time.monotonic()) <= 0 or not lacks(answer.get("reply", {})):
-                return answer
+        end, moved = time.monotonic() + patience, self.view.moved
+        answered: asyncio.Future[Json] = asyncio.get_running_loop().create_future()
+
+        def heard(is_last: bool, asked: asyncio.Future[Json]) -> None:
+            if why := asked.exception():
+                answered.set_exception(why)
+            elif is_last or not lacks(asked.result().get("reply", {})):
+                answered.set_result(asked.result())
+            else:
+                again = asyncio.ensure_future(self.again(ask, asked.result(), moved, end))
+                again.add_done_callback(functools.partial(heard, True))
+        ask().add_done_callback(functools.partial(heard, False))
+        return answered
+
+    async def again(self, ask: Callable[[], asyncio.Future[Json]], answer: Json, moved: asyncio.Future[None],
+                    end: float) -> Json:
+        """Asks once more whenever the token may be here."""
+        while (left := end - time.monotonic()) > 0 and lacks(answer.get("reply", {})):
             self.waiters += 1
             await asyncio.wait({moved}, timeout=min(left, 1.0))
             self.waiters -= 1
+            moved, answer = self.view.moved, await asyncio.shield(ask())
+        return answer
 
     async def run(self) -> None:
         """Passes the token to the next site that wants it, once this one had it for a moment."""

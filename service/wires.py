@@ -20,6 +20,7 @@ from aio_pika.abc import AbstractChannel, AbstractConnection, AbstractQueue
 from site_child import Desk, Json, compact, until
 
 MOST_LINES = 500  # of one message of the broker
+GATHER = 0.01  # seconds between two of its messages to a site: what a site reports until then goes in one
 PREFETCH = 4  # deliveries of each queue that wait here
 PATIENCE = 20  # seconds for a confirm, or whatever else is asked of the broker
 SILENCE = 20.0  # seconds after which a queue is given another consumer
@@ -44,28 +45,19 @@ async def together(again: float, *parts: Coroutine[Any, Any, Any]) -> None:
             await asyncio.wait(left, timeout=again)
 
 
-def message_of(line: bytes) -> Json:
-    """A message of a site. Anything else that somebody put into the queue is an event that the site doesn't take."""
-    with contextlib.suppress(AttributeError, ValueError, RecursionError):
-        event: Json = json.loads(line)
-        if event.keys() - {"bank"} in ({"shadow"}, {"token"}):
-            return event
-    return {}
-
-
 class Wires:
     def __init__(self, desk: Desk, urls: list[str]) -> None:
         self.site, self.period, self.desk, self.urls, self.is_connected = desk.site, desk.site.period, desk, urls, False
         self.others = [other for other in range(self.site.config["sites"]) if other != self.site.me]
-        self.out: dict[int, list[tuple[int, str]]] = {other: [] for other in self.others}  # entries, and their lines
+        self.out: dict[int, list[tuple[int, bytes]]] = {other: [] for other in self.others}  # entries, and their lines
         self.more = {other: asyncio.Event() for other in self.others}
         self.site.send = self.send
 
-    def send(self, entry: int, messages: list[Json]) -> None:
+    def send(self, entry: int, messages: list[bytes]) -> None:
         """Takes messages that an entry of the site sent, in the order of the entries."""
         for message in messages:
-            for site in [message["token"][1]] if "token" in message else self.others:
-                self.out[site].append((entry, compact(message)))
+            for site in [json.loads(message)["token"][1]] if b'"token":' in message else self.others:
+                self.out[site].append((entry, message))
                 self.more[site].set()
 
     def unconfirmed(self) -> int:
@@ -107,9 +99,10 @@ class Wires:
         queue = await self.queue(channel, self.site.me, site)
         while True:
             while part := [line for _, line in lines[:MOST_LINES]]:
-                message = aio_pika.Message("\n".join(part).encode(), delivery_mode=aio_pika.DeliveryMode.PERSISTENT)
+                message = aio_pika.Message(b"\n".join(part), delivery_mode=aio_pika.DeliveryMode.PERSISTENT)
                 await channel.default_exchange.publish(message, queue.name, timeout=PATIENCE)
                 del lines[:len(part)]
+                await asyncio.sleep(GATHER)
             self.more[site].clear()
             await self.more[site].wait()
 
@@ -129,17 +122,26 @@ class Wires:
                     await delivery.ack()
             await channel.close()
 
+    def given(self, line: bytes) -> asyncio.Future[Json]:
+        """Gives the site a message as it came. Anything else that somebody put into the queue is an event that the site
+        doesn't take."""
+        with contextlib.suppress(AttributeError, ValueError, RecursionError):
+            event: Json = json.loads(line)
+            if event.keys() - {"bank"} in ({"shadow"}, {"token"}):
+                return self.site.ask(event, line.decode())
+        return self.site.ask({})
+
     async def take(self, body: bytes) -> None:
         """Has the site answer each message of a delivery. One that finds no place is given again, until it does: it may
         once more is applied. Were the queue's order ever disturbed, what it waits for could be behind it: so after a
         long time a new session is tried."""
         view = self.site.view
-        asked, seen = [(line, self.site.ask(message_of(line))) for line in body.split(b"\n")], view.clock.total()
+        asked, seen = [(line, self.given(line)) for line in body.split(b"\n")], view.clock.total()
         for line, future in asked:
             while (answer := await asyncio.shield(future)).get("reply", {}).get("refused") in FULL:
                 if not await until(lambda: view.clock.total() != seen, LONG):
                     raise ConnectionError(f"nothing was applied for {LONG} s, and a queue waits")
-                seen, future = view.clock.total(), self.site.ask(message_of(line))
+                seen, future = view.clock.total(), self.given(line)
             if "refused" in answer.get("reply", {"refused"}):
                 logging.error("the site doesn't take %r: %s", line[:500], compact(answer)[:200])
             if answer.get("reply", {}).get("refused") == ANOTHER:
