@@ -231,7 +231,8 @@ SECONDS ?= 60
 SEEDS ?= 1
 service-setup:
 	apt-get update
-	apt-get install -y rabbitmq-server python3-aiohttp python3-aio-pika python3-uvloop
+	apt-get install -y rabbitmq-server python3-aiohttp python3-aio-pika python3-prometheus-client \
+		python3-uvloop python3-jsonschema python3-yaml
 
 service:
 	@test -x $(SERVICE_PROGRAM) || { echo 'there is no program yet: make build'; exit 1; }

@@ -16,11 +16,13 @@ import http.client
 import json
 import logging
 import os
+import re
 import signal
 import socket
 import subprocess
 import sys
 import tempfile
+import threading
 import time
 import types
 import unittest.mock
@@ -33,6 +35,7 @@ sys.path[:0] = [HERE, os.path.join(HERE, "..", "examples", "tools")]
 import bank
 import cluster
 import site_child
+from client import Client, Denied
 from site_child import Desk, Fault, Json, Period, Site, last_period, requests_of
 from view import KEPT, View
 
@@ -41,6 +44,7 @@ CONFIG = {"accounts": [["ann", 1000], ["bob", 0]], "sites": 2, "version": 1}
 PATIENCE = float(os.environ.get("PATIENCE", 600))  # seconds for anything
 PROBLEMS: list[str] = []
 SERVICES: list[subprocess.Popen[bytes]] = []
+OBSERVED: list[tuple[str, str, Any, http.client.HTTPResponse, str]] = []  # what was asked by HTTP, and answered
 
 
 def same(what: str, found: Any, wanted: Any) -> None:
@@ -347,8 +351,10 @@ class Http:
         connection.request("GET" if event is None else "POST", path, body, kind | named)
         reply = connection.getresponse()
         text = reply.read().decode()
+        OBSERVED.append(("get" if event is None else "post", path, body, reply, text))
         self.retry, self.exposed = (reply.getheader(name) for name in ("Retry-After", "Access-Control-Expose-Headers"))
-        return reply.status, json.loads(text) if text[:1] in ("{", "[") else text
+        is_json = reply.getheader("Content-Type", "").startswith("application/json")
+        return reply.status, json.loads(text) if is_json else text
 
     def event(self, event: Any, **heads: str) -> tuple[int, Any]:
         return self.ask("/events", event, **heads)
@@ -380,6 +386,69 @@ def refuses(service: Http) -> None:
     same("another name", service.ask("/state", Host="evil.example")[0], 403)
 
 
+def pays(service: Http, folder: str) -> None:
+    """A list is paid once by examples/pay.py, and the client's other ends."""
+    path = os.path.join(folder, "wages")
+    with open(path, "w") as file:
+        file.write("bob 10\nzed 5\n")
+    for _ in range(2):
+        run = subprocess.run([sys.executable, os.path.join(HERE, "..", "examples", "pay.py"),
+                              f"http://{service.http[0]}", "ann", path], capture_output=True, text=True)
+        same("paid", (run.returncode, run.stdout, run.stderr),
+             (1, "bob 10 paid R1\nzed 5 unknown account \n", ""))
+    url = f"http://{service.http[0]}"
+    same("a list by a client", Client(url).ask([{"deposit": ["bob", 1]}, {"withdraw": ["bob", 1]}])[1]["name"], "R2")
+    same("a balance by a client", Client(url).get("/balance/bob"), {"balance": 24})
+    for what, fault, one in (("a path", Denied, Client(url + "/zed")), ("no answer", TimeoutError, Client(
+            "http://127.0.0.1:1", patience=0.3))):
+        try:
+            same(what, one.ask({"deposit": ["ann", 1]}), "refused")
+        except fault as why:
+            same(what, (one.lost > 1, bool(str(why))), (what == "no answer", True))
+
+
+def described(folder: str) -> None:
+    """openapi.yaml is served, and says what was asked of services and what they answered."""
+    import jsonschema
+    import yaml
+    from service import MAY
+    service = Http(folder)
+    service.wait()
+    page = yaml.safe_load(service.ask("/openapi.yaml")[1])
+    schemas = {"components": page["components"]}
+    for event in ({verb: given} for verb, given in (
+            ("balance", "ann"), ("statement", "ann"), ("asof", ["ann", 0]), ("interest", ["ann", 5]), ("pass", 1),
+            ("transfer", ["ann", "bob", 1]), ("batch", [{"deposit": ["ann", 1]}, {"deposit": ["bob", 1]}]))):
+        service.event(event)
+    for path in ("/", "/journals/0001.0.journal"):
+        same(f"GET {path}", service.ask(path)[0], 200)
+    asks(os.path.join(folder, "asks"))
+    tokens(os.path.join(folder, "tokens"))
+    same("its verbs", set(page["components"]["schemas"]["Event"]["properties"]) - {"bank", "id"}, set(MAY))
+    wanted = {(path, method) for path, methods in page["paths"].items() for method in methods}
+    found = set()
+    for method, asked, body, reply, text in OBSERVED:
+        path = next((path for path in page["paths"] if re.fullmatch(re.sub(r"\{.*?\}", "[^/]+", path), asked)), None)
+        if path is None or method not in page["paths"][path]:
+            same(f"what isn't described: {method} {asked}", reply.status in (401, 403, 404), True)
+            continue
+        found.add((path, method))
+        answers = page["paths"][path][method]["responses"]
+        same(f"{method} {asked}: {reply.status} is described", str(reply.status) in answers, True)
+        said = answers.get(str(reply.status), {}).get("content", {})
+        kind = reply.getheader("Content-Type", "").partition(";")[0]
+        same(f"{method} {asked}: {kind} is described", kind in said, True)
+        if kind == "application/json" and said.get(kind):
+            fault = best(jsonschema.Draft202012Validator(said[kind]["schema"] | schemas), json.loads(text))
+            same(f"{method} {asked}: {text[:200]}", fault, None)
+    same("all that is described was asked", wanted - found, set())
+
+
+def best(validator: Any, value: Any) -> str | None:
+    """The first difference of a value to a schema."""
+    return next((fault.message[:200] for fault in validator.iter_errors(value)), None)
+
+
 def listens(service: Http) -> None:
     """The state at first, and then whenever it changed."""
     with contextlib.closing(http.client.HTTPConnection("127.0.0.1", service.port, timeout=PATIENCE)) as live:
@@ -398,6 +467,7 @@ def listens(service: Http) -> None:
 
 def asks(folder: str) -> None:
     """What clients are answered."""
+    os.makedirs(folder, exist_ok=True)
     service = Http(folder)
     service.wait()
     made = {"kind": "deposit", "name": "B0.1"}
@@ -425,6 +495,7 @@ def asks(folder: str) -> None:
                  "rbbank_token_here 1", 'rbbank_unsent{to="1"} 5', "rbbank_child_restarts_total 0",
                  "rbbank_journal_bytes "):
         same(f"metrics have {line}", line in text, True)
+    pays(service, folder)
     same("closing", service.ask("/closing", {"bank": NAME, "step": "stop"})[1]["is"], "stopped")
     same("clients wait", (service.event({"deposit": ["ann", 5]})[0], service.retry, service.exposed), (503, "1", None))
     status, _ = service.event({"deposit": ["ann", 5]}, Origin=f"http://{service.http[1]}")
@@ -462,7 +533,9 @@ def fronts(folder: str) -> None:
     made, second = ((200, b'{"kind": "deposit", "name": "B0.%d"}' % n) for n in (1, 2))
     whole, chunks = post(deposit), b"%x\r\n%b\r\n0\r\n\r\n" % (len(deposit), deposit)
     for what, count, parts, wanted in (
-            ("whole", 1, [whole], [made]), ("its body in parts", 1, [whole[:-20], whole[-20:-5], whole[-5:]], [made]),
+            ("whole", 1, [whole], [made]),
+            ("its body in parts", 2, [whole[:-20], whole[-20:-5], whole[-5:] + post(other)], [made, second]),
+            ("spaces in parts", 2, [post(deposit + b" " * 9)[:-9], b" " * 9 + post(other)], [made, second]),
             ("its head in parts", 1, [whole[:30], whole[30:]], [made]),
             ("two at once", 2, [whole + post(other)], [made, second]),
             ("and a half", 2, [whole + post(other)[:-9], post(other)[-9:]], [made, second]),
@@ -472,10 +545,14 @@ def fronts(folder: str) -> None:
             ("an old client", 1, [whole.replace(b"HTTP/1.1", b"HTTP/1.0")], [made])):
         same(what, answered(service.port, count, *parts), wanted)
     for what, text in (("two lengths", post(deposit, "Content-Length: 5")), ("no length", post(b"", length=-1)),
-                       ("chunks and a length", post(chunks, "Transfer-Encoding: chunked", length=len(chunks)))):
+                       ("chunks and a length", post(deposit, "Transfer-Encoding: chunked"))):
         same(what, answered(service.port, 1, text)[0][0], 400)
     same("too long", answered(service.port, 1, post(b" " * (1 << 20) + deposit))[0][0], 413)
-    both = answered(service.port, 2, post(deposit) + post(b'{"x":1}'))
+    with open(f"/proc/{service.process.pid}/task/{service.process.pid}/children") as file:
+        child = int(file.read().split()[0])
+    os.kill(child, signal.SIGSTOP)
+    threading.Timer(1, os.kill, (child, signal.SIGCONT)).start()
+    both = answered(service.port, 2, post(deposit), post(b'{"x":1}'))
     same("one at a time", [status for status, _ in both], [200, 400])
 
 
@@ -514,6 +591,7 @@ async def waits(folder: str) -> None:
 
 def tokens(folder: str) -> None:
     """Who may do what."""
+    os.makedirs(folder, exist_ok=True)
     path = os.path.join(folder, "tokens.json")
     with open(path, "w") as file:
         json.dump({"officer": {"may": ["cancel"], "token": "t2"}, "till": {"may": ["ask", "read"], "token": "t1"}},
@@ -688,21 +766,21 @@ def periods(folder: str) -> None:
 
 
 ALONE, HTTP, BROKER = (
-    (lines, kills, unheard, restarts, faults, token, closes, texts), (asks, fronts, apart, waits, tokens, keeps),
+    (lines, kills, unheard, restarts, faults, token, closes, texts), (described, fronts, apart, waits, keeps),
     (queues, periods))
 GROUPS: dict[str, tuple[Callable[[str], Any], ...]] = {
     "": ALONE, "--http": ALONE + HTTP, "--broker": ALONE + HTTP + BROKER}
 
 
 def main() -> int:
-    words, known = sys.argv[2:], {check.__name__: check for check in GROUPS["--broker"]}
+    words, known = sys.argv[2:], {check.__name__: check for check in (*GROUPS["--broker"], asks, tokens)}
     checks = GROUPS.get(" ".join(words)) or tuple(known[word] for word in words if word in known)
     if not os.access(PROGRAM, os.X_OK) or os.path.isdir(PROGRAM) or not checks:
         print(__doc__)
         return 2
     logging.disable(logging.CRITICAL)
     if not set(checks) <= set(ALONE):
-        cluster.check_packages()
+        cluster.check_packages("jsonschema", "yaml")
     for check in checks:
         with tempfile.TemporaryDirectory(prefix="check-") as folder:
             try:

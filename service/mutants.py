@@ -18,9 +18,9 @@ sys.dont_write_bytecode = True
 import cluster
 
 PATIENCE = 1500  # seconds, after which a check has caught what it doesn't end by
-LINES, KILLS, UNHEARD, RESTARTS, FAULTS, TOKEN, CLOSES, ASKS, FRONTS, APART, WAITS, TOKENS, KEEPS, QUEUES, PERIODS = (
-    "lines", "kills", "unheard", "restarts", "faults", "token", "closes", "asks", "fronts", "apart", "waits", "tokens",
-    "keeps", "queues", "periods")
+(LINES, KILLS, UNHEARD, RESTARTS, FAULTS, TOKEN, CLOSES, ASKS, FRONTS, DESCRIBED, APART, WAITS, TOKENS, KEEPS, QUEUES,
+ PERIODS) = ("lines", "kills", "unheard", "restarts", "faults", "token", "closes", "asks", "fronts", "described",
+             "apart", "waits", "tokens", "keeps", "queues", "periods")
 
 
 class Mutant(NamedTuple):
@@ -77,6 +77,8 @@ MUTANTS = {
                                       'self.came, self.is_busy = b"", True', FRONTS),
     "a_part_is_all": Mutant("front.py", "if len(self.came) < end < MOST:", "if False:", FRONTS),
     "a_second_at_once": Mutant("front.py", "        if not self.is_busy:\n", "        if True:\n", FRONTS),
+    "an_answer_isnt_described": Mutant("openapi.yaml", '"422": {description', '"423": {description', DESCRIBED),
+    "a_verb_isnt_described": Mutant("openapi.yaml", "        pass: {type: integer}\n", "", DESCRIBED),
     "listens_to_all": Mutant("service.py", "if not self.clients and self.host not in", "if False and self.host in",
                              TOKENS),
     "clients_arent_stopped": Mutant("service.py", "if self.ends.is_set() or self.desk.closing:",

@@ -14,14 +14,17 @@ import hmac
 import json
 import logging
 import os
+import shutil
 import signal
 import sys
 from collections import Counter
-from collections.abc import Callable
+from collections.abc import Callable, Iterator
 from typing import Any
 
 from aiohttp import web
 from aiohttp.typedefs import Handler
+from prometheus_client import CONTENT_TYPE_LATEST, CollectorRegistry, Metric, ProcessCollector, generate_latest
+from prometheus_client.core import CounterMetricFamily, GaugeMetricFamily
 
 from front import Front, Says
 from site_child import REQUESTS, Desk, Fault, Json, Site, compact, last_period, load, requests_of, until
@@ -30,11 +33,30 @@ from wires import Wires, together
 HERE = os.path.dirname(os.path.abspath(__file__))
 MAY = dict.fromkeys((*REQUESTS, "pass"), "ask") | {"cancel": "cancel"} | dict.fromkeys(
     ("balance", "statement", "asof"), "read")  # what a client has to be allowed
-PATHS = {"": None, "health": None, "events": set[str](), "closing": {"close"}, "journals": {"close"}}  # else `read`
+PATHS = {"": None, "health": None, "openapi.yaml": None, "events": set[str](), "closing": {"close"},
+         "journals": {"close"}}  # what a client has to be allowed for a path, if it isn't `read`
 MOST_WAITING = 20_000  # events that wait for the site, beyond which clients are sent away
 MOST_UNCONFIRMED = 1_000_000  # messages that wait for the broker, the same
-LABELS = {"behind": "site", "events_total": "event", "http_answers_total": "status", "refusals_total": "number",
-          "unsent": "to"}  # of the metrics that have parts
+METRICS = {  # their meanings, and the labels of those that have parts; OPERATING.md says when to act
+    "applied": ("Operations that the site applied.",),
+    "behind": ("Operations that another site said it applied, and this one lacks.", "site"),
+    "broker": ("Whether a node of the broker is connected.",),
+    "child_restarts_total": ("Times that the child was started again.",),
+    "closing": ("Whether the books are being closed, so that clients have to wait.",),
+    "confirmed_entries": ("Entries, from the first on, whose messages the broker has.",),
+    "entries": ("Entries whose messages were handed on.",),
+    "events_total": ("Events that the site answered.", "event"),
+    "held": ("Operations that wait in the inbox for others.",),
+    "http_answers_total": ("Answers to clients.", "status"),
+    "journal_bytes": ("Bytes of the period's journal.",),
+    "journal_free_bytes": ("Bytes that the journal's disk has left.",),
+    "refusals_total": ("Events that the site refused.", "number"),
+    "token_epoch": ("How often the token was passed.",),
+    "token_here": ("Whether the site has the token.",),
+    "unsent": ("Messages that the broker hasn't confirmed.", "to"),
+    "up": ("Whether the child runs and answers.",),
+    "waiting": ("Events that the site hasn't answered.",),
+    "waiting_for_token": ("Requests that wait for the token.",)}
 ANSWER = 30  # seconds in which a client is answered, if only that there is no answer yet
 TOKEN = 10  # seconds that a request may wait for the token
 PATIENCE = 15  # seconds for each part of an orderly end
@@ -78,7 +100,9 @@ class Service:
         self.view, self.desk = self.site.view, Desk(self.site)
         self.wires = Wires(self.desk, bank["broker"])
         self.asking = dict[str, asyncio.Future[Json]]()  # requests with ids that are under way, by their lines
-        self.statuses, self.ends = Counter[int](), asyncio.Event()
+        self.statuses, self.ends, self.registry = Counter[int](), asyncio.Event(), CollectorRegistry()
+        self.registry.register(self)  # type: ignore[arg-type]
+        ProcessCollector(registry=self.registry)
         logging.info("%s at %s", self.period.name, self.urls[me])
 
     # ---- events
@@ -107,8 +131,10 @@ class Service:
                 done.set_result(shape(found))
 
         def hears(place: int, asked: asyncio.Future[Json]) -> None:
-            why = asked.exception()
-            found[place] = (503, {"error": str(getattr(why, "text", why))}) if why else says(asked.result())
+            if not asked.cancelled() and (why := asked.exception()):
+                found[place] = 503, {"error": str(getattr(why, "text", why))}
+            elif not asked.cancelled():  # (else the service ends: no answer yet)
+                found[place] = says(asked.result())
             ends()
 
         timer = loop.call_later(ANSWER, ends, len(events))
@@ -229,14 +255,21 @@ class Service:
         facts = {name: sum(it.values()) if isinstance(it, dict) else it for name, it in self.facts().items()}
         return reply_of(200 if self.site.up and not self.ends.is_set() else 503, facts)
 
+    def collect(self) -> Iterator[Metric]:
+        """What is counted, for prometheus_client."""
+        facts = self.facts() | {"journal_free_bytes": shutil.disk_usage(self.folder).free}
+        for name, (meaning, *labels) in METRICS.items():
+            kind = CounterMetricFamily if name.endswith("_total") else GaugeMetricFamily
+            metric = kind(f"rbbank_{name}", meaning, labels=labels)
+            for at, part in facts[name].items() if labels else [("", facts[name])]:
+                metric.add_metric([str(at)] if labels else [], part)
+            yield metric
+
     async def metrics(self, request: web.Request) -> web.Response:
-        """What is counted, in the text format of Prometheus."""
-        lines = []
-        for name, fact in self.facts().items():
-            lines.append(f"# TYPE rbbank_{name} {'counter' if name.endswith('_total') else 'gauge'}")
-            parts = {f'{{{LABELS[name]}="{at}"}}': part for at, part in fact.items()} if name in LABELS else {"": fact}
-            lines += [f"rbbank_{name}{at} {part + 0}" for at, part in parts.items() if isinstance(part, (int, float))]
-        return web.Response(text="\n".join([*lines, ""]), headers={"Content-Type": "text/plain; version=0.0.4"})
+        return web.Response(body=generate_latest(self.registry), headers={"Content-Type": CONTENT_TYPE_LATEST})
+
+    async def openapi(self, request: web.Request) -> web.FileResponse:
+        return web.FileResponse(os.path.join(HERE, "openapi.yaml"))
 
     # ---- closing
 
@@ -300,6 +333,7 @@ class Service:
         app.add_routes([web.get("/", self.console), web.get("/{verb:balance|statement}/{account}", self.question),
                         web.post("/events", self.post), web.get("/state", self.state), web.get("/live", self.live),
                         web.get("/health", self.health), web.get("/metrics", self.metrics),
+                        web.get("/openapi.yaml", self.openapi),
                         web.post("/closing", self.step), web.static("/journals", self.folder)])
         runner = web.AppRunner(app, access_log=None)
         await runner.setup()

@@ -193,7 +193,8 @@ class Site:
         """Gives the child lines, and all that wait to be given."""
         assert self.process and self.process.stdin
         ready, self.ready = [*self.ready, *lines, ""], []
-        self.process.stdin.write("\n".join(ready).encode())
+        with contextlib.suppress(RuntimeError):  # (uvloop, once the child has ended: the next one is given all)
+            self.process.stdin.write("\n".join(ready).encode())
 
     async def run(self) -> None:
         """Starts a child on the journal, and again whenever it ended, until the site stops or is sealed. Then it waits
@@ -309,7 +310,9 @@ class Desk:
         answered: asyncio.Future[Json] = asyncio.get_running_loop().create_future()
 
         def heard(is_last: bool, asked: asyncio.Future[Json]) -> None:
-            if why := asked.exception():
+            if asked.cancelled():
+                answered.cancel()
+            elif why := asked.exception():
                 answered.set_exception(why)
             elif is_last or not lacks(asked.result().get("reply", {})):
                 answered.set_result(asked.result())
