@@ -336,7 +336,8 @@ class Http:
         self.http, self.port = given["http"], int(given["http"][me].rpartition(":")[2])
         with open(os.path.join(folder, "bank.json"), "w") as file:
             json.dump(given, file)
-        words = [sys.executable, os.path.join(HERE, "service.py"), os.path.join(folder, "bank.json"), str(me)]
+        words = [sys.executable, os.path.join(HERE, "service.py"), os.path.join(folder, "bank.json"), str(me), "--log",
+                 "json"]
         with open(os.path.join(folder, "log"), "ab") as log:
             new = [] if os.path.exists(os.path.join(folder, f"site{me}")) else ["--new"]
             self.process = subprocess.Popen(words + new, stdout=log, stderr=log)
@@ -411,7 +412,7 @@ def described(folder: str) -> None:
     """openapi.yaml is served, and says what was asked of services and what they answered."""
     import jsonschema
     import yaml
-    from service import MAY
+    from service import MAY, METRICS
     service = Http(folder)
     service.wait()
     page = yaml.safe_load(service.ask("/openapi.yaml")[1])
@@ -424,6 +425,11 @@ def described(folder: str) -> None:
         same(f"GET {path}", service.ask(path)[0], 200)
     asks(os.path.join(folder, "asks"))
     tokens(os.path.join(folder, "tokens"))
+    with open(os.path.join(HERE, "OPERATING.md")) as file:
+        rows = re.findall(r"(?m)^\| `(\w+)`(?: less `(\w+)`)? \| ", file.read())
+    same("what is to be watched", {*sum(rows, ())} - {"", "process_open_fds"} - set(METRICS), set())
+    text = service.ask("/metrics")[1]
+    same("metrics", [name for name in METRICS if f"# TYPE rbbank_{name.removesuffix('_total')}" not in text], [])
     same("its verbs", set(page["components"]["schemas"]["Event"]["properties"]) - {"bank", "id"}, set(MAY))
     wanted = {(path, method) for path, methods in page["paths"].items() for method in methods}
     found = set()
@@ -598,6 +604,9 @@ def tokens(folder: str) -> None:
                   file)
     alone = Http(folder, http=["0.0.0.0:1", "127.0.0.1:1"])
     same("without tokens it listens on loopback alone", alone.process.wait(PATIENCE), 2)
+    with open(os.path.join(folder, "log")) as file:
+        *_, last = map(json.loads, file)
+    same("and says so, in JSON", (last["level"], last["site"], last["text"][:14]), ("error", 0, "without tokens"))
     service = Http(folder, tokens=path)
     service.wait()
     till, officer = {"Authorization": "Bearer t1"}, {"Authorization": "Bearer t2"}

@@ -1,13 +1,16 @@
 #!/usr/bin/env python3
 """One site of a bank as a service: HTTP for clients, RabbitMQ to the other sites, the proved program as its child.
 
-usage: service.py BANK SITE [--new]    BANK is a file like bank.json, SITE a number; --new begins its first period
+usage: service.py BANK SITE [--new] [--log json]
 
+BANK is a file like bank.json, SITE a number; --new begins its first period; --log json logs a line of JSON for each.
 SIGTERM ends it once all that was asked is answered, and what was reported is confirmed by the broker. README.md lists
 what clients may ask, and the keys of BANK.
 """
+import argparse
 import asyncio
 import contextlib
+import datetime
 import functools
 import gc
 import hmac
@@ -346,17 +349,40 @@ class Service:
         await runner.server.shutdown(1)
         await runner.cleanup()
         if not self.ends.is_set():
-            os.execv(sys.executable, [sys.executable, *sys.argv[:3]])
+            os.execv(sys.executable, [sys.executable, *(word for word in sys.argv if word != "--new")])
+
+
+class JsonLine(logging.Formatter):
+    """What is logged, as a line of JSON."""
+
+    def __init__(self, site: int) -> None:
+        super().__init__()
+        self.site = site
+
+    def format(self, record: logging.LogRecord) -> str:
+        at = datetime.datetime.fromtimestamp(record.created, datetime.timezone.utc).isoformat(timespec="milliseconds")
+        said = {"at": at, "level": record.levelname.lower(), "site": self.site, "text": record.getMessage()}
+        return json.dumps(said | ({"fault": self.formatException(record.exc_info)} if record.exc_info else {}))
+
+
+def options() -> argparse.Namespace:
+    reader = argparse.ArgumentParser(description=__doc__, formatter_class=argparse.RawDescriptionHelpFormatter)
+    reader.add_argument("bank", metavar="BANK")
+    reader.add_argument("site", metavar="SITE", type=int)
+    reader.add_argument("--new", action="store_true")
+    reader.add_argument("--log", choices=("json", "text"), default="text")
+    return reader.parse_args()
 
 
 async def main() -> None:
-    words = sys.argv[1:]
-    if len(words) not in (2, 3) or not words[1].isdigit() or words[2:] not in ([], ["--new"]):
-        sys.exit(__doc__.partition("\n\n")[2].partition("\n")[0])
-    logging.basicConfig(level=logging.INFO, format=f"%(asctime)s site {words[1]}: %(message)s")
+    asked = options()
+    out = logging.StreamHandler()
+    out.setFormatter(JsonLine(asked.site) if asked.log == "json" else logging.Formatter(
+        f"%(asctime)s site {asked.site}: %(message)s"))
+    logging.basicConfig(level=logging.INFO, handlers=[out])
     logging.getLogger("aiormq").setLevel(logging.CRITICAL)  # (wires.py says how a connection failed)
     try:
-        await Service(load(words[0]), int(words[1]), "--new" in words).run()
+        await Service(load(asked.bank), asked.site, asked.new).run()
     except Fault as why:
         logging.error("%s", why)
         sys.exit(2)
