@@ -4,9 +4,11 @@
 usage: chaos.py PROGRAM [--seconds 60] [--seed N | --seeds N] [--inbox N] [--slow MICROSECONDS] ..
 
 Three nodes of RabbitMQ, three services, their children. Children and services are ended by SIGKILL, or stopped for a
-while so that queues grow, and the nodes are ended one at a time. The bank lasts for some periods; its books are closed
-while all this goes on. Clients ask all the while, each request by a key of its own, and again by that key, at once or
-twice at a time, until it is answered. Then all is started, what is on its way comes in, and these have to hold:
+while so that queues grow, and the nodes are ended one at a time. If this is root, the network between a service and the
+nodes is cut for a while, and one site's disk is full for a while (faults.py). The bank lasts for some periods; its
+books are closed while all this goes on. Clients ask all the while, each request by a key of its own, and again by that
+key, at once or twice at a time, until it is answered. Then all is started, what is on its way comes in, and these have
+to hold:
 
 - each request that a client was told of is in the journals of its site exactly once, over all periods, with the very
   reply that the client got; a request that was refused is in none, nor is anything that nobody asked for
@@ -31,29 +33,18 @@ import sys
 import tempfile
 import time
 from collections import Counter
+from concurrent.futures import ThreadPoolExecutor
 from typing import Any
 
 sys.dont_write_bytecode = True
 import cluster
 
-cluster.check_packages()
-import aiohttp
+from client import Client, Denied
+from faults import Disk, Net, slow_disk
 
 Json = dict[str, Any]
 ACCOUNTS = ("ann", "bob", "eve", "fund.a", "fund.b")
-FAULTS = (aiohttp.ClientError, asyncio.TimeoutError, OSError)
-AGAIN = (502, 503, 504)  # statuses after which a client asks again
 TARGETS = ("child", "child", "service", "both", "stop")
-
-
-SLOW = """
-#include <stdlib.h>
-#include <sys/syscall.h>
-#include <unistd.h>
-static void slow(void) { const char *us = getenv("SYNC_US"); if (us) usleep(atoi(us)); }
-int fsync(int file) { slow(); return syscall(SYS_fsync, file); }
-int fdatasync(int file) { slow(); return syscall(SYS_fdatasync, file); }
-"""
 
 
 class Wrong(Exception):
@@ -82,7 +73,9 @@ class Run:
         self.count: Counter[str] = Counter()
         self.told: dict[str, Told] = {}  # by key
         self.number, self.slowest, self.period, self.is_over = 1000, 0.0, 1, False
-        self.session: aiohttp.ClientSession
+        self.nets = [net for net in map(Net, range(bank.sites)) if net.is_made]
+        self.relays: list[asyncio.AbstractServer] = []
+        self.disk = Disk(os.path.join(bank.folder, f"site{self.pick.randrange(bank.sites)}"))
 
     @property
     def name(self) -> str:
@@ -106,28 +99,25 @@ class Run:
         return {verb if verb != "cancel" else "deposit": [account, self.number]}
 
     async def asks(self, site: int, event: Any, key: str | None, tries: list[float] | None = None) -> Any:
-        """Asks until there is a reply: after a lost one at once, or after a moment. `tries` gets when each began."""
-        begun, headers = time.monotonic(), {} if key is None else {"Idempotency-Key": key}
-        while True:
-            if tries is not None:
-                tries.append(time.monotonic())
-            try:
-                async with self.session.post(f"http://{self.bank.http[site]}/events", json=event,
-                                             headers=headers) as got:
-                    if got.status not in (200, 409, *AGAIN):
-                        raise Wrong(f"{got.status} {await got.text()} for {event}")
-                    if got.status not in AGAIN and not (isinstance(event, list) and '"error":"' in await got.text()
-                                                        and any("refused" not in each and "error" in each
-                                                                for each in await got.json())):
-                        self.slowest = max(self.slowest, time.monotonic() - begun)
-                        return await got.json()
-                    self.count["told to wait"] += 1
-                    await asyncio.sleep(0.05)
-            except FAULTS:
-                self.count["replies lost"] += 1
-            if time.monotonic() > begun + self.asked.patience:
-                raise Wrong(f"site {site} gave no reply in {self.asked.patience} s: {event}")
-            await asyncio.sleep(self.pick.choice([0, 0, 0.1]))
+        """Asks until there is a reply, as client.py does. `tries` gets when the last one began."""
+        begun, client = time.monotonic(), self.to(site)
+        try:
+            reply = await asyncio.to_thread(client.ask, event, key)
+        except (Denied, TimeoutError) as why:
+            raise Wrong(f"site {site}, {event}: {why}") from None
+        finally:
+            client.patience = 0
+            self.count += Counter({"told to wait": client.waits, "replies lost": client.lost})
+        if isinstance(reply, dict) and reply.get("refused") in (1, 25):
+            raise Wrong(f"site {site}, {event}: {reply}")
+        if tries is not None:
+            tries.append(client.began)
+        self.slowest = max(self.slowest, time.monotonic() - begun)
+        return reply
+
+    def to(self, site: int, patience: float | None = None) -> Client:
+        return Client(f"http://{self.bank.http[site]}", patience=self.asked.patience if patience is None else patience,
+                      timeout=self.asked.timeout, pause=self.pick.choice([0.02, 0.02, 0.1]))
 
     async def once(self, site: int, event: Json, key: str) -> Json:
         """A request by its key, at times twice at a time: one may be refused before the other one is made."""
@@ -234,7 +224,7 @@ class Run:
     async def works(self, site: int) -> bool:
         try:
             return bool((await self.get(site, "/health"))["up"])
-        except FAULTS:
+        except OSError:
             return False
 
     async def breaks_broker(self, until: float) -> None:
@@ -247,6 +237,40 @@ class Run:
             await asyncio.sleep(self.pick.random() * 4)
             self.broker.start(node)
             await asyncio.to_thread(self.broker.wait, node)
+
+    async def cuts(self, until: float) -> None:
+        """Cuts a service off from all nodes, at times until neither side takes the other for connected."""
+        while self.nets and time.monotonic() + 5 < until:
+            await asyncio.sleep(self.pick.random() * 8)
+            net = self.pick.choice(self.nets)
+            net.link("down")
+            try:
+                await asyncio.sleep(self.pick.choice([1, 3, 15]))
+            finally:
+                net.link("up")
+            self.count["cut off"] += 1
+
+    async def fills(self, until: float) -> None:
+        """Fills a site's disk for a while."""
+        while self.disk.is_made and time.monotonic() + 5 < until:
+            await asyncio.sleep(self.pick.random() * 10)
+            self.disk.fill()
+            try:
+                await asyncio.sleep(self.pick.random() * 5)
+            finally:
+                self.disk.empty()
+            self.count["full"] += 1
+
+    async def starts(self) -> None:
+        """Starts the services, each by its way to the nodes."""
+        ports = [self.broker.base + node for node in range(cluster.NODES)]
+        for site, net in enumerate(self.nets):
+            self.bank.files[site] = self.bank.write(f"bank{site}.json", broker=self.broker.urls(net.host))
+            self.relays += await net.carry(ports)
+        for site in range(self.bank.sites):
+            self.bank.start(site)
+        for site in range(self.bank.sites):
+            await asyncio.to_thread(self.bank.wait, site, self.asked.patience)
 
     async def closes(self) -> None:
         """Has the books closed, by close.py, which is killed at times, until they are."""
@@ -273,9 +297,7 @@ class Run:
     # ---- the end
 
     async def get(self, site: int, path: str) -> Any:
-        timeout = aiohttp.ClientTimeout(5)
-        async with self.session.get(f"http://{self.bank.http[site]}{path}", timeout=timeout) as got:
-            return await got.json()
+        return await asyncio.to_thread(self.to(site, 0).get, path)
 
     async def everyone(self) -> list[Any]:
         found = await asyncio.gather(*(self.get(site, "/health") for site in range(self.bank.sites)),
@@ -435,26 +457,28 @@ def without(value: Json) -> Json:
 async def happens(run: Run) -> tuple[Json, float]:
     """A whole run. The balances at its end, and the seconds until all had come."""
     asked = run.asked
-    async with aiohttp.ClientSession(timeout=aiohttp.ClientTimeout(asked.timeout)) as run.session:
-        begun = time.monotonic()
-        until = begun + asked.seconds
-        clients = [asyncio.create_task(run.client(number)) for number in range(asked.clients)]
-        kills = [asyncio.create_task(run.breaks(until)), asyncio.create_task(run.breaks_broker(until)),
-                 asyncio.create_task(periods(run, begun))]
-        try:
-            while not all(kill.done() for kill in kills):
-                done, _ = await asyncio.wait(clients + kills, timeout=1, return_when=asyncio.FIRST_EXCEPTION)
-                for task in done:
-                    task.result()
-            run.is_over = True
-            await asyncio.wait_for(asyncio.gather(*clients), asked.patience)
-        finally:
-            for task in clients + kills:
-                task.cancel()
-            await asyncio.gather(*clients, *kills, return_exceptions=True)
-        begun = time.monotonic()
-        await run.drains()
-        drained, balances = time.monotonic() - begun, await run.compare()
+    asyncio.get_running_loop().set_default_executor(ThreadPoolExecutor(3 * asked.clients))
+    await run.starts()
+    begun = time.monotonic()
+    until = begun + asked.seconds
+    clients = [asyncio.create_task(run.client(number)) for number in range(asked.clients)]
+    kills = [asyncio.create_task(run.breaks(until)), asyncio.create_task(run.breaks_broker(until)),
+             asyncio.create_task(run.cuts(until)), asyncio.create_task(run.fills(until)),
+             asyncio.create_task(periods(run, begun))]
+    try:
+        while not all(kill.done() for kill in kills):
+            done, _ = await asyncio.wait(clients + kills, timeout=1, return_when=asyncio.FIRST_EXCEPTION)
+            for task in done:
+                task.result()
+        run.is_over = True
+        await asyncio.wait_for(asyncio.gather(*clients), asked.patience)
+    finally:
+        for task in clients + kills:
+            task.cancel()
+        await asyncio.gather(*clients, *kills, return_exceptions=True)
+    begun = time.monotonic()
+    await run.drains()
+    drained, balances = time.monotonic() - begun, await run.compare()
     run.ends()
     return balances, drained
 
@@ -464,16 +488,6 @@ async def periods(run: Run, begun: float) -> None:
     for period in range(1, run.asked.periods):
         await asyncio.sleep(max(0, begun + run.asked.seconds * period / run.asked.periods - time.monotonic()))
         await run.closes()
-
-
-def slow_disk(folder: str, microseconds: int) -> None:
-    """Has each wait for the disk of what is started from now on take longer, if there is a compiler for C."""
-    os.environ["SYNC_US"] = str(microseconds)
-    source, library = os.path.join(folder, "slow.c"), os.path.join(folder, "slow.so")
-    with open(source, "w") as file:
-        file.write(SLOW)
-    subprocess.run(["cc", "-shared", "-fPIC", "-o", library, source], check=True)
-    os.environ["LD_PRELOAD"] = library
 
 
 def tried(asked: argparse.Namespace, seed: int, folder: str) -> str:
@@ -487,17 +501,15 @@ def tried(asked: argparse.Namespace, seed: int, folder: str) -> str:
     broker = cluster.Cluster(os.path.join(folder, "broker"), asked.patience)
     keys = {"accounts": [[name, 10_000] for name in ACCOUNTS], "inbox": inbox}
     bank = cluster.Bank(asked.program, folder, broker, **keys)
+    run = Run(bank, broker, asked, seed)
     try:
         broker.start_all()
-        for site in range(bank.sites):
-            bank.start(site)
-        for site in range(bank.sites):
-            bank.wait(site, asked.patience)
-        run = Run(bank, broker, asked, seed)
         balances, drained = asyncio.run(happens(run))
     finally:
         bank.stop()
         broker.stop()
+        for part in (*run.nets, run.disk):
+            part.end()
     look_logs(bank)
     what = f"seed {seed}, inbox {inbox}" + (f", each wait for the disk {slow} us longer" if slow else "")
     return said(run, balances, drained, *look(run, balances), what)
@@ -509,7 +521,8 @@ def said(run: Run, balances: Json, drained: float, operations: int, entries: int
     return (f"{what}: {len(run.told):,} requests of {run.asked.clients} clients in {run.period} periods,"
             f" each in the journals once, as it was answered\n"
             f"  {count['children']} children, {count['services']} services and {count['nodes']} nodes of the broker"
-            f" killed, {count['held']} services held; {count['closings killed']} closings killed,"
+            f" killed, {count['held']} services held, {count['cut off']} cut off from the nodes,"
+            f" a disk full {count['full']} times; {count['closings killed']} closings killed,"
             f" {count['closings given up']} given up\n"
             f"  {count['replies lost']:,} replies lost, {count['told to wait']:,} clients sent away to wait,"
             f" {count['asked twice']:,} asked twice; the longest wait {run.slowest:.1f} s\n"
@@ -540,6 +553,8 @@ def options() -> argparse.Namespace:
 
 def main() -> int:
     asked = options()
+    cluster.check_packages()
+    signal.signal(signal.SIGTERM, signal.default_int_handler)  # what was started is ended
     for seed in range(asked.seed, asked.seed + asked.seeds):
         folder = os.path.join(asked.folder or tempfile.mkdtemp(prefix="chaos-"), str(seed))
         os.makedirs(folder)

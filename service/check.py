@@ -412,7 +412,7 @@ def described(folder: str) -> None:
     """openapi.yaml is served, and says what was asked of services and what they answered."""
     import jsonschema
     import yaml
-    from service import MAY, METRICS
+    from service import MAY
     service = Http(folder)
     service.wait()
     page = yaml.safe_load(service.ask("/openapi.yaml")[1])
@@ -425,11 +425,7 @@ def described(folder: str) -> None:
         same(f"GET {path}", service.ask(path)[0], 200)
     asks(os.path.join(folder, "asks"))
     tokens(os.path.join(folder, "tokens"))
-    with open(os.path.join(HERE, "OPERATING.md")) as file:
-        rows = re.findall(r"(?m)^\| `(\w+)`(?: less `(\w+)`)? \| ", file.read())
-    same("what is to be watched", {*sum(rows, ())} - {"", "process_open_fds"} - set(METRICS), set())
-    text = service.ask("/metrics")[1]
-    same("metrics", [name for name in METRICS if f"# TYPE rbbank_{name.removesuffix('_total')}" not in text], [])
+    watched(service.ask("/metrics")[1])
     same("its verbs", set(page["components"]["schemas"]["Event"]["properties"]) - {"bank", "id"}, set(MAY))
     wanted = {(path, method) for path, methods in page["paths"].items() for method in methods}
     found = set()
@@ -448,6 +444,15 @@ def described(folder: str) -> None:
             fault = best(jsonschema.Draft202012Validator(said[kind]["schema"] | schemas), json.loads(text))
             same(f"{method} {asked}: {text[:200]}", fault, None)
     same("all that is described was asked", wanted - found, set())
+
+
+def watched(text: str) -> None:
+    """There is what OPERATING.md has watched, and all is in the metrics."""
+    from service import METRICS
+    with open(os.path.join(HERE, "OPERATING.md")) as file:
+        rows = re.findall(r"(?m)^\| `(\w+)`(?: less `(\w+)`)? \| ", file.read())
+    same("what is to be watched", {*sum(rows, ())} - {"", "process_open_fds"} - set(METRICS), set())
+    same("metrics", [name for name in METRICS if f"# TYPE rbbank_{name.removesuffix('_total')}" not in text], [])
 
 
 def best(validator: Any, value: Any) -> str | None:
@@ -543,6 +548,7 @@ def fronts(folder: str) -> None:
             ("its body in parts", 2, [whole[:-20], whole[-20:-5], whole[-5:] + post(other)], [made, second]),
             ("spaces in parts", 2, [post(deposit + b" " * 9)[:-9], b" " * 9 + post(other)], [made, second]),
             ("its head in parts", 1, [whole[:30], whole[30:]], [made]),
+            ("spaces around a key", 1, [post(b'{"deposit":["ann",5]}', "Idempotency-Key:  k ")], [made]),
             ("two at once", 2, [whole + post(other)], [made, second]),
             ("and a half", 2, [whole + post(other)[:-9], post(other)[-9:]], [made, second]),
             ("a question between", 3, [whole + b"GET /zed HTTP/1.1\r\nHost: %b\r\n\r\n" % service.http[0].encode()

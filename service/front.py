@@ -16,7 +16,7 @@ from aiohttp.helpers import rfc822_formatted_time
 from aiohttp.web_protocol import RequestHandler
 
 PLAIN = re.compile(rb"POST /events HTTP/1\.1\r\n((?:[\w-]+: [ -~]*\r\n)+)\r\n")
-HEAD = re.compile(rb"([\w-]+): ([ -~]*)\r\n")
+HEAD = re.compile(rb"([\w-]+): *([ -~]*?) *\r\n")
 ODD = {b"connection", b"content-encoding", b"expect", b"origin", b"trailer", b"transfer-encoding", b"upgrade"}
 MOST = 1 << 20  # bytes of a request, or of those that wait after it
 REASONS = {200: "OK", 400: "Bad Request", 403: "Forbidden", 404: "Not Found", 409: "Conflict",

@@ -124,7 +124,7 @@ def end_of(folder: str, check: str, program: str) -> tuple[int, str]:
 def tried(mutant: Mutant | None, check: str, program: str) -> tuple[int | None, str]:
     """How a check ends on a copy with this change, and what it says; None if the change can't be made."""
     with tempfile.TemporaryDirectory(prefix="mutant-") as folder:
-        for part in ("service", "docs", os.path.join("examples", "tools")):
+        for part in ("service", "docs", "examples"):
             shutil.copytree(os.path.join(cluster.HERE, "..", part), os.path.join(folder, part))
         if mutant:
             path = os.path.join(folder, "service", mutant.file)

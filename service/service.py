@@ -278,7 +278,10 @@ class Service:
 
     async def step(self, request: web.Request) -> web.Response:
         """A step of close.py."""
-        return reply_of(*await self.desk.step(await request.json()))
+        try:
+            return reply_of(*await self.desk.step(await request.json()))
+        except OSError as why:
+            raise web.HTTPServiceUnavailable(text=f"the site's disk: {why}") from None
 
     # ---- from start to end
 

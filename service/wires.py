@@ -16,6 +16,7 @@ from typing import Any
 
 import aio_pika
 from aio_pika.abc import AbstractChannel, AbstractConnection, AbstractQueue
+from pamqp.exceptions import PAMQPException
 
 from site_child import Desk, Json, compact, until
 
@@ -28,7 +29,7 @@ LONG = 60  # seconds that a queue may wait for an operation that others bring
 SAY = 0.1  # seconds between two times that a service says where it is
 FULL = (16, 23)  # refusals of a message that isn't lost by them: its queue waits
 ANOTHER = 18  # the refusal of a message with the name of another operation
-FAULTS = (aio_pika.exceptions.AMQPError, OSError, asyncio.TimeoutError, RuntimeError)
+FAULTS = (aio_pika.exceptions.AMQPError, PAMQPException, OSError, asyncio.TimeoutError, RuntimeError)
 
 
 async def together(again: float, *parts: Coroutine[Any, Any, Any]) -> None:
@@ -159,5 +160,6 @@ class Wires:
         while True:
             said = aio_pika.Message(compact(self.desk.says()).encode())
             await exchange.publish(said, "", mandatory=False, timeout=PATIENCE)
-            self.period.keep("confirmed", self.confirmed(), lasting=False)
+            with contextlib.suppress(OSError):  # (the disk is full, and the file may be old)
+                self.period.keep("confirmed", self.confirmed(), lasting=False)
             await asyncio.sleep(SAY)
