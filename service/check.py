@@ -33,6 +33,7 @@ sys.dont_write_bytecode = True
 HERE = os.path.dirname(os.path.abspath(__file__))
 sys.path[:0] = [HERE, os.path.join(HERE, "..", "examples", "tools")]
 import bank
+import client
 import cluster
 import site_child
 from client import Client, Denied
@@ -317,9 +318,10 @@ async def closes(folder: str) -> None:
 
 
 def texts(folder: str) -> None:
-    """Each refusal that docs/FORMAT.md lists has its text."""
+    """Each refusal that docs/FORMAT.md lists has its text, and each request its key."""
     with open(os.path.join(HERE, "refusals.json")) as file:
         same("refusals", sorted(map(int, json.load(file))), sorted(bank.NUMBERS))
+    same("what has a key", client.KEYED, {*site_child.REQUESTS})
 
 
 # ---- HTTP
