@@ -703,6 +703,17 @@ async def keeps(folder: str) -> None:
             await other.hears(message(made.desk.says()))
     found = [call.args[0] % call.args[1:] for call in error.call_args_list]
     same("an older copy", found, ["site 1 has another B0.2: an older copy of this journal was started"])
+    import wires as module
+    connect = module.aio_pika.connect
+    for fault in (module.PAMQPException, StopAsyncIteration):  # what a connection's end comes to at times
+        async def fails(*_: Any, fault: type[Exception] = fault, **__: Any) -> None:
+            raise fault
+        module.aio_pika.connect = fails
+        task = asyncio.create_task(wires(folder, 1, ["amqp://127.0.0.1:1/"])[0].run())
+        await asyncio.wait({task}, timeout=0.5)
+        same(f"{fault.__name__} ends no service", task.done(), False)
+        task.cancel()
+    module.aio_pika.connect = connect
 
 
 async def queues(folder: str) -> None:

@@ -104,6 +104,8 @@ MUTANTS = {
                 await channel.default_exchange.publish(""", KEEPS),
     "confirms_arent_waited_for": Mutant("wires.py", "connection.channel(on_return_raises=True)",
                                         "connection.channel(publisher_confirms=False)", QUEUES),
+    "a_cut_ends_the_service": Mutant("wires.py", "AMQPError, PAMQPException,", "AMQPError,", KEEPS),
+    "a_handshake_ends_the_service": Mutant("wires.py", "          StopAsyncIteration)", "          OSError)", KEEPS),
     "full_inbox_is_done": Mutant("wires.py", "FULL = (16, 23)", "FULL = (23,)", KEEPS),
     "keys_of_the_closed_are_unknown": Mutant("service.py", "if line is None or event.get", "if True or event.get",
                                              PERIODS),

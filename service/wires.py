@@ -29,7 +29,8 @@ LONG = 60  # seconds that a queue may wait for an operation that others bring
 SAY = 0.1  # seconds between two times that a service says where it is
 FULL = (16, 23)  # refusals of a message that isn't lost by them: its queue waits
 ANOTHER = 18  # the refusal of a message with the name of another operation
-FAULTS = (aio_pika.exceptions.AMQPError, PAMQPException, OSError, asyncio.TimeoutError, RuntimeError)
+FAULTS = (aio_pika.exceptions.AMQPError, PAMQPException, OSError, asyncio.TimeoutError, RuntimeError,
+          StopAsyncIteration)  # (the last, if a connection ends in its handshake)
 
 
 async def together(again: float, *parts: Coroutine[Any, Any, Any]) -> None:
