@@ -147,7 +147,7 @@ class Wires:
             if "refused" in answer.get("reply", {"refused"}):
                 logging.error("the site doesn't take %r: %s", line[:500], compact(answer)[:200])
             if answer.get("reply", {}).get("refused") == ANOTHER:
-                shadow = message_of(line)["shadow"]
+                shadow = json.loads(line)["shadow"]
                 self.desk.others.setdefault(shadow["home"], shadow["name"])
 
     async def talk(self, connection: AbstractConnection) -> None:
