@@ -265,4 +265,5 @@ refuse: build
 
 # The mutants that the gate leaves out for its time.
 mutants:
+	@$(WITH_RT)
 	@tests/mutants.py $(or $(CRATE),--all)
