@@ -11,7 +11,7 @@ site's number. By pipes, by a broker and by ssh:
 (`grep` writes whole lines. `cat` may write the first part of one, and then what another process writes into the same
 pipe comes between its parts.)
 
-The replies go to standard output, a line each; those of the applications behind them. With --apart a line says whose
+The replies go to standard output, a line each; those of the applications after them. With --apart a line says whose
 reply it is: {"client":R} of a request or a question, with the `id` and `again` of its answer, {"peer":R} of a message
 of another site, {"then":R} of an application. (A refusal 23 or 26 without an id may be a message's as well.)
 
@@ -31,7 +31,7 @@ its messages again.
 If the site refuses a message with 18, standard error says so once: an older copy of its sender's journal was started.
 
 After the site's last line, what still waits is given on. The status is 1 if a command, or the reader of the replies,
-takes nothing for the seconds of --wait, or ended in another status than 0 behind its last line, or if a message was
+takes nothing for the seconds of --wait, or ended in another status than 0 after its last line, or if a message was
 dropped and didn't come again.
 """
 import argparse
