@@ -80,7 +80,7 @@ def of_histories(found, data, path):
 def main():
     asked = options()
     if bank.word_of(asked.file) == "site":
-        raise bank.Stop(f"{asked.file}: the lines of a site, which wants a journal as well; check.py runs it")
+        raise bank.Stop(f"{asked.file}: the lines of a site, with a journal; explain.py answers them over a new one")
     data = bank.read(asked.file)
     program = bank.program(asked.program)
     found = world.world_of(program, data)

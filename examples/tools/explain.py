@@ -2,9 +2,9 @@
 """Runs a script, the audit of histories, or a site, and says in words what happened.
 
 A script: what each command did, with the meaning of each refusal. Histories: whether one world has them, else which
-line is at fault, which entry that is, and what the site answers there. The lines of a site, with --as site: what site
---me answers to each over a new journal, what it sends and what it applies then. A bad line: the line, a caret and the
-reason.
+line is at fault, which entry that is, and what the site answers there. The lines of a site, as x.site.jsonl or with
+--as site: what site --me answers to each over a new journal, what it sends and what it applies then. A bad line: the
+line, a caret and the reason.
 
 The status is the program's: 0, or 1 if an audit found a fault, or 2 at a bad line.
 """
@@ -35,7 +35,7 @@ def options():
     reader = argparse.ArgumentParser(description=__doc__, formatter_class=argparse.RawDescriptionHelpFormatter)
     reader.add_argument("file", metavar="FILE", help="a script, histories or a site's lines; - is standard input")
     reader.add_argument("--as", dest="kind", choices=["script", "audit", "site"],
-                        help="what to run; else a script or an audit, by the second line")
+                        help="what to run; else a site by a name as x.site.jsonl, else a script or an audit")
     reader.add_argument("--me", metavar="S", type=int, default=0, help="the site of --as site, 0")
     reader.add_argument("--program", metavar="PATH", help=bank.WHICH)
     return reader.parse_args()
@@ -226,7 +226,8 @@ def explained(program, data, kind=None, me=0):
 def main():
     words = options()
     data = bank.read(words.file)
-    lines, status = explained(bank.program(words.program), data, words.kind, words.me)
+    kind = words.kind or ("site" if bank.word_of(words.file) == "site" else None)
+    lines, status = explained(bank.program(words.program), data, kind, words.me)
     for line in lines:
         print(line)
     return status
