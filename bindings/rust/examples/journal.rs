@@ -1,6 +1,7 @@
 //! A site whose journal is in a file, as a filter: `journal SITE JOURNAL [--new] < EVENTS`. It begins a new journal
 //! with `--new`, else it goes on from the one that is there, and answers each line of its input by a line, a bad one by
-//! `{"bad":..}`. Kill it at any moment and start it again, without `--new`.
+//! `{"bad":..}`. Kill it at any moment and start it again, without `--new`. In bindings/rust, with `RBBANK_LIB` if the
+//! library is elsewhere: `cargo run --example journal -- 0 site.journal --new`.
 use rbbank::{Journal, JournalError};
 use std::error::Error;
 use std::io::{self, BufRead, Write};
