@@ -1,5 +1,7 @@
 //! What a configuration fixes, and the words that all parts share: names, operations, refusals.
 
+use crate::kinds::Kind;
+
 /// The place of an account that the configuration doesn't have.
 pub const NOWHERE: u32 = 0xffff;
 
@@ -17,23 +19,6 @@ pub const MOST_ROWS: usize = MOST_SITES + 1;
 pub struct Name {
     pub row: u32,
     pub number: u32,
-}
-
-#[derive(Clone, Copy, PartialEq, Eq, Debug)]
-pub enum Kind {
-    Deposit,
-    Withdraw,
-    Declined,
-    Interest,
-    Cancel,
-    Transfer,
-}
-
-impl Kind {
-    /// Whether an operation of the kind may be cancelled.
-    pub fn may_be_cancelled(self) -> bool {
-        !matches!(self, Kind::Declined | Kind::Cancel)
-    }
 }
 
 /// An operation without its clock. A transfer has the account that it goes to, a cancellation its target's name.
@@ -62,16 +47,6 @@ pub struct TokenMessage {
     pub epoch: u32,
     pub to: u8,
     pub red: u32,
-}
-
-/// What a client asks for.
-#[derive(Clone, Copy, Debug)]
-pub enum Request {
-    Deposit { account: u32, amount: u64 },
-    Withdraw { account: u32, amount: u64 },
-    Interest { account: u32, rate: u32 },
-    Cancel { target: Name },
-    Transfer { from: u32, to: u32, amount: u64 },
 }
 
 /// What stopped a batch.
@@ -286,6 +261,11 @@ impl Bank {
 
     pub fn has(&self, account: u32) -> bool {
         (account as usize) < self.accounts.len()
+    }
+
+    /// Refuses an account that it doesn't have.
+    pub fn known(&self, account: u32) -> Result<(), Refusal> {
+        if self.has(account) { Ok(()) } else { Err(Refusal::UNKNOWN_ACCOUNT) }
     }
 
     /// The entries of a clock: the red operations, and then each site's blue ones.

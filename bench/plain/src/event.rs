@@ -1,6 +1,7 @@
 //! Lines of commands, and the events of histories.
 
-use crate::bank::{Bank, Kind, MOST_CENTS, MOST_ROWS, MOST_SITES, NOWHERE, Name, Op, Request, TokenMessage};
+use crate::bank::{Bank, MOST_CENTS, MOST_ROWS, MOST_SITES, NOWHERE, Name, Op, TokenMessage};
+use crate::kinds::{Kind, Request};
 use crate::scan::Scan;
 use std::ops::Range;
 
@@ -72,11 +73,10 @@ impl Shadow {
         if !bank.has(self.account) || self.is_misdirected(bank) {
             return Some(3);
         }
-        let may_be_nothing = matches!(self.kind, Kind::Interest | Kind::Cancel);
-        if self.amount > MOST_CENTS || (self.amount == 0 && !may_be_nothing) {
+        if self.amount > MOST_CENTS || (self.amount == 0 && !self.kind.may_be_nothing()) {
             return Some(4);
         }
-        if self.kind != Kind::Cancel && is_red != matches!(self.kind, Kind::Withdraw | Kind::Transfer) {
+        if self.kind != Kind::Cancel && is_red != self.kind.takes() {
             return Some(5);
         }
         if self.kind == Kind::Cancel && self.cancels_unseen(bank) {
@@ -86,7 +86,7 @@ impl Shadow {
     }
 
     fn is_misdirected(&self, bank: &Bank) -> bool {
-        self.kind == Kind::Transfer && (!bank.has(self.to) || self.to == self.account)
+        self.kind.has_receiver() && (!bank.has(self.to) || self.to == self.account)
     }
 
     fn cancels_unseen(&self, bank: &Bank) -> bool {
@@ -256,7 +256,7 @@ impl Scan<'_> {
             self.expect(b",\"target\":")?;
             shadow.target = self.name()?;
         }
-        if shadow.kind == Kind::Transfer {
+        if shadow.kind.has_receiver() {
             self.expect(b",\"to\":")?;
             parts.shadow.to = self.account(bank, parts)?;
         }

@@ -1,6 +1,7 @@
 //! A site's history as text: a line for each entry, as an audit reads it.
 
-use crate::bank::{Bank, Kind, MOST_ROWS, NOWHERE, Name, Op, Refusal, Request, TokenMessage};
+use crate::bank::{Bank, MOST_ROWS, NOWHERE, Name, Op, Refusal, TokenMessage};
+use crate::kinds::Kind;
 use crate::ledger::Ledger;
 use crate::ops::Ops;
 use crate::site::Reply;
@@ -82,37 +83,10 @@ impl Piece<'_> {
     }
 
     /// An account's name, with its quotes.
-    fn account(&mut self, bank: &Bank, account: u32) {
+    pub fn account(&mut self, bank: &Bank, account: u32) {
         self.text(b"\"");
         self.slice(&bank.accounts.names()[account as usize]);
         self.text(b"\"");
-    }
-
-    /// A member whose value is an account and a number.
-    fn pair<const N: usize>(&mut self, key: &[u8; N], bank: &Bank, account: u32, number: u64) {
-        self.text(key);
-        self.account(bank, account);
-        self.text(b",");
-        self.number(number);
-        self.text(b"]");
-    }
-
-    fn request(&mut self, bank: &Bank, request: Request) {
-        match request {
-            Request::Deposit { account, amount } => self.pair(b"\"deposit\":[", bank, account, amount),
-            Request::Withdraw { account, amount } => self.pair(b"\"withdraw\":[", bank, account, amount),
-            Request::Interest { account, rate } => self.pair(b"\"interest\":[", bank, account, rate.into()),
-            Request::Cancel { target } => {
-                self.text(b"\"cancel\":");
-                self.name(target);
-            }
-            Request::Transfer { from, to, amount } => {
-                self.text(b"\"transfer\":[");
-                self.account(bank, from);
-                self.text(b",");
-                self.pair(b"", bank, to, amount);
-            }
-        }
     }
 
     fn token(&mut self, token: &TokenMessage) {

@@ -1,6 +1,7 @@
 //! What a site applied: the operations in order, and what is asked of them.
 
-use crate::bank::{Bank, Kind, NOWHERE, Name, Op, Refusal};
+use crate::bank::{Bank, NOWHERE, Name, Op, Refusal};
+use crate::kinds::Kind;
 use crate::ops::Ops;
 
 /// An applied operation: its place among all, and the position of the first cancellation of it, or 0.
@@ -158,15 +159,11 @@ impl Ledger {
     /// What the operation would do at the end.
     #[inline]
     pub fn effect(&self, ops: &Ops, op: &Op) -> Effect {
-        let amount = op.amount as i64;
-        let (other, change, other_change) = match op.kind {
-            Kind::Deposit | Kind::Interest => (NOWHERE, amount, 0),
-            Kind::Withdraw => (NOWHERE, -amount, 0),
-            Kind::Declined => (NOWHERE, 0, 0),
-            Kind::Transfer => (u32::from(op.to), -amount, amount),
-            Kind::Cancel => return self.effect_of_cancel(ops, op),
-        };
-        Effect { account: op.account.into(), other, change, other_change }
+        if op.kind == Kind::Cancel {
+            return self.effect_of_cancel(ops, op);
+        }
+        let (change, other_change) = op.kind.moved(op.amount as i64);
+        Effect { account: op.account.into(), other: op.to.into(), change, other_change }
     }
 
     /// The first cancellation takes back what its target did; a later one does nothing.
@@ -205,7 +202,7 @@ impl Ledger {
         let Some(target) = target.filter(|target| may_cancel(op, target)) else {
             return Some(6);
         };
-        let (is_blue, may_be_blue) = (op.row != 0, target.kind == Kind::Withdraw);
+        let (is_blue, may_be_blue) = (op.row != 0, target.kind.only_takes());
         (is_blue != may_be_blue).then_some(5)
     }
 

@@ -8,6 +8,7 @@ mod event;
 mod history;
 mod inbox;
 mod json;
+mod kinds;
 mod ledger;
 mod lines;
 mod migrate;

@@ -1,6 +1,6 @@
 //! What a text begins with as programs spell it: no space, no escape. `None` says that it begins otherwise.
 
-use crate::bank::{Bank, Key, Kind, NOWHERE, Name, Request};
+use crate::bank::{Bank, Key, NOWHERE, Name};
 use crate::event::Parts;
 
 /// What is left of a text that is read from its start.
@@ -140,63 +140,6 @@ impl<'a> Scan<'a> {
         self.rest = behind;
         self.expect(b"\"")?;
         Some(text)
-    }
-
-    /// A kind's word behind its first quote, with its last one.
-    #[inline]
-    pub fn kind(&mut self) -> Option<Kind> {
-        match self.peek()? {
-            b'd' if self.take(b"deposit\"") => Some(Kind::Deposit),
-            b'd' => self.expect(b"declined\"").map(|()| Kind::Declined),
-            b'w' => self.expect(b"withdraw\"").map(|()| Kind::Withdraw),
-            b'i' => self.expect(b"interest\"").map(|()| Kind::Interest),
-            b'c' => self.expect(b"cancel\"").map(|()| Kind::Cancel),
-            _ => self.expect(b"transfer\"").map(|()| Kind::Transfer),
-        }
-    }
-
-    /// A number in a list that ends with it.
-    #[inline(always)]
-    fn amount(&mut self) -> Option<u64> {
-        self.expect(b",")?;
-        let amount = self.number()?;
-        self.expect(b"]")?;
-        Some(amount)
-    }
-
-    /// A request, from its key on.
-    #[inline(always)]
-    pub fn request(&mut self, bank: &Bank, parts: &mut Parts) -> Option<Request> {
-        match self.peek()? {
-            b'd' => {
-                self.expect(b"deposit\":[")?;
-                Some(Request::Deposit { account: self.account(bank, parts)?, amount: self.amount()? })
-            }
-            b'w' => {
-                self.expect(b"withdraw\":[")?;
-                Some(Request::Withdraw { account: self.account(bank, parts)?, amount: self.amount()? })
-            }
-            b'i' => {
-                self.expect(b"interest\":[")?;
-                let account = self.account(bank, parts)?;
-                Some(Request::Interest { account, rate: u32::try_from(self.amount()?).ok()? })
-            }
-            b'c' => {
-                self.expect(b"cancel\":")?;
-                Some(Request::Cancel { target: self.name()? })
-            }
-            b't' => self.transfer(bank, parts),
-            _ => None,
-        }
-    }
-
-    #[inline(always)]
-    fn transfer(&mut self, bank: &Bank, parts: &mut Parts) -> Option<Request> {
-        self.expect(b"transfer\":[")?;
-        let from = self.account(bank, parts)?;
-        self.expect(b",")?;
-        let to = self.account(bank, parts)?;
-        Some(Request::Transfer { from, to, amount: self.amount()? })
     }
 
     /// The requests of a batch, from the first bracket to the last.

@@ -1,15 +1,13 @@
 //! One site of the bank, one event at a time.
 
-use crate::bank::{Bank, Cause, Kind, MOST_CENTS, NOWHERE, Name, Op, Refusal, Request, TokenMessage};
+use crate::bank::{Bank, Cause, Name, Op, Refusal, TokenMessage};
 use crate::inbox::{Held, Inbox};
+use crate::kinds::{Kind, Plan, Request};
 use crate::ledger::Ledger;
 use crate::ops::Ops;
 
 /// The most requests of a batch.
 const MOST_REQUESTS: usize = 16;
-
-/// The most basis points of interest, which are also all.
-const MOST_RATE: u32 = 10_000;
 
 /// What a site answers.
 #[derive(Clone, Copy)]
@@ -115,77 +113,7 @@ impl Site {
     /// The operation that a request makes, still without its name.
     #[inline]
     fn plan(&self, bank: &Bank, ops: &Ops, request: &Request) -> Result<Op, Refusal> {
-        match *request {
-            Request::Deposit { account, amount } => {
-                known(bank, account)?;
-                is_amount(amount)?;
-                Ok(self.planned(account, amount, Kind::Deposit))
-            }
-            Request::Withdraw { account, amount } => {
-                known(bank, account)?;
-                is_amount(amount)?;
-                Ok(self.planned(account, amount, self.if_covered(account, amount, Kind::Withdraw)))
-            }
-            Request::Interest { account, rate } => {
-                known(bank, account)?;
-                let amount = self.interest(account, rate)?;
-                Ok(self.planned(account, amount, Kind::Interest))
-            }
-            Request::Cancel { target } => self.plan_cancel(ops, target),
-            Request::Transfer { from, to, amount } => {
-                known(bank, from)?;
-                known(bank, to)?;
-                is_amount(amount)?;
-                self.plan_transfer(from, to, amount)
-            }
-        }
-    }
-
-    fn planned(&self, account: u32, amount: u64, kind: Kind) -> Op {
-        let (account, to) = (account as u16, NOWHERE as u16);
-        Op { amount, number: 0, target_number: 0, account, to, row: 0, target_row: 0, home: self.me, kind }
-    }
-
-    /// The kind that was asked for, where the balance covers the amount.
-    fn if_covered(&self, account: u32, amount: u64, kind: Kind) -> Kind {
-        if self.ledger.balance(account) < amount { Kind::Declined } else { kind }
-    }
-
-    /// The balance's share, rounded down. The product is taken in two parts, as the whole of it can be over 64 bits.
-    fn interest(&self, account: u32, rate: u32) -> Result<u64, Refusal> {
-        if rate > MOST_RATE {
-            return Err(Refusal::BAD_RATE);
-        }
-        let (balance, all, rate) = (self.ledger.balance(account), u64::from(MOST_RATE), u64::from(rate));
-        let share = balance / all * rate + balance % all * rate / all;
-        if share > MOST_CENTS {
-            return Err(Refusal::DELTA_TOO_LARGE);
-        }
-        Ok(share)
-    }
-
-    fn plan_transfer(&self, from: u32, to: u32, amount: u64) -> Result<Op, Refusal> {
-        if from == to {
-            return Err(Refusal::SAME_ACCOUNT);
-        }
-        let kind = self.if_covered(from, amount, Kind::Transfer);
-        let to = if kind == Kind::Transfer { to } else { NOWHERE };
-        Ok(Op { to: to as u16, ..self.planned(from, amount, kind) })
-    }
-
-    fn plan_cancel(&self, ops: &Ops, target: Name) -> Result<Op, Refusal> {
-        let Some((place, cancelled_at)) = self.ledger.find(target) else {
-            return Err(Refusal::UNKNOWN_OPERATION);
-        };
-        let op = ops.get(place);
-        if !op.kind.may_be_cancelled() {
-            return Err(Refusal::NOT_CANCELLABLE);
-        }
-        if cancelled_at != 0 {
-            return Err(Refusal::AlreadyCancelled { position: cancelled_at });
-        }
-        let planned = self.planned(op.account.into(), op.amount, Kind::Cancel);
-        Ok(Op { target_row: op.row, target_number: op.number, ..planned })
+        Plan { bank, ops, ledger: &self.ledger, me: self.me }.of(request)
     }
 
     /// Makes a planned operation, which gets the next name of its colour, and applies it. Gives its place among all.
@@ -211,14 +139,11 @@ impl Site {
 
     /// Whether an operation takes from an account.
     fn is_red(&self, ops: &Ops, op: &Op) -> bool {
-        match op.kind {
-            Kind::Withdraw | Kind::Transfer => true,
-            Kind::Cancel => {
-                let target = Name { row: u32::from(op.target_row), number: op.target_number };
-                self.ledger.find(target).is_none_or(|(place, _)| ops.get(place).kind != Kind::Withdraw)
-            }
-            _ => false,
+        if op.kind != Kind::Cancel {
+            return op.kind.takes();
         }
+        let target = Name { row: u32::from(op.target_row), number: op.target_number };
+        self.ledger.find(target).is_none_or(|(place, _)| !ops.get(place).kind.only_takes())
     }
 
     fn may_make_red(&self) -> Result<(), Refusal> {
@@ -323,12 +248,12 @@ impl Site {
 
     #[inline]
     pub fn balance(&self, bank: &Bank, account: u32) -> Result<Reply, Refusal> {
-        known(bank, account)?;
+        bank.known(account)?;
         Ok(Reply::Balance(self.ledger.balance(account)))
     }
 
     pub fn balance_as_of(&self, bank: &Bank, account: u32, position: u32) -> Result<Reply, Refusal> {
-        known(bank, account)?;
+        bank.known(account)?;
         if position as usize > self.ledger.len() {
             return Err(Refusal::POSITION_BEYOND);
         }
@@ -336,15 +261,7 @@ impl Site {
     }
 
     pub fn statement(&self, bank: &Bank, account: u32) -> Result<Reply, Refusal> {
-        known(bank, account)?;
+        bank.known(account)?;
         Ok(Reply::Statement(account))
     }
-}
-
-fn known(bank: &Bank, account: u32) -> Result<(), Refusal> {
-    if bank.has(account) { Ok(()) } else { Err(Refusal::UNKNOWN_ACCOUNT) }
-}
-
-fn is_amount(amount: u64) -> Result<(), Refusal> {
-    if (1..=MOST_CENTS).contains(&amount) { Ok(()) } else { Err(Refusal::BAD_AMOUNT) }
 }

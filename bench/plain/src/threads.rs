@@ -1,8 +1,9 @@
 //! Runs of tellers: each in a thread of its own, and one more thread at each site that receives and applies.
 
-use crate::bank::{Bank, Limits, MOST_ROWS, Name, Op, Refusal, Request, TokenMessage};
+use crate::bank::{Bank, Limits, MOST_ROWS, Name, Op, Refusal, TokenMessage};
 use crate::config::write_config;
 use crate::history::History;
+use crate::kinds::Request;
 use crate::lines::Fault;
 use crate::ops::Ops;
 use crate::site::{Reply, Site};

@@ -1,6 +1,6 @@
 //! What is written: bytes that wait for the output, and replies.
 
-use crate::bank::{Bank, Cause, Kind, Name, Op, Refusal};
+use crate::bank::{Bank, Cause, Name, Op, Refusal};
 use crate::ledger::{Ledger, Row};
 use crate::ops::Ops;
 use crate::site::Reply;
@@ -226,18 +226,6 @@ impl Piece<'_> {
         }
         self.number(u64::from(name.number));
         self.text(b"\"");
-    }
-
-    /// A kind's word.
-    pub fn kind(&mut self, kind: Kind) {
-        match kind {
-            Kind::Deposit => self.text(b"deposit"),
-            Kind::Withdraw => self.text(b"withdraw"),
-            Kind::Declined => self.text(b"declined"),
-            Kind::Interest => self.text(b"interest"),
-            Kind::Cancel => self.text(b"cancel"),
-            Kind::Transfer => self.text(b"transfer"),
-        }
     }
 
     #[inline(always)]
