@@ -31,9 +31,8 @@ def shadow(run, operation, version):
         "kind": operation.kind,
         "name": operation.name,
     }
-    if operation.kind == "cancel":
-        return told | {"target": operation.target.name}
-    return told | ({"to": run.names[operation.to]} if operation.kind == "transfer" else {})
+    target = {} if operation.target is None else {"target": operation.target.name}
+    return told | target | ({} if operation.to is None else {"to": run.names[operation.to]})
 
 
 class Known:

@@ -3,13 +3,15 @@
 Follows the sites as it goes (what each applied and holds, balances, the token), so that every command
 is accepted but for those that repeat. A command costs the same time here however long the script is.
 """
+import functools
 import random
 
 from limits import LIMITS
-from bank import COMMANDS
+from bank import COMMANDS, REQUESTS, TAKES
 
 MOST = LIMITS["MOST_CENTS"]
-DEFAULT_MIX = "deposit=6,withdraw=3,interest=1,cancel=1,balance=4,pass=1,transfer=1"
+FIRST = "deposit=6,withdraw=3,interest=1,cancel=1,balance=4,pass=1,transfer=1"
+DEFAULT_MIX = FIRST + "".join(f",{verb}=1" for verb in REQUESTS if f"{verb}=" not in FIRST)
 # Of the deliveries, one in this number is of a message that came before.
 REPEATS = 50
 # Of the withdrawals and transfers, one in this number is of more than there is.
@@ -98,7 +100,8 @@ class Mix:
         self.starts = [pick(10_000) for _ in self.names]
         self.sites = [Site(number, sites, self.starts) for number in range(sites)]
         self.sent = []
-        self.requests = [getattr(self, f"make_{verb}") for verb, weight in weights.items() for _ in range(weight)]
+        self.requests = [functools.partial(way_of(verb), self, verb) for verb, weight in weights.items()
+                         for _ in range(weight)]
         self.backlog = backlog
         # How many deliveries and applications are still to come for what was made.
         self.owed = 0
@@ -116,7 +119,7 @@ class Mix:
             return self.applies(site, self.one_of(ready))
         if site.waiting and self.pick(self.backlog) < max(0.4 * self.backlog, len(site.waiting)):
             return self.delivers(site)
-        return self.one_of(self.requests)(site) or self.make_balance(site)
+        return self.one_of(self.requests)(site) or self.make_balance("balance", site)
 
     # ---- messages
 
@@ -127,7 +130,7 @@ class Mix:
             if ready:
                 return self.applies(site, ready[0])
         behind = next((site for site in self.sites if site.waiting), None)
-        return self.delivers(behind) if behind else self.make_balance(self.sites[0])
+        return self.delivers(behind) if behind else self.make_balance("balance", self.sites[0])
 
     def send(self, message, sites, owed):
         self.sent.append(message)
@@ -166,10 +169,10 @@ class Mix:
         others = [other for other in self.sites if other is not site]
         self.send(operation, others, 2 * len(others))
 
-    def make_deposit(self, site):
+    def make_adding(self, verb, site):
         account, amount = self.pick(len(self.names)), 1 + self.pick(1000)
-        self.make(site, "deposit", False, account, amount)
-        return f'{{"deposit":["{self.names[account]}",{amount}],"site":{site.number}}}'
+        self.make(site, verb, False, account, amount)
+        return f'{{"{verb}":["{self.names[account]}",{amount}],"site":{site.number}}}'
 
     def for_red(self, site):
         """The site that may make red operations, if one may now, else this one."""
@@ -184,17 +187,17 @@ class Mix:
             return 1 + self.pick(min(balance, 500)), True
         return None
 
-    def make_withdraw(self, site):
+    def make_taking(self, verb, site):
         site = self.for_red(site)
         account = self.pick(len(self.names))
         taken = self.taken(site, account)
         if taken is None:
             return None
         amount, covered = taken
-        self.make(site, "withdraw" if covered else "declined", covered, account, amount)
-        return f'{{"withdraw":["{self.names[account]}",{amount}],"site":{site.number}}}'
+        self.make(site, verb if covered else "declined", covered, account, amount)
+        return f'{{"{verb}":["{self.names[account]}",{amount}],"site":{site.number}}}'
 
-    def make_transfer(self, site):
+    def make_moving(self, verb, site):
         site = self.for_red(site)
         if len(self.names) < 2:
             return None
@@ -204,32 +207,32 @@ class Mix:
         if taken is None:
             return None
         amount, covered = taken
-        self.make(site, "transfer" if covered else "declined", covered, account, amount, to=to if covered else None)
-        return f'{{"site":{site.number},"transfer":["{self.names[account]}","{self.names[to]}",{amount}]}}'
+        self.make(site, verb if covered else "declined", covered, account, amount, to=to if covered else None)
+        return f'{{"site":{site.number},"{verb}":["{self.names[account]}","{self.names[to]}",{amount}]}}'
 
-    def make_interest(self, site):
+    def make_share(self, verb, site):
         account, rate = self.pick(len(self.names)), self.pick(20)
         amount = site.balances[account] * rate // LIMITS["BASIS_POINTS_OF_ALL"]
         if amount > MOST:
             return None
-        self.make(site, "interest", False, account, amount)
-        return f'{{"interest":["{self.names[account]}",{rate}],"site":{site.number}}}'
+        self.make(site, verb, False, account, amount)
+        return f'{{"{verb}":["{self.names[account]}",{rate}],"site":{site.number}}}'
 
-    def make_cancel(self, site):
+    def make_cancel(self, verb, site):
         site = self.for_red(site)
         if not site.cancellable:
             return None
         target = self.one_of(site.cancellable)
-        red = target.kind != "withdraw"
+        red = COMMANDS[target.kind]["moves"] > 0 or target.to is not None
         if target.name in site.cancelled:
             return None
         covered = all(site.balances[account] >= moved for account, moved in site.changes(target))
         if red and not (site.may_make_red() and covered):
             return None
-        self.make(site, "cancel", red, target.account, target.amount, target)
-        return f'{{"cancel":"{target.name}","site":{site.number}}}'
+        self.make(site, verb, red, target.account, target.amount, target)
+        return f'{{"{verb}":"{target.name}","site":{site.number}}}'
 
-    def make_pass(self, site):
+    def make_pass(self, verb, site):
         """Sends the token on: a pair of its epoch and of the red operations that its next site needs first."""
         site = self.for_red(site)
         if not site.has_token:
@@ -237,16 +240,29 @@ class Mix:
         to = self.one_of([other for other in self.sites if other is not site])
         site.epoch, site.has_token = site.epoch + 1, False
         self.send((site.epoch, max(site.needed, site.reds)), [to], 1)
-        return f'{{"pass":{to.number},"site":{site.number}}}'
+        return f'{{"{verb}":{to.number},"site":{site.number}}}'
 
-    def make_balance(self, site):
-        return f'{{"balance":"{self.one_of(self.names)}","site":{site.number}}}'
+    def make_balance(self, verb, site):
+        return f'{{"{verb}":"{self.one_of(self.names)}","site":{site.number}}}'
+
+
+def way_of(verb):
+    """How a command is made: a request of cents or of a rate by its fields and the sign of what it moves; None of some
+    others, and of what is no command."""
+    takes = TAKES.get(verb, [])
+    if "to" in takes:
+        return Mix.make_moving
+    if "rate" in takes:
+        return Mix.make_share
+    if "cents" in takes:
+        return Mix.make_adding if COMMANDS[verb]["moves"] > 0 else Mix.make_taking
+    return getattr(Mix, f"make_{verb}", None) if takes else None
 
 
 def weights_of(text):
     """The weights that a text such as `deposit=6,balance=4` gives."""
     pairs = [part.split("=") for part in text.split(",")]
-    if any(len(pair) != 2 or not hasattr(Mix, f"make_{pair[0]}") or not pair[1].isdigit() for pair in pairs):
+    if any(len(pair) != 2 or not way_of(pair[0]) or not pair[1].isdigit() for pair in pairs):
         raise ValueError(f"weights are wanted, as {DEFAULT_MIX}")
     return {verb: int(weight) for verb, weight in pairs}
 
