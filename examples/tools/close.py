@@ -91,9 +91,13 @@ def journals_of(period: Period) -> list[Journal]:
     except (KeyError, TypeError, ValueError):
         raise bank.Stop(f"{period.bank}: no configuration") from None
     paths = [period.journal(site) for site in range(sites)]
-    if not any(map(os.path.exists, paths)):
+    absent = [os.path.basename(path) for path in paths if not os.path.exists(path)]
+    if len(absent) == sites:
         raise bank.Stop(f"{period.name} isn't begun: none of its journals is there; start its sites with "
                         f"--bank {period.name}")
+    if absent:
+        raise bank.Stop(f"only some sites of {period.name} are started: there is no {', '.join(absent)}; start the "
+                        f"others with --bank {period.name}, or make a lost journal again by rebuild")
     return [Journal(path) for path in paths]
 
 
