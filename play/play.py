@@ -15,6 +15,7 @@ had. If the page goes back, it is started again on fewer lines: the replies to a
 from __future__ import annotations
 
 import argparse
+import contextlib
 import functools
 import http.server
 import json
@@ -179,7 +180,8 @@ def main() -> int:
         print(f"{address} is answered by {serving.answers.program.what}; Ctrl-C ends it", flush=True)
         if not asked.no_browser:
             threading.Thread(target=webbrowser.open, args=(address,), daemon=True).start()
-        serving.serve_forever()
+        with contextlib.suppress(KeyboardInterrupt):
+            serving.serve_forever()
     return 0
 
 
