@@ -34,24 +34,25 @@ def drawn(found):
     yield ""
 
 
-def beside(found, line, at):
-    """What is beside a command: its reply and what a refusal means, or that it is bad."""
-    if at < len(found.steps):
-        reply = found.steps[at].reply
-        return bank.compact(reply) + (f"  {bank.refusal(reply, whole=True)}" if "refused" in reply else "")
-    return "(bad line)" if line == found.bad_line else "(not read)"
+def beside(found, at):
+    """What is beside a command that was read: its reply and what a refusal means, or that it is bad."""
+    if at == len(found.steps):
+        return "(bad line)"
+    reply = found.steps[at].reply
+    return bank.compact(reply) + (f"  {bank.refusal(reply, whole=True)}" if "refused" in reply else "")
 
 
 def table(found, data):
-    """The commands, each beside its reply."""
+    """The commands that were read, each beside its reply."""
     lines = [(line, text.decode("utf-8", "replace").strip()) for line, text in world.lines_of(data)]
     yield f"configuration: {lines[0][1] if lines else '(none)'}"
     yield ""
-    width = max([min(len(text), 96) for _, text in lines[1:]] + [len("command")])
-    yield f"{'command':{width}}   reply"
-    for at, (line, text) in enumerate(lines[1:]):
-        yield f"{text:{width}}   {beside(found, line, at)}"
-    yield ""
+    read = [text for at, (line, text) in enumerate(lines[1:]) if at < len(found.steps) or line == found.bad_line]
+    if read:
+        width = max(len("command"), *(min(len(text), 96) for text in read))
+        yield f"{'command':{width}}   reply"
+        yield from (f"{text:{width}}   {beside(found, at)}" for at, text in enumerate(read))
+        yield ""
 
 
 def compared(path, written):
