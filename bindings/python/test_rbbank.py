@@ -279,7 +279,7 @@ class Journals(unittest.TestCase):
             self.assertRaisesRegex(rbbank.BadLine, "1,048,576", site.answer, " " * 1_048_577 + "{}")
             self.assertRaises(rbbank.BadLine, site.answer, {"deposit": ["ann", 1.0]})
             self.assertEqual(site.sends(), [])
-            self.assertRaises(BlockingIOError, rbbank.Journal, self.path, 0, CONFIG)
+            self.assertRaisesRegex(BlockingIOError, "the journal is in use: ", rbbank.Journal, self.path, 0, CONFIG)
         self.assertRaises(rbbank.Closed, site.answer, EVENT)
         before = self.stored()
         self.store(before[:-1] + b'{"event":')

@@ -502,7 +502,6 @@ class _File:
     """A journal's file, locked against other processes."""
 
     def __init__(self, path: str, new: bool) -> None:
-        import fcntl
         try:
             self.descriptor = os.open(path, os.O_RDWR | os.O_CLOEXEC | (os.O_CREAT if new else 0), 0o666)
         except FileNotFoundError:
@@ -510,13 +509,21 @@ class _File:
                 raise
             raise JournalFault("no journal") from None
         try:
-            fcntl.flock(self.descriptor, fcntl.LOCK_EX | fcntl.LOCK_NB)
+            self.lock(path)
             if new and os.fstat(self.descriptor).st_size:
                 raise JournalFault("there is a journal")
             self.path = os.path.realpath(path)
         except BaseException:
             self.close()
             raise
+
+    def lock(self, path: str) -> None:
+        """Locks it, or says that another process has it."""
+        import fcntl
+        try:
+            fcntl.flock(self.descriptor, fcntl.LOCK_EX | fcntl.LOCK_NB)
+        except BlockingIOError as why:
+            raise BlockingIOError(why.errno, "the journal is in use", path) from None
 
     def read_whole(self) -> bytes:
         """All bytes, written again: after a wait for the disk that failed, the system may have what an earlier process
