@@ -20,6 +20,9 @@ RUNS = os.path.join(child.HERE, "runs")
 SEEDS = range(6)
 SITES, OPERATIONS = 5, 25
 ACCOUNTS = ["ann", "bob", "cy"]
+MOVES = {verb: bank.COMMANDS[verb]["moves"] for verb in bank.REQUESTS}
+# deposits twice as often as others; first what adds to an account, then what takes from it, last what does neither
+VERBS = ["deposit", *sorted(bank.REQUESTS, key=lambda verb: (MOVES[verb] == 0, -MOVES[verb]))]
 
 
 class Run:
@@ -35,11 +38,14 @@ class Run:
 
     def request(self) -> dict[str, Any]:
         (who, other), rng = self.rng.sample(ACCOUNTS, 2), self.rng
-        return rng.choice([
-            {"deposit": [who, rng.randint(1, 300)]}, {"deposit": [who, rng.randint(1, 300)]},
-            {"interest": [who, rng.randint(0, 900)]}, {"withdraw": [who, rng.randint(1, 400)]},
-            {"transfer": [who, other, rng.randint(1, 200)]},
-            {"cancel": rng.choice(self.names) if self.names else "B0.1"}])
+
+        def asked(verb: str) -> Any:
+            most = bank.COMMANDS[verb].get("most", 0)
+            draws = {"account": lambda: who, "to": lambda: other, "cents": lambda: rng.randint(1, most),
+                     "rate": lambda: rng.randint(0, most),
+                     "name": lambda: rng.choice(self.names) if self.names else "B0.1"}
+            return bank.command(verb, {field: draws[field]() for field in bank.TAKES[verb]})
+        return rng.choice([asked(verb) for verb in VERBS])
 
     def event(self) -> dict[str, Any] | None:
         """The next event; none if there is nothing yet that it could be about."""

@@ -17,8 +17,9 @@ import sys
 import tempfile
 
 import report
-from site_process import read, whole_lines
-from sites import AT_REST, BANK, EVENTS, LINE_LIMIT, Sites, stored, without_why, write
+from site_process import compact, read, whole_lines
+from sites import AT_REST, BANK, EVENTS, LINE_LIMIT, Sites, stored, write
+from bank import REQUESTS, TAKES, command, without_why
 
 NAME = "b2026"
 OTHER = b'{"reply":{"refused":26},"sends":[],"then":[]}\n'  # the answer to another bank's line
@@ -35,11 +36,6 @@ OWN = {
     b'{"balance":"ann"}': b'{"reply":{"balance":',
     b'{"statement":"ann"}': b'{"reply":{"balance":',
     b'{"asof":["ann",0]}': b'{"reply":{"balance":',
-    b'{"deposit":["ann",7]}': b'{"reply":{"kind":"deposit"',
-    b'{"withdraw":["ann",1]}': b'{"reply":{"kind":"withdraw"',
-    b'{"interest":["ann",100]}': b'{"reply":{"kind":"interest"',
-    b'{"transfer":["ann","bob",1]}': b'{"reply":{"refused":1}',
-    b'{"cancel":"B0.1"}': b'{"reply":{"kind":"cancel"',
     b'{"batch":[{"deposit":["ann",1]}]}': b'{"reply":{"names":',
     b'{"batch":[]}': b'{"reply":{"refused":12}',
     b'{"apply":"B1.9"}': b'{"reply":{"refused":14}',
@@ -47,6 +43,10 @@ OWN = {
     b'{"about":"site"}': b'{"reply":{"about":',
     b'{"resend":0}': b'{"reply":{"resent":0}',
 }
+# and the requests: each is made, but for one to an account that the bank doesn't have
+VALUES = {"account": "ann", "to": "bob", "cents": 1, "rate": 100, "name": "B0.1"}
+OWN |= {compact(command(verb, VALUES)).encode(): b'{"reply":{"refused":1}' if "to" in TAKES[verb] else
+        b'{"reply":{"kind":"%s"' % verb.encode() for verb in REQUESTS}
 
 
 def with_bank(line, value=b'"b2026"'):

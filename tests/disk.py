@@ -52,6 +52,9 @@ from typing import NamedTuple
 from site_process import compact, is_journal_failed, read, whole_lines, without_notes, words_of_start
 
 HERE = os.path.dirname(os.path.abspath(__file__))
+sys.path.insert(0, os.path.join(os.path.dirname(HERE), "examples", "tools"))
+from bank import requests  # noqa: E402
+
 PATIENCE = 60  # seconds for one answer
 LEAST, LEAST_OF_GATE = 1000, 200  # cases
 ALL = 1 << 30  # bytes of a call, that is all of them
@@ -60,11 +63,11 @@ SYNCS = ("fsync", "fdatasync")
 WRITES = ("write", "pwrite")
 BANK = {"accounts": [["ann", 100], ["bob", 0]], "sites": 2, "version": 1}
 MANY = {"accounts": [["ann", 100], ["bob", 0]], "sites": 16, "version": 2}
-EVENTS = [
-    {"deposit": ["ann", 500]}, {"withdraw": ["ann", 200]}, {"transfer": ["ann", "bob", 50]}, {"interest": ["ann", 150]},
-    {"withdraw": ["bob", 99999]}, {"cancel": "R1"}, {"batch": [{"deposit": ["bob", 7]}, {"withdraw": ["ann", 80]}]},
-    {"balance": "eve"}, {"statement": "ann"}, {"pass": 1}, {"withdraw": ["ann", 1]}, {"deposit": ["bob", 3]},
-]
+MADE = requests({"account": "ann", "to": "bob", "cents": 50, "rate": 150, "name": "R1"})
+BALANCE, STATEMENT = {"balance": "eve"}, {"statement": "ann"}
+FIRST = [[event] for event in (*MADE, {"withdraw": ["bob", 99999]}, {
+    "batch": [{"deposit": ["bob", 7]}, {"withdraw": ["ann", 80]}]}, BALANCE, STATEMENT)]
+LAST = [[{"pass": 1}], [{"withdraw": ["ann", 1]}], [{"deposit": ["bob", 3]}]]
 
 
 class Failed(Exception):
@@ -387,9 +390,8 @@ def faults_of(call):
 
 def scripts(program):
     """The scripts, each of which is run once without a fault here."""
-    one = [[event] for event in EVENTS]
-    site = Script(program, "a start on a journal at rest", one[9:], Script(program, "", one[:9]).ran.journal)
-    first = Script(program, "a new journal", one[:4])
+    site = Script(program, "a start on a journal at rest", LAST, Script(program, "", FIRST).ran.journal)
+    first = Script(program, "a new journal", FIRST[:4])
     journal, half = site.before, site.whole
     sent = [message for line in first.lines for message in json.loads(line)["sends"]]
     entries = first.whole.partition(b"\n")[2]
@@ -398,16 +400,16 @@ def scripts(program):
     last = whole_lines(journal)[:-1].rindex(b"\n") + 1
     yield first
     yield site
-    yield Script(program, "an empty file", [EVENTS[:2], EVENTS[2:4]], b"")
-    yield Script(program, "a file without a whole line", [EVENTS[:1]], b' "accounts":[["ann",1')
-    yield Script(program, "a line that is there in part", one[9:], journal[:last + 30], resend=1)
-    yield Script(program, "a batch that was never reported", one[9:11], journal + half[last + 1:] + b" ", resend=0)
-    yield Script(program, "NUL behind the gate", one[9:11], journal + bytes(5000), resend=2)
-    yield Script(program, "messages that are held and applied", [[sent[2]], [sent[1], sent[3]], [sent[0]], one[7]],
+    yield Script(program, "an empty file", [MADE[:2], MADE[2:4]], b"")
+    yield Script(program, "a file without a whole line", [MADE[:1]], b' "accounts":[["ann",1')
+    yield Script(program, "a line that is there in part", LAST, journal[:last + 30], resend=1)
+    yield Script(program, "a batch that was never reported", LAST[:2], journal + half[last + 1:] + b" ", resend=0)
+    yield Script(program, "NUL behind the gate", LAST[:2], journal + bytes(5000), resend=2)
+    yield Script(program, "messages that are held and applied", [[sent[2]], [sent[1], sent[3]], [sent[0]], [BALANCE]],
                  me=1, others=entries)
-    yield Script(program, "a batch of many lines", [deposits, one[9] + deposits], first.ran.journal)
-    yield Script(program, "a long journal", [deposits[:100], one[7]], long, resend=5)
-    yield Script(program, "the last of sixteen sites", [EVENTS[:1], EVENTS[8:9]], me=15, bank=MANY)
+    yield Script(program, "a batch of many lines", [deposits, LAST[0] + deposits], first.ran.journal)
+    yield Script(program, "a long journal", [deposits[:100], [BALANCE]], long, resend=5)
+    yield Script(program, "the last of sixteen sites", [MADE[:1], [STATEMENT]], me=15, bank=MANY)
 
 
 def used_twice(program):

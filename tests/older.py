@@ -22,19 +22,22 @@ import report
 from site_process import compact, name_of, read, words_of_start
 
 HERE = os.path.dirname(os.path.abspath(__file__))
+sys.path.insert(0, os.path.join(os.path.dirname(HERE), "examples", "tools"))
+from bank import requests  # noqa: E402
+
 STORED = os.path.join(HERE, "journals")
 NEXT = ["--sites", "4", "--account", "zed"]
 RECORDS = ["changes", "changes", "all"]  # of each site
 MESSAGES = "all that came before"  # in place of events
+MADE = requests({"account": "ann", "to": "bob", "cents": 80, "rate": 150, "name": "R1"})
 # what happens in a bank whose journals are kept: the site, and its events
 STEPS: list[tuple[int, list[Any]]] = [
-    (0, [{"deposit": ["ann", 500], "id": "a-1"}, {"withdraw": ["ann", 200]}, {"transfer": ["ann", "bob", 50]},
-         {"interest": ["ann", 150]}, {"withdraw": ["bob", 99999]}, {"cancel": "R1"}, {"deposit": ["ann", 500],
+    (0, [{"deposit": ["ann", 500], "id": "a-1"}, *MADE, {"withdraw": ["bob", 99999]}, {"deposit": ["ann", 500],
          "id": "a-1"}, {"batch": [{"deposit": ["bob", 7]}, {"withdraw": ["ann", 80]}], "id": "a-2"}, {"pass": 2}]),
     (2, [{"balance": "ann"}, MESSAGES, MESSAGES, {"withdraw": ["ann", 1], "id": "c:1"}, {"cancel": "B0.1"},
          {"cancel": "R2"}, {"cancel": "R2"}, {"asof": ["ann", 3]}, {"statement": "bob"}, {"balance": "eve"},
          {"batch": []}, {"apply": "B0.9"}, {"pass": 1}, {"withdraw": ["ann", 1]}]),
-    (1, [{"deposit": ["bob", 3]}, MESSAGES, {"interest": ["bob", 7]}, {"transfer": ["ann", "bob", 6], "id": "b.1"}]),
+    (1, [{"deposit": ["bob", 3]}, MESSAGES, *MADE, {"transfer": ["ann", "bob", 6], "id": "b.1"}]),
     (0, [MESSAGES]), (2, [MESSAGES]),
 ]
 

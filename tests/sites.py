@@ -29,8 +29,8 @@ import time
 
 sys.path.insert(0, os.path.join(os.path.dirname(os.path.dirname(os.path.abspath(__file__))), "examples", "tools"))
 import report  # noqa: E402
-from bank import without_why  # noqa: E402
-from site_process import read, whole_lines  # noqa: E402
+from bank import requests, without_why  # noqa: E402
+from site_process import compact, read, whole_lines  # noqa: E402
 
 ROOT = os.path.dirname(os.path.dirname(os.path.abspath(__file__)))
 EXAMPLES = os.path.join(ROOT, "examples")
@@ -42,12 +42,9 @@ MEMORY = 1 << 30  # bytes that a site may take whose journal is a device without
 LITTLE_MEMORY = 64 << 20  # bytes that a site may take with many large answers in one read
 PR_CAPBSET_DROP, CAP_DAC_OVERRIDE = 24, 1  # of <sys/prctl.h> and <linux/capability.h>
 # Each kind of event at site 0 of two: made, refused, received, held, applied and passed.
-EVENTS = b"""{"deposit":["ann",500]}
-{"withdraw":["ann",200]}
-{"transfer":["ann","bob",50]}
-{"interest":["ann",150]}
+MADE = requests({"account": "ann", "to": "bob", "cents": 50, "rate": 150, "name": "R1"})
+EVENTS = b"".join(compact(event).encode() + b"\n" for event in [{"deposit": ["ann", 500]}, *MADE]) + b"""\
 {"withdraw":["bob",99999]}
-{"cancel":"R1"}
 {"batch":[{"deposit":["bob",7]},{"withdraw":["ann",80]}]}
 {"batch":[]}
 {"shadow":{"account":"ann","amount":5,"deps":[[0,1,0,0,0,0,0,0],0],"home":1,"kind":"deposit","name":"B1.2"}}
@@ -693,8 +690,9 @@ rbbank: line 2: bad configuration
 
 
 # The members of events that may have an id, each of which is made or refused alike whenever it is asked for.
-ASKED = [b'"deposit":["ann",500]', b'"withdraw":["bob",1]', b'"interest":["ann",4294967295]', b'"cancel":"R1"',
-         b'"transfer":["bob","ann",70]', b'"batch":[{"deposit":["ann",500]},{"cancel":"B1.1"}]']
+ASKED = [compact(event)[1:-1].encode() for event in [
+    *requests({"account": "bob", "to": "ann", "cents": 70, "rate": 4_294_967_295, "name": "R1"}),
+    {"batch": [{"deposit": ["ann", 500]}, {"cancel": "B1.1"}]}]]
 IDS = [b"a", b"AZaz09._:-", b"0", b"x" * 64]
 # Lines of events whose id is none, or that may have none.
 NO_IDS = """{"deposit":["ann",1],"id":""}
