@@ -105,7 +105,8 @@ def of_step(found, step):
     balances = saying.balances(step, found.config).replace("\u00a0", " ")
     if balances and len(found.config["accounts"]) == 1:
         balances = f"{found.config['accounts'][0][0]} {balances}"
-    what = asked(found, step) + (f", by the id {step.id}," if step.id else "")
+    beside = " and the ".join(f"{key} {it}" for key, it in step.beside.items())
+    what = asked(found, step) + (f", by the {beside}," if beside else "")
     return f"site {step.site}: {what} -> {answered(step)}{f' [{balances}]' if balances else ''}"
 
 

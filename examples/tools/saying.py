@@ -58,13 +58,13 @@ def said_of_token(step):
 
 def said_of_operation(step):
     reply = step.reply
-    by_id = f", id {step.id}" if step.id else ""
+    beside = "".join(f", {key} {it}" for key, it in step.beside.items())
     if "kind" in reply:
         declined = "declined: " if reply["kind"] == "declined" else ""
-        return Said("●", reply["name"], declined + request(step.event) + by_id, colour_of(reply["name"]))
+        return Said("●", reply["name"], declined + request(step.event) + beside, colour_of(reply["name"]))
     if "names" in reply:
         colour = "red" if any(name[0] == "R" for name in reply["names"]) else "blue"
-        return Said("●", "batch", " ".join(reply["names"]) + by_id, colour)
+        return Said("●", "batch", " ".join(reply["names"]) + beside, colour)
     key, mark = next((key, mark) for key, mark in (("held", "○"), ("applied", "◉"), ("already", "=")) if key in reply)
     word = "again" if key == "already" else key
     return Said(mark, reply[key], word, "again" if key == "already" else colour_of(reply[key]), key == "already")

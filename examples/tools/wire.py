@@ -478,7 +478,8 @@ def reply_of(answer: Dict) -> Dict:
     """The reply of a line, and whose it is: a client's if it isn't certainly a message's."""
     reply = answer["reply"]
     is_peers = reply.get("refused") in REFUSED_PEERS or not OF_PEERS.isdisjoint(reply)
-    return {"peer" if is_peers else "client": reply, **{key: answer[key] for key in ("id", "again") if key in answer}}
+    beside = {key: it for key, it in answer.items() if key not in ("reply", "sends", "then")}
+    return {"peer" if is_peers else "client": reply, **beside}
 
 
 def parsed(line: bytes) -> Answer:

@@ -27,7 +27,7 @@ class Step:
     sent: list = field(default_factory=list)    # the numbers of those that it sent
     rows: dict = field(default_factory=dict)    # by an operation: each account, the balance then, and what it moved
     position: int = 0                           # in its site's history, from 1
-    id: str = ""                                # of a request that was made by one
+    beside: dict = field(default_factory=dict)  # the further keys of its entry, as a request's id
     fault: str = ""                             # why an audit doesn't take it
     taken: bool = True
     said: tuple = None                          # what saying.said found
@@ -213,8 +213,8 @@ def entries(config, lines):
     queues, steps = [[] for _ in range(config["sites"])], []
     for number, line in lines:
         value = json.loads(line)
-        step = Step(number, value["site"], value["event"], value["reply"], position=len(queues[value["site"]]) + 1,
-                    id=value.get("id", ""))
+        event, reply, site = value.pop("event"), value.pop("reply"), value.pop("site")
+        step = Step(number, site, event, reply, position=len(queues[site]) + 1, beside=value)
         queues[step.site].append(step)
         steps.append(step)
     return steps, queues
