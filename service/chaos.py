@@ -38,12 +38,14 @@ from typing import Any
 
 sys.dont_write_bytecode = True
 import cluster
-
+from bank import COMMANDS, REQUESTS, command, fields
 from client import Client, Denied
 from faults import Disk, Net, slow_disk
+from view import BESIDE
 
 Json = dict[str, Any]
 ACCOUNTS = ("ann", "bob", "eve", "fund.a", "fund.b")
+SHARES = {"deposit": 8, "withdraw": 5, "transfer": 3, "cancel": 4}  # of the requests; of each other kind, 1
 TARGETS = ("child", "child", "service", "both", "stop")
 
 
@@ -87,16 +89,14 @@ class Run:
         """A request of a client, which cancels operations that it made in this period."""
         self.number += 1
         pick, account = self.pick, self.pick.choice(ACCOUNTS)
-        verb = pick.choices(["deposit", "withdraw", "transfer", "cancel", "interest", "batch"], [8, 5, 3, 4, 1, 1])[0]
+        verb = pick.choices([*REQUESTS, "batch"], [SHARES.get(verb, 1) for verb in (*REQUESTS, "batch")])[0]
         if verb == "cancel" and mine:
             return {"bank": self.name, "cancel": mine.pop(pick.randrange(len(mine)))}
-        if verb == "transfer":
-            return {"transfer": [account, pick.choice([name for name in ACCOUNTS if name != account]), self.number]}
-        if verb == "interest":
-            return {"interest": [account, pick.randrange(100)]}
         if verb == "batch":
             return {"batch": [{"deposit": [account, self.number]}, {"withdraw": [account, self.number - 1]}]}
-        return {verb if verb != "cancel" else "deposit": [account, self.number]}
+        values = {"account": account, "to": pick.choice([name for name in ACCOUNTS if name != account]),
+                  "cents": self.number, "rate": pick.randrange(100)}
+        return command(verb if verb != "cancel" else "deposit", values)
 
     async def asks(self, site: int, event: Any, key: str | None, tries: list[float] | None = None) -> Any:
         """Asks until there is a reply, as client.py does. `tries` gets when the last one began."""
@@ -381,7 +381,7 @@ class Books:
         return len(found[0])
 
     def balances(self, made: list[tuple[Json, Json]]) -> dict[str, int]:
-        """What each account has by requests and replies. What interest came to is in the messages to other sites."""
+        """What each account has by requests and replies. What a rate came to is in the messages to other sites."""
         shadows = {entry["event"]["shadow"]["name"]: entry["event"]["shadow"]
                    for entries in self.entries for entry in entries if "shadow" in entry["event"]}
         done: dict[str, Json] = {}
@@ -391,12 +391,12 @@ class Books:
         undone = {part["cancel"] for part in done.values() if "cancel" in part}
         found: dict[str, int] = dict(self.config["accounts"])
         for name, part in done.items():
-            verb, given = next((verb, given) for verb, given in part.items() if verb not in ("bank", "id"))
+            verb, given = next((verb, fields({verb: part[verb]})) for verb in part if verb not in BESIDE)
             if name not in undone and verb != "cancel":
-                amount = shadows[name]["amount"] if verb == "interest" else given[-1]
-                found[given[0]] += amount if verb in ("deposit", "interest") else -amount
-                if verb == "transfer":
-                    found[given[1]] += amount
+                moved = COMMANDS[verb]["moves"] * (given["cents"] if "cents" in given else shadows[name]["amount"])
+                found[given["account"]] += moved
+                if "to" in given:
+                    found[given["to"]] -= moved
         return found
 
     def audit(self, program: str) -> int:
@@ -451,7 +451,7 @@ def look_logs(bank: cluster.Bank) -> None:
 
 
 def without(value: Json) -> Json:
-    return {key: it for key, it in value.items() if key not in ("bank", "id")}
+    return {key: it for key, it in value.items() if key not in BESIDE}
 
 
 async def happens(run: Run) -> tuple[Json, float]:

@@ -38,7 +38,7 @@ import cluster
 import site_child
 from client import Client, Denied
 from site_child import Desk, Fault, Json, Period, Site, last_period, requests_of
-from view import KEPT, View
+from view import BESIDE, KEPT, View
 
 PROGRAM, NAME = os.path.abspath(sys.argv[1] if sys.argv[1:] else ""), "b.0001"
 CONFIG = {"accounts": [["ann", 1000], ["bob", 0]], "sites": 2, "version": 1}
@@ -318,10 +318,10 @@ async def closes(folder: str) -> None:
 
 
 def texts(folder: str) -> None:
-    """Each refusal that docs/FORMAT.md lists has its text, and each request its key."""
+    """Each refusal that docs/FORMAT.md lists has its text, and all but requests have no key."""
     with open(os.path.join(HERE, "refusals.json")) as file:
         same("refusals", sorted(map(int, json.load(file))), sorted(bank.NUMBERS))
-    same("what has a key", client.KEYED, {*site_child.REQUESTS})
+    same("what has no key", client.UNKEYED, bank.TAKES.keys() - {*site_child.REQUESTS, "apply", "deliver"})
 
 
 # ---- HTTP
@@ -419,16 +419,16 @@ def described(folder: str) -> None:
     service.wait()
     page = yaml.safe_load(service.ask("/openapi.yaml")[1])
     schemas = {"components": page["components"]}
-    for event in ({verb: given} for verb, given in (
-            ("balance", "ann"), ("statement", "ann"), ("asof", ["ann", 0]), ("interest", ["ann", 5]), ("pass", 1),
-            ("transfer", ["ann", "bob", 1]), ("batch", [{"deposit": ["ann", 1]}, {"deposit": ["bob", 1]}]))):
+    values = {"account": "ann", "to": "bob", "cents": 1, "rate": 5, "name": "B0.1"}
+    for event in ({"balance": "ann"}, {"statement": "ann"}, {"asof": ["ann", 0]}, *bank.requests(values), {"pass": 1},
+                  {"batch": [{"deposit": ["ann", 1]}, {"deposit": ["bob", 1]}]}):
         service.event(event)
     for path in ("/", "/journals/0001.0.journal"):
         same(f"GET {path}", service.ask(path)[0], 200)
     asks(os.path.join(folder, "asks"))
     tokens(os.path.join(folder, "tokens"))
     watched(service.ask("/metrics")[1])
-    same("its verbs", set(page["components"]["schemas"]["Event"]["properties"]) - {"bank", "id"}, set(MAY))
+    same("its verbs", set(page["components"]["schemas"]["Event"]["properties"]) - BESIDE, set(MAY))
     wanted = {(path, method) for path, methods in page["paths"].items() for method in methods}
     found = set()
     for method, asked, body, reply, text in OBSERVED:

@@ -16,7 +16,7 @@ import urllib.parse
 import uuid
 from typing import Any
 
-KEYED = {"deposit", "withdraw", "interest", "transfer", "cancel", "batch"}  # what has a key
+UNKEYED = {"balance", "statement", "asof", "pass"}  # what has no key: all but requests
 AGAIN = (500, 502, 503, 504)  # statuses that say nothing of the event
 
 
@@ -36,9 +36,9 @@ class Client:
     def ask(self, event: Any, key: str | None = None) -> Any:
         """The reply to an event, done, declined or refused; or those to a list of events."""
         events = event if isinstance(event, list) else [event]
-        if key is None and events and all("id" not in each and KEYED & each.keys() for each in events):
+        if key is None and events and all("id" not in each and not UNKEYED & each.keys() for each in events):
             key = uuid.uuid4().hex
-        is_safe = key is not None or all("id" in each or not KEYED & each.keys() for each in events)
+        is_safe = key is not None or all("id" in each or UNKEYED & each.keys() for each in events)
         return self.until("POST", "/events", json.dumps(event), {"Idempotency-Key": key} if key else {}, is_safe)
 
     def get(self, path: str) -> Any:

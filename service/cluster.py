@@ -23,6 +23,7 @@ import urllib.request
 from typing import Any
 
 HERE = os.path.dirname(os.path.abspath(__file__))
+sys.path.append(os.path.join(HERE, "..", "examples", "tools"))  # bank.py, for what imports this file
 BIN = "/usr/lib/rabbitmq/bin"
 NODES, PORTS = 3, 30  # nodes, and the ports that they and the services of a bank take
 NO_PACKAGES = 77  # the status if packages are missing

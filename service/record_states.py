@@ -18,6 +18,7 @@ from typing import Any
 
 sys.dont_write_bytecode = True
 import cluster  # noqa: E402
+from bank import requests  # noqa: E402
 
 Json = dict[str, Any]
 ACCOUNTS = ("ann", "bob", "eve", "fund.a", "fund.b")
@@ -42,9 +43,9 @@ def work(bank: cluster.Bank) -> None:
     for turn in range(COUNT):
         account, other = pick.sample(ACCOUNTS, 2)
         events: list[Json] = [
-            {"deposit": [account, pick.randrange(500, 90_000)]}, {"deposit": [account, 5_000]},
-            {"withdraw": [account, pick.randrange(100, 3_000)]}, {"interest": [account, 125]},
-            {"transfer": [account, other, 1_250]}, {"cancel": pick.choice(made) if made else "B0.1"}]
+            {"deposit": [account, pick.randrange(500, 90_000)]}, *requests({
+                "account": account, "to": other, "cents": pick.randrange(100, 3_000), "rate": 125,
+                "name": pick.choice(made) if made else "B0.1"})]
         reply = ask(bank, turn % SITES, pick.choice(events))
         made += [reply["name"]] if reply.get("kind") in ("deposit", "withdraw") else []
 

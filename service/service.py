@@ -31,6 +31,7 @@ from prometheus_client.core import CounterMetricFamily, GaugeMetricFamily
 
 from front import Front, Says
 from site_child import REQUESTS, Desk, Fault, Json, Site, compact, last_period, load, requests_of, until
+from view import BESIDE
 from wires import Wires, together
 
 HERE = os.path.dirname(os.path.abspath(__file__))
@@ -156,7 +157,7 @@ class Service:
 
     def check(self, event: Any, key: str | None, may: set[str]) -> None:
         """Gives an event its key, if it is one that the client may ask for. The site looks at the rest."""
-        verbs = event.keys() - {"id", "bank"} if isinstance(event, dict) else set()
+        verbs = event.keys() - BESIDE if isinstance(event, dict) else set()
         if len(verbs) != 1 or not verbs <= MAY.keys():
             raise web.HTTPBadRequest(text="an event is an object with one of " + ", ".join(MAY))
         verb, = verbs
@@ -170,7 +171,7 @@ class Service:
         if line is None or event.get("bank") == self.period.name:
             return {}
         entry: Json = json.loads(line)
-        is_same = entry["event"] == {verb: given for verb, given in event.items() if verb not in ("id", "bank")}
+        is_same = entry["event"] == {verb: given for verb, given in event.items() if verb not in BESIDE}
         return {"reply": entry["reply"] | {"bank": self.period.other(-1).name} if is_same else {"refused": 25}}
 
     def once(self, event: Json) -> asyncio.Future[Json]:

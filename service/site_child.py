@@ -31,7 +31,9 @@ from typing import Any, NamedTuple
 
 from view import KEPT, Json as Json, View
 
-REQUESTS = ("deposit", "withdraw", "interest", "transfer", "cancel", "batch")  # what has an id
+with open(os.path.join(os.path.dirname(os.path.abspath(__file__)), "commands.json")) as commands:
+    REQUESTS = ("batch", *(verb for verb, row in json.load(commands).items() if {"moves", "takes"} <= row.keys()))
+    # what has an id
 LEAVE_NO_ENTRY = {"refused", "balance", "already", "stale", "about", "resent"}
 HOLD = 0.1  # seconds that a site keeps the token for its own clients
 HEARD = 3.0  # seconds for which a site is taken to want the token after it said so

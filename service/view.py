@@ -11,6 +11,7 @@ from collections.abc import Awaitable, Callable
 from typing import Any
 
 Json = dict[str, Any]
+BESIDE = {"bank", "id"}  # keys that an event may have beside its own
 KEPT = 500  # operations that are shown; and entries that are looked at as a child starts
 HELD = 50  # held operations that are shown
 
@@ -50,7 +51,7 @@ class View:
 
     def record(self, event: Json, answer: Json) -> None:
         """What the site answered to an event, each once, in order."""
-        self.events[next(key for key in event if key not in ("bank", "id"))] += 1
+        self.events[next(key for key in event if key not in BESIDE)] += 1
         if "refused" in answer["reply"]:
             self.refused[answer["reply"]["refused"]] += 1
         if "again" not in answer:

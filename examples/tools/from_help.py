@@ -4,8 +4,10 @@
 usage: from_help.py PROGRAM PREFIX     writes them below PREFIX: share/man, share/bash-completion, share/zsh, share/fish
        from_help.py --check [PROGRAM]  makes them from the help in tests/help, and compares them with what is there;
                                        with PROGRAM it also compares that help with the program's own; beside it
-                                       commands.json is compared with the commands and kinds that the program has
-       from_help.py --write PROGRAM    stores the program's help in tests/help, and what is made from it
+                                       commands.json is compared with the commands and kinds that the program has,
+                                       and with what service/ has of it
+       from_help.py --write PROGRAM    stores the program's help in tests/help, what is made from it, and what service/
+                                       has of commands.json
 
 It asks for `PROGRAM --help`, and for `PROGRAM WORD --help` of each command that is listed there. --check ends in 1
 where something differs.
@@ -25,8 +27,9 @@ COMMAND = re.compile(r"  (\S+)(?:\s+(.*))?$")
 VALUE = re.compile(r"  [<\[]([^>\]]+)[>\]](?:\.\.\.)?(?:\s\s+(.*))?$")
 OPTION = re.compile(r"\s+(?:-(\w), )?--([\w-]+)(?: <([^>]+)>)?(?:\s\s+(.*))?$")
 FILES = ("FILE", "JOURNAL")  # the names of values that are files'
-# the lists of requests that service/ has for itself, since it is installed alone
-SERVICE = {"service/site_child.py": r"\nREQUESTS = \((.*?)\)", "service/console.html": r"const VERBS = \{(.*?)\};"}
+SERVICE = os.path.join(bank.ROOT, "service")
+# what a service may be asked: not what other sites send
+ASKED = {verb: takes for verb, takes in bank.TAKES.items() if verb not in ("apply", "deliver")}
 
 
 class Option(NamedTuple):
@@ -313,8 +316,41 @@ BASH_CASES = [
 ]
 
 
+def console():
+    """The table of the console: what its form asks, amounts first, with fields, and the sign of what is moved."""
+    rows = []
+    for verb in (*sorted(bank.REQUESTS, key=lambda verb: "cents" not in bank.TAKES[verb]), "pass"):
+        takes = ", ".join(f"'{field}'" for field in bank.TAKES[verb])
+        moves = f", moves: {bank.COMMANDS[verb]['moves']}" if verb in bank.REQUESTS else ""
+        rows.append(f"  {verb}: {{takes: [{takes}]{moves}}},\n")
+    return "const VERBS = {\n", "".join(rows), "};\n"
+
+
+def openapi():
+    """The events of the service's page for tools, each with the types of its fields, and the kinds."""
+    types = {"cents": '{$ref: "#/components/schemas/Cents"}', "rate": '{$ref: "#/components/schemas/Cents"}',
+             "next": "{type: integer}", "position": "{type: integer}",
+             "requests": "{type: array, items: {type: object, minProperties: 1, maxProperties: 1}}"}
+    rows = []
+    for verb, takes in ASKED.items():
+        parts = [types.get(field, "{type: string}") for field in takes]
+        items = f"{{type: array, minItems: {len(parts)}, maxItems: {len(parts)}, prefixItems: [{', '.join(parts)}]}}"
+        rows.append(f"        {verb}: {items if len(parts) > 1 else parts[0]}\n")
+    kinds = f"    Kind: {{enum: [{', '.join(bank.KINDS)}]}}\n"
+    return "from commands.json\n", "".join([*rows, kinds]), "    Said:\n"
+
+
+def of_service():
+    """What service/ has of commands.json, since it is installed alone: each path with its text, as it has to be."""
+    yield "commands.json", read(os.path.join(bank.HERE, "commands.json"))
+    for name, (before, rows, behind) in (("console.html", console()), ("openapi.yaml", openapi())):
+        text = read(os.path.join(SERVICE, name))
+        front, _, rest = text.partition(before)
+        yield name, front + before + rows + behind + rest.partition(behind)[2]
+
+
 def other_commands(page):
-    """The commands and kinds that commands.json has otherwise than this page and tests/cases, or service/ hasn't."""
+    """The commands and kinds that commands.json has otherwise than this page and tests/cases."""
     examples = page.split("The commands, an example each.")[1].split("\n\n")[1]
     shown = {verb: tuple(map(type, value if isinstance(value, list) and verb != "batch" else [value]))
              for line in re.findall(r"(?m)^  (\{.*?\})(?: |$)", examples)
@@ -324,15 +360,14 @@ def other_commands(page):
     reasons = read(os.path.join(bank.ROOT, "tests", "cases", "reasons.cases"))
     kinds = re.search("is no kind: there are: (.*)", reasons)[1]
     others = {verb for verb, _ in shown.items() ^ known.items()} | set(kinds.split(", ")) ^ set(bank.KINDS)
-    lists = {path: re.search(f"(?s){of}", read(os.path.join(bank.ROOT, path)))[1] for path, of in SERVICE.items()}
-    lacks = [f"{verb} of {path}" for path, text in lists.items() for verb in bank.REQUESTS if verb not in text]
-    return [f"{verb} of commands.json" for verb in others] + lacks
+    return [f"{verb} of commands.json" for verb in others]
 
 
 def differences(program):
     """The names of what differs."""
     texts = stored()
     found = [place for place, text in made(texts).items() if read(os.path.join(STORED, place)) != text]
+    found += [f"service/{name}" for name, text in of_service() if read(os.path.join(SERVICE, name)) != text]
     found += [" ".join(words) for words, wanted in BASH_CASES if bash_completes(words) != wanted]
     if program:
         now = asked(program)
@@ -352,6 +387,7 @@ def main(words):
     if words[:1] == ["--write"] and len(words) == 2:
         texts = asked(words[1])
         written(STORED, {**{f"{name}.txt": text for name, text in texts.items()}, **made(texts)})
+        written(SERVICE, dict(of_service()))
         return 0
     if len(words) == 2 and not words[0].startswith("-"):
         written(words[1], made(asked(words[0])))
