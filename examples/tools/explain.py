@@ -187,7 +187,7 @@ def of_answer(data, number, event, answer, me):
     if "bad" in answer:
         error = f"line {number}: {'line too long' if answer['bad'] == 'long' else 'bad line'}"
         return bad_lines.explained(data, error, number, "site")
-    step = world.Step(number, me, {key: event[key] for key in event if key not in ("id", "bank")}, answer["reply"])
+    step = world.Step(number, me, event, answer["reply"])
     again = "made before, so it is answered again: " if "again" in answer else ""
     words = [f"line {number}  site {me}: {asked(None, step)} -> {again}{answered(step)}"]
     if answer["sends"]:
