@@ -90,7 +90,7 @@ PREFIX ?= /usr/local
 PROGRAM ?= crates/rbbank/out/rbbank
 UNDER = $(DESTDIR)$(PREFIX)
 TOOLS = draw explain wire close rebuild
-MODULES = bad_lines bank journals json_at picture saying world
+MODULES = bank journals picture saying world
 install:
 	@test -x "$(PROGRAM)" || { echo 'there is no program yet: make build'; exit 1; }
 	@install -D -m 755 "$(PROGRAM)" "$(UNDER)/bin/rbbank"

@@ -10,7 +10,6 @@ import threading
 from typing import Any
 
 from child import Child
-import bad_lines
 import bank
 import draw
 import explain
@@ -39,10 +38,10 @@ class Answers:
         config = world.parsed(lines[0][1]) if lines else None
         if len(lines) < 2:
             run = self.program.run("script", data)
-            return world.World(config, [], error=run.error, bad_line=run.bad_line)
+            return world.World(config, [], error=run.said, bad_line=run.bad_line)
         replies, error = self.session.run(data.rstrip(b"\n").split(b"\n"))
         at = re.match(r"rbbank: line (\d+): ", error)
-        found = world.World(config or {}, [], error=error, bad_line=int(at.group(1)) if at else None)
+        found = world.World(config or {}, [], error=bank.said(error), bad_line=int(at.group(1)) if at else None)
         for (number, line), reply in zip(lines[1:], replies):
             event = json.loads(line)
             step = world.Step(number, event.pop("site"), event, json.loads(reply))
@@ -56,7 +55,7 @@ class Answers:
         """The same of a script that is answered whole."""
         found = self.of_script(data)
         if found.error or found.config is None:
-            raise bank.Stop(bad_lines.explained(data, found.error, found.bad_line))
+            raise bank.Stop(found.error)
         return found
 
     def again(self, word: str, found: world.World, *more: str) -> list[str]:
@@ -64,7 +63,7 @@ class Answers:
         begin = bank.compact(found.config | {"history": world.LARGEST_HISTORY})
         done = [world.as_command(step) for step in found.steps if step.taken and step.reply != {"refused": 23}]
         run = self.program.run(word, "\n".join([begin, *done, *more, ""]).encode())
-        return raised(run.error) if run.error else run.replies
+        return raised(run.said) if run.fault else run.replies
 
     def recorded(self, found: world.World) -> list[Json]:
         """The entries of what was done; behind them each message came to one more site, so that it's there as it was
@@ -85,8 +84,7 @@ class Answers:
         found = world.of_histories(self.program, data) if are_histories else self.of_script(data)
         words = list(explain.of_histories(found, data)) if are_histories and (found.config or found.error) else []
         if found.error:
-            words = bad_lines.explained(data, found.error, found.bad_line,
-                                        "audit" if found.is_histories else "script").split("\n")
+            words = found.error.split("\n")
         events = [step.event for step in found.steps]
         events += [entry["event"] for entry in self.recorded(found)] if events else []
         tokens = {f"token {it['token'][0]}": it["token"] for it in events if "token" in it}
@@ -101,8 +99,8 @@ class Answers:
     def written(self, word: str, data: bytes) -> str:
         """What the program writes of a text: `histories` of a script, or `migrate` of histories."""
         run = self.program.run(word, data)
-        if run.error:
-            raise bank.Stop(bad_lines.explained(data, run.error, run.bad_line, word == "migrate"))
+        if run.fault:
+            raise bank.Stop(run.said)
         return "\n".join([*run.replies, ""])
 
     def picture(self, data: bytes) -> str:

@@ -3,9 +3,9 @@
 
 usage: check_drawings.py [--quiet | --write] PROGRAM
 
-Stored are drawings.txt (draw.py in 80 columns), explanations.txt (explain.py), bad_lines.txt (why each line of
-tests/cases/bad_lines.cases is bad) and the pictures docs/pictures/NAME.svg, each of the example of its name. The
-scripts' own words are tried as well: --help, a missing file, a range, sites, and the audit of a script.
+Stored are drawings.txt (draw.py in 80 columns), explanations.txt (explain.py) and the pictures
+docs/pictures/NAME.svg, each of the example of its name. The scripts' own words are tried as well: --help, a missing
+file, a range, sites, and the audit of a script.
 --quiet prints only what is different; --write stores what is drawn in place of comparing.
 """
 import glob
@@ -14,14 +14,12 @@ import re
 import subprocess
 import sys
 
-import bad_lines
 import bank
 import draw
 import explain
 import picture
 
 PICTURES = os.path.join(bank.ROOT, "docs", "pictures")
-TESTS = os.path.join(bank.ROOT, "tests")
 SCRIPTS = ["draw.py", "explain.py", "demo.py", "bank.py", "check.py", "check_drawings.py", "wire.py"]
 
 
@@ -52,19 +50,6 @@ def explanations(program):
     return "\n\n".join(f"[{name}]\n{explained(data)}" for name, data in examples()) + "\n"
 
 
-def reasons(program):
-    """Why each line of the cases of bad lines is bad: the program says which it is."""
-    sys.path.insert(0, TESTS)
-    import cases
-    found = []
-    for case in cases.written_down():
-        if case.name.startswith("bad_lines: "):
-            run = program.run(case.words[0], case.given)
-            found.append(bad_lines.explained(case.given, run.error, run.bad_line,
-                                             "script" if case.words[0] == "script" else "audit"))
-    return "\n\n".join(found) + "\n"
-
-
 def pictures():
     """The pictures that are stored, and those that the pages show."""
     names = {os.path.basename(path).removesuffix(".svg") for path in glob.glob(os.path.join(PICTURES, "*.svg"))}
@@ -77,7 +62,6 @@ def stored(program):
     """Each stored file, with what it has to be."""
     yield os.path.join(bank.EXAMPLES, "drawings.txt"), drawings(program)
     yield os.path.join(bank.EXAMPLES, "explanations.txt"), explanations(program)
-    yield os.path.join(bank.EXAMPLES, "bad_lines.txt"), reasons(program)
     for name in pictures():
         data = bank.read(bank.example(name + ".jsonl"))
         yield os.path.join(PICTURES, name + ".svg"), picture.svg(draw.drawing_of(program, data))

@@ -9,7 +9,6 @@ import os
 import shutil
 import sys
 
-import bad_lines
 import bank
 import draw
 import explain
@@ -67,7 +66,7 @@ def compared(path, written):
 def of_script(found, data, path):
     yield from table(found, data)
     if found.error:
-        yield bad_lines.explained(data, found.error, found.bad_line)
+        yield found.error
     yield compared(path, "".join(bank.compact(step.reply) + "\n" for step in found.steps))
 
 

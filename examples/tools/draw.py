@@ -18,7 +18,6 @@ import shutil
 import sys
 
 import bank
-import bad_lines
 import picture
 import saying
 import world
@@ -212,13 +211,11 @@ def sites_of(words, count):
 def drawing_of(program, data, first=None, last=None, sites=()):
     """The drawing of a file's bytes."""
     found = world.world_of(program, data)
-    kind = "audit" if found.is_histories else "script"
     if found.config is None or not found.steps and found.error:
-        raise bank.Stop(bad_lines.explained(data, found.error, found.bad_line, kind))
+        raise bank.Stop(found.error)
     drawing = Drawing(found, first, last, sites_of(list(sites), found.config["sites"]))
     if found.error and last is None:
-        fault = bad_lines.explained(data, found.error, found.bad_line, kind)
-        drawing.fault = fault.removeprefix(f"line {found.bad_line}: ").split("\n")
+        drawing.fault = found.error.removeprefix(f"line {found.bad_line}: ").split("\n")
     return drawing
 
 

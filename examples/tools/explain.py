@@ -13,7 +13,6 @@ import json
 import os
 import tempfile
 
-import bad_lines
 import bank
 import saying
 import world
@@ -116,7 +115,7 @@ def of_script(found, data):
     for step in found.steps:
         yield f"line {step.line:>{wide}}  {of_step(found, step)}"
     if found.error:
-        yield bad_lines.explained(data, found.error, found.bad_line)
+        yield found.error
     elif not found.steps and found.config:
         yield f"A bank of {counted(found.config['accounts'], 'account')} at {found.config['sites']} sites. No command."
 
@@ -149,7 +148,7 @@ def of_fault(found, step, data):
 def of_histories(found, data):
     """The lines of an explained audit."""
     if found.error:
-        yield bad_lines.explained(data, found.error, found.bad_line, "audit")
+        yield found.error
         return
     count, sites = len(found.steps), len({step.site for step in found.steps})
     entries, at_sites = f"{count} entr{'y' if count == 1 else 'ies'}", f"{sites} site{'' if sites == 1 else 's'}"
@@ -185,8 +184,9 @@ def name_of(message):
 def of_answer(data, number, event, answer, me):
     """A line of a site, with its answer."""
     if "bad" in answer:
-        error = f"line {number}: {'line too long' if answer['bad'] == 'long' else 'bad line'}"
-        return bad_lines.explained(data, error, number, "site")
+        what = "line too long" if answer["bad"] == "long" else "bad line"
+        why = [bank.said(answer["why"])] if "why" in answer else []
+        return "\n  ".join([f"line {number}: {what}", *why, text_of(data, number)])
     step = world.Step(number, me, event, answer["reply"])
     again = "made before, so it is answered again: " if "again" in answer else ""
     words = [f"line {number}  site {me}: {asked(None, step)} -> {again}{answered(step)}"]
@@ -205,8 +205,8 @@ def of_site(program, data, me):
     answers = [answer for answer in map(json.loads, run.replies) if "reply" in answer or "bad" in answer]
     events = [(number, world.parsed(line) or {}) for number, line in world.lines_of(data)[1:]]
     lines = [of_answer(data, *line, answer, me) for line, answer in zip(events, answers)]
-    if run.error:
-        lines.append(bad_lines.explained(data, run.error, run.bad_line, "site"))
+    if run.fault:
+        lines.append(run.said)
     return lines, run.status
 
 

@@ -65,7 +65,7 @@ class World:
     config: dict
     steps: list
     senders: list = field(default_factory=list)     # of message n, at n - 1: the step, and what was sent
-    error: str = ""                                 # the program's line on standard error
+    error: str = ""                                 # what the program says of a line that it doesn't take
     bad_line: int = None
     verdict: dict = None                            # of histories: the audit's answer
     answer: dict = None                             # of a wrong reply: what the site would have answered
@@ -147,10 +147,10 @@ def of_script(program, data):
     asked = questions(config, [(command.get("site"), command) for command in commands])
     run = program.run("script", data + "".join("\n" + line for line in asked).encode())
     replies = run.replies[:len(commands)]
-    world = World(config, [], error=run.error, bad_line=run.bad_line)
+    world = World(config, [], error=run.said, bad_line=run.bad_line)
     texts = [line.decode("utf-8", "replace") for _, line in lines[1:]]
     has = balances(asked, run.replies[len(replies):])
-    if run.error and replies or any('"refused":23' in reply for reply in run.replies):
+    if run.fault and replies or any('"refused":23' in reply for reply in run.replies):
         has = balances_with_room(program, config, texts, replies, asked)
     for (number, _), command, reply in zip(lines[1:], commands, replies):
         event = {key: value for key, value in command.items() if key != "site"}
@@ -238,7 +238,7 @@ def of_histories(program, data):
     lines = lines_of(data)
     run = program.run("audit", data)
     if not run.replies:
-        return World(None, [], error=run.error, bad_line=run.bad_line, is_histories=True)
+        return World(None, [], error=run.said, bad_line=run.bad_line, is_histories=True)
     config, verdict = json.loads(lines[0][1]), json.loads(run.replies[0])
     steps, queues = entries(config, lines[1:])
     order = in_rounds(queues, ends_of(program, config, queues, verdict))
