@@ -17,6 +17,7 @@ import argparse
 import json
 import os
 import sys
+import tempfile
 import threading
 from typing import Any, Callable
 
@@ -312,7 +313,7 @@ class Browse:
         self.shot("sixteen")
 
     def files(self) -> None:
-        """A migration, a site's journal, and two journals together are drawn; an example by its address."""
+        """A migration, journals and a mended file are drawn; examples by their addresses."""
         page = self.page
         page.one("#pick option[value='migrated_history.migration']").click()
         page.settle()
@@ -327,11 +328,25 @@ class Browse:
         page.settle()
         page.settle()
         same("files", "two journals", page.ask("return S.world.verdict && Object.keys(S.world.verdict)"), ["order"])
-        page.js("sessionStorage.clear()")
-        page.load("#stale_token")
-        page.settle()
-        count = len(world.lines_of(bank.read(bank.example("stale_token.jsonl")))) - 1
-        same("files", "by its address", page.ask("return S.commands.length"), count)
+        for wanted in ("stale_token", "out_of_order_delivery"):
+            page.load(f"#{wanted}")
+            page.settle()
+            count = len(world.lines_of(bank.read(bank.example(f"{wanted}.jsonl")))) - 1
+            same("files", f"by its address, {wanted}", page.ask("return S.commands.length"), count)
+        page.do({"deposit": ["ann", 7], "site": 0})
+        made = page.ask("return S.commands")
+        page.load("#out_of_order_delivery")
+        same("files", "the same address again keeps what was made", page.ask("return S.commands"), made)
+        with tempfile.NamedTemporaryFile("w", suffix=".jsonl") as file:
+            for line in ('{"deposit":["ann",-1],"site":0}', '{"deposit":["ann",1],"site":0}'):
+                file.seek(0)
+                file.write(json.dumps(TWO) + "\n" + line + "\n")
+                file.truncate()
+                file.flush()
+                page.one("#file").send_keys(file.name)
+                page.settle()
+                page.settle()
+        same("files", "a mended file", page.ask("return S.commands.length"), 1)
 
     def touch(self) -> None:
         """A finger drags a message, and lights an operation."""

@@ -52,7 +52,7 @@ function drawColumns(state) {
 }
 function remember() {
   try {
-    sessionStorage.setItem('play', JSON.stringify(snapshot()));
+    sessionStorage.setItem('play', JSON.stringify({snap: snapshot(), hash: location.hash}));
   } catch {
     // nothing is kept, then
   }
@@ -144,7 +144,7 @@ function newBank() {
 }
 /** Files that are chosen together are the journals of sites: all but the first lose their first line. */
 async function openFiles(files) {
-  const texts = await Promise.all([...files].map((file) => file.text()));
+  const texts = await Promise.all(files.map((file) => file.text()));
   const isMany = texts.length > 1;
   const rest = texts.slice(1).map((text) => text.trim().split('\n').slice(1).join('\n'));
   openFile(isMany ? 'journal' : files[0].name, isMany ? [texts[0].trim(), ...rest, ''].join('\n') : texts[0]);
@@ -181,7 +181,10 @@ function listenToFiles(examples) {
     if (name === 'file') $('file').click();
     else openExample(examples.find((each) => each.name === name));
   });
-  $('file').addEventListener('change', (event) => openFiles(event.target.files));
+  $('file').addEventListener('change', (event) => {
+    openFiles([...event.target.files]);
+    event.target.value = ''; // else the same file, mended, is no change
+  });
 }
 function listExamples(examples) {
   for (const kind of new Set(examples.map((each) => each.kind))) {
@@ -206,7 +209,7 @@ async function start() {
   }
   S.puzzles = await got('/puzzles.json');
   const {examples, program} = await got('/examples');
-  await restore(kept || snapshot()).catch(() => restore(snapshot()));
+  await restore(kept?.snap || snapshot()).catch(() => restore(snapshot()));
   $('who').textContent = `answered by ${program.replace(/ \/.*/, '')}`;
   listExamples(examples);
   listenToFiles(examples);
@@ -215,7 +218,7 @@ async function start() {
     if (example) openExample(example);
   };
   window.addEventListener('hashchange', openNamed);
-  if (!kept) openNamed();
+  if (kept?.hash !== location.hash) openNamed();
 }
 document.documentElement.dataset.theme = matchMedia('(prefers-color-scheme:dark)').matches ? 'dark' : 'light';
 document.documentElement.classList.add('started');
