@@ -120,6 +120,7 @@ def pages(there: Installed) -> Results:
         path = path_of(there, *page.rstrip(")").split("("))
         with open(path, encoding="utf-8") as file:
             texts[page] = file.read()
+        yield f"{page} has no escape of a table", "\\e|" not in texts[page]
         if shutil.which("groff"):
             run = subprocess.run(["groff", "-man", "-ww", "-Tutf8", path], capture_output=True, text=True)
             yield f"groff on {page}", (run.stderr, run.returncode) == ("", 0)

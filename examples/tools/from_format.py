@@ -52,7 +52,8 @@ def inline(text):
 
 
 def cells(line):
-    return [cell.strip() for cell in CELLS.split(line.strip().removeprefix("|").removesuffix("|"))]
+    split = CELLS.split(line.strip().removeprefix("|").removesuffix("|"))
+    return [cell.strip().replace("\\|", "|") for cell in split]
 
 
 def table(lines):
