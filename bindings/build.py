@@ -135,6 +135,8 @@ def over_the_gates():
 
 def by_rt_lib():
     """Proves whatever isn't proved here yet, and builds the library."""
+    print("no library of these sources is here: `rt lib` proves it first, up to an hour; if it is ended, it goes on "
+          "from what it checked", flush=True)
     subprocess.run(["rt", "lib"], cwd=CRATE, check=True)
 
 

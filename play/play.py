@@ -177,6 +177,8 @@ def main() -> int:
         raise bank.Stop(f"examples/ has no {asked.open}")
     with Server(answers.Answers(built(asked.program)), asked.port) as serving:
         address = serving.address + (f"#{asked.open}" if asked.open else "")
+        if asked.port not in (0, serving.server_port):
+            print(f"port {asked.port} is taken: the tutorial's links go to what is there")
         print(f"{address} is answered by {serving.answers.program.what}; Ctrl-C ends it", flush=True)
         if not asked.no_browser:
             threading.Thread(target=webbrowser.open, args=(address,), daemon=True).start()

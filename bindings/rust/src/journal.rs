@@ -172,6 +172,15 @@ impl Journal {
         Ok(self.reply())
     }
 
+    /// Answers a line as [`answer`](Journal::answer) does, and gives a text of the caller's own.
+    ///
+    /// # Errors
+    ///
+    /// As those of [`answer`](Journal::answer).
+    pub fn answer_owned(&mut self, line: &str) -> Result<String, JournalError> {
+        self.answer(line).map(str::to_owned)
+    }
+
     /// The last answer once more; empty if there was none, or the site ended.
     pub fn reply(&mut self) -> &str {
         without_line_feed(copy(

@@ -471,7 +471,7 @@ fn a_journal_goes_on() {
     );
     assert!(site.reply().starts_with(r#"{"sends":[{"shadow":"#));
     assert_eq!(
-        site.answer(r#"{"balance":"ann"}"#).unwrap(),
+        site.answer_owned(r#"{"balance":"ann"}"#).unwrap(),
         r#"{"reply":{"balance":500},"sends":[],"then":[]}"#
     );
     fs::remove_dir_all(path.parent().unwrap()).unwrap();
