@@ -107,12 +107,11 @@ class Bank:
 
     def settings(self):
         names = listed(f'codes "{name}"' for name in self.places)
-        starts = listed(f"({start})" for _, start in self.config["accounts"])
+        starts = listed(str(start) for _, start in self.config["accounts"])
         keys = ("blue", "red", "inbox", "history", "epoch")
         given = "; ".join(f"{key} = {self.config[key]}" for key in keys if key in self.config)
-        limits = f"record largest {{ {given} }}" if given else "largest"
-        of_all = f"limits = {limits}; version = {self.config['version']}"
-        return f"record {{ sites = {self.config['sites']}; names = {names}; starts = {starts}; {of_all} }}"
+        limits = f"(record largest {{ {given} }})" if given else "largest"
+        return f"bank {self.config['sites']} ({names}) ({starts}) {limits} {self.config['version']}"
 
     def place(self, name):
         return self.places.get(name, "NOWHERE")
@@ -137,18 +136,16 @@ class Bank:
             kind = f"({kind} {name_of(it['target'])})"
         if "to" in it:
             kind = f"({kind} {self.place(it['to'])})"
-        deps = f"counting {counts} {part(over(red, RED))}"
-        money = f"account = {self.place(it['account'])}; amount = {over(it['amount'], CENTS)}"
-        fields = f"name = {name_of(it['name'])}; home = {it['home']}; deps = {deps}; {money}; kind = {kind}"
-        return f"(Receive (ShadowMessage (record {{ {fields} }})))"
+        deps = f"(counting {counts} {part(over(red, RED))})"
+        money = f"{self.place(it['account'])} {part(over(it['amount'], CENTS))}"
+        return f"(operation {name_of(it['name'])} {it['home']} {deps} {money} {kind})"
 
     def event(self, asked):
         ((kind, given),) = asked.items()
         if kind == "shadow":
             return self.shadow(given)
         if kind == "token":
-            epoch, to, red = over(given[0], EPOCH), given[1], over(given[2], RED)
-            return f"(Receive (TokenOnItsWay (record {{ epoch = {epoch}; to = {to}; red = {red} }})))"
+            return f"(token {part(over(given[0], EPOCH))} {given[1]} {part(over(given[2], RED))})"
         if kind == "batch":
             return f"(Batch ({listed(map(self.request, given))}))"
         if kind in bank.REQUESTS:
@@ -164,8 +161,8 @@ class Bank:
 def row_of(position, name, kind, moved, cancelled, balance):
     """The term of a statement's row."""
     by = f"(pos {moved})" if moved >= 0 else f"(negsuc {-moved - 1})"
-    what = f"position = {position}; name = {name_of(name)}; kind = {kind.capitalize()}Label; moved = {by}"
-    return f"(record {{ {what}; cancelled = {str(cancelled).lower()}; balance = {over(balance, CENTS)} }})"
+    what = f"{position} {name_of(name)} {kind.capitalize()}Label {by}"
+    return f"(row_at {what} {str(cancelled).lower()} {part(over(balance, CENTS))})"
 
 
 def refused(why):
@@ -196,9 +193,9 @@ def reply(answer):
 
 
 def wrapped(line):
-    """A line of a term in lines of this width, each broken before a list's next item or behind a semicolon."""
+    """A line of a term in lines of this width, each broken before a list's next item in parentheses."""
     lines = [""]
-    for piece in re.split(r"(?= ∷ )|(?<=;)(?= )", line):
+    for piece in re.split(r"(?= ∷ \()", line):
         if len(lines[-1]) + len(piece) > WIDTH:
             lines.append("       ")
         lines[-1] += piece
