@@ -1,8 +1,8 @@
 #!/usr/bin/env python3
 """Prints what a statement rests on: the definitions that it names, those that these name, and so on, until only the
-toolchain's own are left. A statement is a function with a contract, as World::run or one_token, or a definition.
+toolchain's own are left. A statement is a function with a contract, as World::run, or a definition.
 
-usage: closure.py                  the headline's: the functions and laws of the first table of docs/PROVED.md
+usage: closure.py                  the headline's: the functions of the first table of docs/PROVED.md
        closure.py STATEMENT..      that of others, as Ledger::apply, rb_site::Site::open, run_script, Funds
        closure.py --all            every definition with the comment above it, in four parts: those of the headline, of
                                    the program's text, of other public contracts, and of inner contracts
@@ -241,15 +241,12 @@ def headline_table():
 
 
 def headline():
-    """The functions with the clauses, and the laws, of the headline's table."""
-    table = headline_table()
-    called = [(name, re.findall(r"\w+", clauses)) for name, clauses in CALL.findall(table)]
-    laws = re.findall(r"`(\w+)`", " ".join(re.findall(r"laws? ((?:(?:, )?`\w+`)+)", table)))
-    return called, laws
+    """The functions of the headline's table, with their clauses."""
+    return [(name, re.findall(r"\w+", clauses)) for name, clauses in CALL.findall(headline_table())]
 
 
 def resting(things, names):
-    """On how many definitions functions or laws rest."""
+    """On how many definitions functions rest."""
     found = things.closure([it for name in names for it in things.statements(name)])
     return sum(it.kind == "definition" for it in found)
 
@@ -257,11 +254,6 @@ def resting(things, names):
 def table_rows(text):
     """The rows of a page's tables."""
     return re.findall(r"(?m)^\| .*\|$", text)
-
-
-def called_in(row):
-    """What a row of docs/PROVED.md names, with its clauses: CRATE::FUNCTION, TYPE::FUNCTION, or a law of rb_world."""
-    return CALL.findall(row) + [("rb_world::" + law, "") for law in re.findall(r"law `(\w+)`", row)]
 
 
 def pages(things):
@@ -277,7 +269,7 @@ def promises(things):
     for page, crate, text in pages(things):
         for row in table_rows(text):
             own = OWN_CALL.findall(row.split("|")[1])
-            called = [(f"{crate}::{name}", clauses) for name, clauses in own] if crate else called_in(row)
+            called = [(f"{crate}::{name}", clauses) for name, clauses in own] if crate else CALL.findall(row)
             number = re.search(r"\| (\d+) \|(?:[^|]*\|)?$", row)
             if called:
                 yield page, row, called, number and int(number.group(1))
@@ -301,9 +293,8 @@ def counted(things):
             if row not in of_headline:
                 seen.update((name, clause) for clause in clauses or [""])
     yield from (f"two rows have {name} {clause}" for (name, clause), times in seen.items() if times > 1)
-    called, laws = headline()
-    for said, names in ((r"must believe (\d+)", [name for name, _ in called] + ["rb_world::" + law for law in laws]),
-                        (r"`never_negative` alone (\d+)", ["rb_world::never_negative"])):
+    for said, names in ((r"must believe (\d+)", [name for name, _ in headline()]),
+                        (r"`World::never_negative` alone (\d+)", ["World::never_negative"])):
         rests = resting(things, names)
         if re.findall(said, read("README.md")) != [str(rests)]:
             yield f"README.md: '{said}' should say {rests}"
@@ -322,9 +313,7 @@ def conditions(things):
 
 def parts(things):
     """Each definition's part, the first that it belongs to."""
-    called, laws = headline()
-    roots = [[it for name, _ in called for it in things.statements(name)], [], [], []]
-    roots[0] += [it for law in laws for it in things.statements("rb_world::" + law)]
+    roots = [[it for name, _ in headline() for it in things.statements(name)], [], [], []]
     roots[1] += [it for name in PROGRAM for it in things.statements(name)]
     roots[1] += [it for its in things.functions.values() for it in its if it.crate == "rbbank"]
     roots[2] += [it for its in things.functions.values() for it in its if it.public]
@@ -348,8 +337,7 @@ def tell(found):
 
 
 def tell_closure(things, names):
-    called, laws = headline()
-    names = names or [name for name, _ in called] + ["rb_world::" + law for law in laws]
+    names = names or [name for name, _ in headline()]
     statements = []
     for name in names:
         found = things.statements(name)
@@ -430,7 +418,7 @@ def by_need(things):
     row that rests on the fewest."""
     rows, listed = [], set()
     for row in re.findall(r"(?m)^\| (?!The sentence|---).*\|$", headline_table()):
-        found = things.closure([it for name, _ in called_in(row) for it in things.statements(name)])
+        found = things.closure([it for name, _ in CALL.findall(row) for it in things.statements(name)])
         rows.append((row, {id(it): it for it in found if it.kind == "definition"}))
     order = re.findall(r"(?m)^(rb\w+)", read("crates.txt"))
     for row, rests in sorted(rows, key=lambda it: len(it[1])):
@@ -501,8 +489,7 @@ def check(things):
         wrong.append("docs/MODEL.md isn't what the comments say now: tests/closure.py --write makes it")
     for name in sorted(set(re.findall(r"`(\w*(?:[a-z]_|[a-z][A-Z])\w*)`", text)) - known(things)):
         wrong.append(f"docs/MODEL.md: there is no {name}")
-    called, laws = headline()
-    for name, clauses in called + [("rb_world::" + law, []) for law in laws]:
+    for name, clauses in headline():
         found = "".join(it.text for it in things.statements(name))
         if not found:
             wrong.append(f"docs/PROVED.md: there is no {name}")

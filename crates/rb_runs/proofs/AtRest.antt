@@ -1,7 +1,7 @@
 -- Closed books are of a world at rest.
 use Rattle.rb_runs.proofs.Words.{◌≡◌, ◌≤◌, ℕ, List, Some, sym, ap, ◌∙◌, subst, arith, slice_get, IsConfigured, Settings, Shadow, Agree}
-use Rattle.rb_runs.proofs.Words.{Among, AreSame, clock_of, names, names_of_clock, Entry, AreOneWorlds, World, made_in, world_of_run}
-use Rattle.rb_runs.proofs.Words.{Agreement, Always, Clocks, RedBlue, MayBeClosed, applied_from, ClosedBalancesAgree}
+use Rattle.rb_runs.proofs.Words.{Among, AreSame, clock_of, names, names_of_clock, Entry, AreOneWorlds, made_in, world_of_run}
+use Rattle.rb_runs.proofs.Words.{Always, Holds, MayBeClosed, applied_from, ClosedBalancesAgree}
 use Rattle.rb_runs.proofs.OneWorlds.{IsSiteWith, list_of, run_of, site_with}
 use Rattle.rb_shadow.proofs.Public.Members
 
@@ -9,64 +9,64 @@ use Rattle.rb_shadow.proofs.Public.Members
 pub some_site : (s : Settings) → IsConfigured s → 1 ≤ s.sites
 some_site s c = let some : 2 ≤ s.sites = c.some_sites in omega arith
 
--- a law of all runs holds of the histories' world
-pub of_world : (P : Settings → World → Type 0) → Always P → (s : Settings) (hs : List (List Entry)) → IsConfigured s →
-    (one : AreOneWorlds s hs) → P s (world_of_run s one.events)
-of_world P law s hs c one = law s one.events (some_site s c) c.few_sites one.own
+-- the laws of all runs hold of the histories' world
+pub of_world : Always Holds → (s : Settings) (hs : List (List Entry)) → IsConfigured s → (one : AreOneWorlds s hs) →
+    Holds s (world_of_run s one.events)
+of_world laws s hs c one = laws s one.events (some_site s c) c.few_sites one.own
 
 -- of the histories of one world, what a site has applied has the names of its clock
-pub clock_names : Always Clocks → (s : Settings) (hs : List (List Entry)) → IsConfigured s → (one : AreOneWorlds s hs) (i : ℕ)
+pub clock_names : Always Holds → (s : Settings) (hs : List (List Entry)) → IsConfigured s → (one : AreOneWorlds s hs) (i : ℕ)
     (us : List Shadow) → slice_get (applied_from s 0 hs) i ≡ Some us → AreSame (names us) (names_of_clock (clock_of us))
-clock_names law s hs c one i us at =
+clock_names laws s hs c one i us at =
     let h : IsSiteWith (world_of_run s one.events) i us = site_with s hs one i us at in
-    subst (λ vs. AreSame (names vs) (names_of_clock (clock_of vs))) h.ops (of_world Clocks law s hs c one i h.site h.at)
+    subst (λ vs. AreSame (names vs) (names_of_clock (clock_of vs))) h.ops ((of_world laws s hs c one).clocks i h.site h.at)
 
 -- if the books may be closed, any two sites have applied the same names
-pub same_names : Always Clocks → (s : Settings) (hs : List (List Entry)) → IsConfigured s → (one : AreOneWorlds s hs) →
+pub same_names : Always Holds → (s : Settings) (hs : List (List Entry)) → IsConfigured s → (one : AreOneWorlds s hs) →
     MayBeClosed (applied_from s 0 hs) → (i j : ℕ) (us vs : List Shadow) → slice_get (applied_from s 0 hs) i ≡ Some us →
     slice_get (applied_from s 0 hs) j ≡ Some vs → AreSame (names us) (names vs)
-same_names law s hs c one closed i j us vs at there x =
-    clock_names law s hs c one i us at x ∙ ap (λ k. names_of_clock k x) (closed i j us vs at there)
-    ∙ sym (clock_names law s hs c one j vs there x)
+same_names laws s hs c one closed i j us vs at there x =
+    clock_names laws s hs c one i us at x ∙ ap (λ k. names_of_clock k x) (closed i j us vs at there)
+    ∙ sym (clock_names laws s hs c one j vs there x)
 
 -- any two sites agree
-pub sites_agree : Always Clocks → Always Agreement → (s : Settings) (hs : List (List Entry)) → IsConfigured s →
+pub sites_agree : Always Holds → (s : Settings) (hs : List (List Entry)) → IsConfigured s →
     (one : AreOneWorlds s hs) → MayBeClosed (applied_from s 0 hs) → (i j : ℕ) (us vs : List Shadow) →
     slice_get (applied_from s 0 hs) i ≡ Some us → slice_get (applied_from s 0 hs) j ≡ Some vs → Agree s us vs
-sites_agree clocks agreement s hs c one closed i j us vs at there =
+sites_agree laws s hs c one closed i j us vs at there =
     let h : IsSiteWith (world_of_run s one.events) i us = site_with s hs one i us at in
     let k : IsSiteWith (world_of_run s one.events) j vs = site_with s hs one j vs there in
-    let same : AreSame (names us) (names vs) = same_names clocks s hs c one closed i j us vs at there in
+    let same : AreSame (names us) (names vs) = same_names laws s hs c one closed i j us vs at there in
     let same' : AreSame (names h.site.ops) (names k.site.ops) =
     λ x. ap (λ ws. names ws x) h.ops ∙ same x ∙ ap (λ ws. names ws x) (sym k.ops) in
     subst (λ ws. Agree s ws vs) h.ops
-    (subst (Agree s h.site.ops) k.ops (of_world Agreement agreement s hs c one i h.site h.at j k.site k.at same'))
+    (subst (Agree s h.site.ops) k.ops ((of_world laws s hs c one).agreement i h.site h.at j k.site k.at same'))
 
 -- what a site has applied was made
-pub was_made : Always RedBlue → (s : Settings) (hs : List (List Entry)) → IsConfigured s → (one : AreOneWorlds s hs) (i : ℕ)
+pub was_made : Always Holds → (s : Settings) (hs : List (List Entry)) → IsConfigured s → (one : AreOneWorlds s hs) (i : ℕ)
     (us : List Shadow) → slice_get (applied_from s 0 hs) i ≡ Some us → (v : Shadow) → Among v us →
     Among v (made_in (world_of_run s one.events))
-was_made law s hs c one i us at v k =
+was_made laws s hs c one i us at v k =
     let h : IsSiteWith (world_of_run s one.events) i us = site_with s hs one i us at in
-    (of_world RedBlue law s hs c one).made i h.site h.at v (subst (Among v) (sym h.ops) k)
+    (of_world laws s hs c one).red_blue.made i h.site h.at v (subst (Among v) (sym h.ops) k)
 
 -- each site has applied what was made
-every : Always Clocks → Always RedBlue → (s : Settings) (hs : List (List Entry)) → IsConfigured s → (one : AreOneWorlds s hs) →
+every : Always Holds → (s : Settings) (hs : List (List Entry)) → IsConfigured s → (one : AreOneWorlds s hs) →
     MayBeClosed (applied_from s 0 hs) → (i : ℕ) (us : List Shadow) → slice_get (applied_from s 0 hs) i ≡ Some us → (v : Shadow) →
     Among v (made_in (world_of_run s one.events)) → Among v us
-every clocks law s hs c one closed i us at v made =
+every laws s hs c one closed i us at v made =
     let (j, t, there, k) = (run_of s one.events).made v made in
     let same : names us v.name ≡ names t.ops v.name =
-    same_names clocks s hs c one closed i j us t.ops at (list_of s hs one j t there) v.name in
+    same_names laws s hs c one closed i j us t.ops at (list_of s hs one j t there) v.name in
     let (u, among, named) = Members.find_named us v.name (same ∙ Members.named t.ops v k) in
-    let is : u ≡ v = Members.same_named (made_in (world_of_run s one.events)) u v (of_world RedBlue law s hs c one).lawful.unique
-    (was_made law s hs c one i us at u among) made named in
+    let is : u ≡ v = Members.same_named (made_in (world_of_run s one.events)) u v (of_world laws s hs c one).red_blue.lawful.unique
+    (was_made laws s hs c one i us at u among) made named in
     subst (λ w. Among w us) is among
 
 -- closed books are of a world at rest
-pub closed_agree : Always Clocks → Always Agreement → Always RedBlue → ClosedBalancesAgree
-closed_agree clocks agreement red_blue x c one closed = record {
-  agree = sites_agree clocks agreement x.settings x.histories c one closed;
-  all = every clocks red_blue x.settings x.histories c one closed;
-  no_other = was_made red_blue x.settings x.histories c one;
+pub closed_agree : Always Holds → ClosedBalancesAgree
+closed_agree laws x c one closed = record {
+  agree = sites_agree laws x.settings x.histories c one closed;
+  all = every laws x.settings x.histories c one closed;
+  no_other = was_made laws x.settings x.histories c one;
 }

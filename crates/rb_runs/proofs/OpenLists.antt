@@ -4,7 +4,7 @@ use Rattle.rb_runs.proofs.Words.{ap, ◌∙◌, subst, arith, inl, inr, map, ◌
 use Rattle.rb_runs.proofs.Words.{and_from, and_parts, not-true, not_from_false, nat_tests, get_or-map-range_with_len}
 use Rattle.rb_runs.proofs.Words.{length-map-range_with_len, slice_get-get_or, IsConfigured, Settings, MOST_SITES, OpName, Blue, Red}
 use Rattle.rb_runs.proofs.Words.{Shadow, blue_count, names, red_count, IsValid, none_past, valid_counted, get_front, Entry, AreOneWorlds}
-use Rattle.rb_runs.proofs.Words.{made_in, world_of_run, Always, Clocks, RedBlue, ValidLists, MayBeClosed, applied_from, lacked, lacks}
+use Rattle.rb_runs.proofs.Words.{made_in, world_of_run, Always, Holds, MayBeClosed, applied_from, lacked, lacks}
 use Rattle.rb_runs.proofs.Words.{next_names, HasUpTo, OpenListsAreLacking}
 use Rattle.std.proofs.lemmas.Map.Keys.{any_passes_from_place}
 use Rattle.rb_shadow.specs.declared.deps.Deps.{Deps}
@@ -127,44 +127,44 @@ has_up_to s uss us vs j (Red n) valid valid' there has none =
 -- ---- the histories of one world
 
 -- what a site has applied is valid
-pub valid_list : Always ValidLists → (s : Settings) (hs : List (List Entry)) → IsConfigured s → (one : AreOneWorlds s hs) (i : ℕ)
+pub valid_list : Always Holds → (s : Settings) (hs : List (List Entry)) → IsConfigured s → (one : AreOneWorlds s hs) (i : ℕ)
     (us : List Shadow) → slice_get (applied_from s 0 hs) i ≡ Some us → IsValid s us
-valid_list law s hs c one i us at =
+valid_list laws s hs c one i us at =
     let h : IsSiteWith (world_of_run s one.events) i us = site_with s hs one i us at in
-    subst (IsValid s) h.ops (of_world ValidLists law s hs c one i h.site h.at)
+    subst (IsValid s) h.ops ((of_world laws s hs c one).valid_lists i h.site h.at)
 
 -- what is in a list is made and not applied
-listed : Always RedBlue → (s : Settings) (hs : List (List Entry)) → IsConfigured s → (one : AreOneWorlds s hs) (us : List Shadow) (k : ℕ)
+listed : Always Holds → (s : Settings) (hs : List (List Entry)) → IsConfigured s → (one : AreOneWorlds s hs) (us : List Shadow) (k : ℕ)
     (x : OpName) → slice_get (lacked s.sites (applied_from s 0 hs) us) k ≡ Some x →
     (names (made_in (world_of_run s one.events)) x ≡ true) × (names us x ≡ false)
-listed law s hs c one us k x at =
+listed laws s hs c one us k x at =
     let uss : List (List Shadow) = applied_from s 0 hs in
     let p = and_parts (list_any (λ vs. names vs x) uss) (not (names us x)) (passes (lacks uss us) (next_names s.sites us) k x at) in
     let (j, vs, there, has) = any_there (λ vs. names vs x) uss p.0 in
     let (v, among, named) = Members.find_named vs x has in (
       ap (names (made_in (world_of_run s one.events))) (sym named)
-          ∙ Members.named (made_in (world_of_run s one.events)) v (was_made law s hs c one j vs there v among),
+          ∙ Members.named (made_in (world_of_run s one.events)) v (was_made laws s hs c one j vs there v among),
       not-true (names us x) p.1,
     )
 
 -- what is made and not applied has a name of its row in the list
-first_listed : Always ValidLists → (s : Settings) (hs : List (List Entry)) → IsConfigured s → (one : AreOneWorlds s hs) (i : ℕ)
+first_listed : Always Holds → (s : Settings) (hs : List (List Entry)) → IsConfigured s → (one : AreOneWorlds s hs) (i : ℕ)
     (us : List Shadow) → slice_get (applied_from s 0 hs) i ≡ Some us → (y : OpName) →
     names (made_in (world_of_run s one.events)) y ≡ true → names us y ≡ false → HasUpTo (lacked s.sites (applied_from s 0 hs) us) y
-first_listed law s hs c one i us at y made none =
+first_listed laws s hs c one i us at y made none =
     let (v, among, named) = Members.find_named (made_in (world_of_run s one.events)) y made in
     let (j, t, there, k) = (run_of s one.events).made v among in
     let at' : slice_get (applied_from s 0 hs) j ≡ Some t.ops = list_of s hs one j t there in
-    has_up_to s (applied_from s 0 hs) us t.ops j y (valid_list law s hs c one i us at) (valid_list law s hs c one j t.ops at') at'
+    has_up_to s (applied_from s 0 hs) us t.ops j y (valid_list laws s hs c one i us at) (valid_list laws s hs c one j t.ops at') at'
     (ap (names t.ops) (sym named) ∙ Members.named t.ops v k) none
 
 -- ---- closed books
 
 -- if the books may be closed no site lacks anything
-nothing_open : Always Clocks → (s : Settings) (hs : List (List Entry)) → IsConfigured s → (one : AreOneWorlds s hs) →
+nothing_open : Always Holds → (s : Settings) (hs : List (List Entry)) → IsConfigured s → (one : AreOneWorlds s hs) →
     MayBeClosed (applied_from s 0 hs) → (i : ℕ) (us : List Shadow) → slice_get (applied_from s 0 hs) i ≡ Some us →
     lacked s.sites (applied_from s 0 hs) us ≡ []
-nothing_open law s hs c one closed i us at =
+nothing_open laws s hs c one closed i us at =
     none_left (lacks uss us) (next_names s.sites us) (λ x. by x (Members.bool_cases (lacks uss us x)))
   where
     uss : List (List Shadow)
@@ -175,7 +175,7 @@ nothing_open law s hs c one closed i us at =
     by x (inl e) =
         let p = and_parts (list_any (λ vs. names vs x) uss) (not (names us x)) e in
         let (j, vs, there, has) = any_there (λ vs. names vs x) uss p.0 in
-        let here : names us x ≡ true = same_names law s hs c one closed i j us vs at there x ∙ has in
+        let here : names us x ≡ true = same_names laws s hs c one closed i j us vs at there x ∙ has in
         absurd (Members.true≢false (sym p.1 ∙ ap not here))
 
 empty_has_none : (y : OpName) → HasUpTo [] y → ⊥
@@ -223,13 +223,13 @@ same_clock us vs blue red = deps_same (map (blue_count us) (range_with_len 0 MOS
     (red_count us) (red_count vs) (map_same (blue_count us) (blue_count vs) (range_with_len 0 MOST_SITES) blue) red
 
 -- if no site lacks anything the books may be closed
-nothing_lacked : Always ValidLists → (s : Settings) (hs : List (List Entry)) → IsConfigured s → (one : AreOneWorlds s hs) →
+nothing_lacked : Always Holds → (s : Settings) (hs : List (List Entry)) → IsConfigured s → (one : AreOneWorlds s hs) →
     ((i : ℕ) (us : List Shadow) → slice_get (applied_from s 0 hs) i ≡ Some us → lacked s.sites (applied_from s 0 hs) us ≡ []) →
     MayBeClosed (applied_from s 0 hs)
-nothing_lacked law s hs c one none i j us vs at there =
+nothing_lacked laws s hs c one none i j us vs at there =
     let uss : List (List Shadow) = applied_from s 0 hs in
-    let valid : IsValid s us = valid_list law s hs c one i us at in
-    let valid' : IsValid s vs = valid_list law s hs c one j vs there in
+    let valid : IsValid s us = valid_list laws s hs c one i us at in
+    let valid' : IsValid s vs = valid_list laws s hs c one j vs there in
     same_clock us vs
     (λ k. both _ _ (blue_most s uss vs us i k valid' valid at (none j vs there))
     (blue_most s uss us vs j k valid valid' there (none i us at)))
@@ -257,19 +257,19 @@ none_or_some f (vs ∷ uss) = by (f vs) refl (none_or_some f uss)
     by [] e (inr (i, us, x, at, q)) = inr (suc i, us, x, at, q)
 
 -- if the books may not be closed, some site lacks something
-something_open : Always ValidLists → (s : Settings) (hs : List (List Entry)) → IsConfigured s → (one : AreOneWorlds s hs) →
+something_open : Always Holds → (s : Settings) (hs : List (List Entry)) → IsConfigured s → (one : AreOneWorlds s hs) →
     ¬ MayBeClosed (applied_from s 0 hs) → (i : ℕ) × (us : List Shadow) × (x : OpName) × (slice_get (applied_from s 0 hs) i ≡ Some us)
     × (slice_get (lacked s.sites (applied_from s 0 hs) us) 0 ≡ Some x)
-something_open law s hs c one unclosed = elim (none_or_some (lacked s.sites (applied_from s 0 hs)) (applied_from s 0 hs)) [
-  | inl none ↦ absurd (unclosed (nothing_lacked law s hs c one none))
+something_open laws s hs c one unclosed = elim (none_or_some (lacked s.sites (applied_from s 0 hs)) (applied_from s 0 hs)) [
+  | inl none ↦ absurd (unclosed (nothing_lacked laws s hs c one none))
   | inr some ↦ some
 ]
 
 -- the lists of an `open` line are what the sites lack
-pub open_lists : Always Clocks → Always RedBlue → Always ValidLists → OpenListsAreLacking
-open_lists clocks red_blue valid x c one = record {
-  lacking = λ i us at. listed red_blue x.settings x.histories c one us;
-  first = first_listed valid x.settings x.histories c one;
-  some = something_open valid x.settings x.histories c one;
-  none = (nothing_open clocks x.settings x.histories c one, nothing_lacked valid x.settings x.histories c one);
+pub open_lists : Always Holds → OpenListsAreLacking
+open_lists laws x c one = record {
+  lacking = λ i us at. listed laws x.settings x.histories c one us;
+  first = first_listed laws x.settings x.histories c one;
+  some = something_open laws x.settings x.histories c one;
+  none = (nothing_open laws x.settings x.histories c one, nothing_lacked laws x.settings x.histories c one);
 }

@@ -1,7 +1,7 @@
 -- Periods, each of which goes on if the one before ends, are one bank.
 use Rattle.rb_runs.proofs.Words.{◌≡◌, ◌<◌, ℕ, List, [], ◌∷◌, length, Some, ap, ◌∙◌, arith, pos, ◌+ℤ◌, slice_get, ints, get_or_past}
 use Rattle.rb_runs.proofs.Words.{length-map, slice_get-get_or, IsConfigured, Settings, start_of, Place, delta, kept, total, IsValid}
-use Rattle.rb_runs.proofs.Words.{covers, get_front, ModelSite, AreOneWorlds, world_of_run, sites_of_run, Always, ValidLists, applied_from}
+use Rattle.rb_runs.proofs.Words.{covers, get_front, ModelSite, AreOneWorlds, world_of_run, sites_of_run, Always, Holds, applied_from}
 use Rattle.rb_runs.proofs.Words.{AnswersArePeriods, ArePeriods, Period, PeriodsAreOne, applied_over, kept_over, period_of, settings_after}
 use Rattle.rb_runs.proofs.Words.{settings_behind}
 use Rattle.rb_runs.proofs.Carried.{balance_is, starts_with}
@@ -18,21 +18,21 @@ site_list s p h one =
     slice_get-get_or (applied_from s 0 p.histories) p.site [] (omega arith)
 
 -- what an account starts with behind one period
-behind : Always ValidLists → (s : Settings) (p : Period) → IsConfigured s → p.site < s.sites → AreOneWorlds s p.histories → (a : Place) →
+behind : Always Holds → (s : Settings) (p : Period) → IsConfigured s → p.site < s.sites → AreOneWorlds s p.histories → (a : Place) →
     pos (start_of (settings_behind s p) a) ≡ pos (start_of s a) +ℤ total (λ u. delta u a) (kept (applied_over s p))
-behind law s p c h one a =
-    starts_with s (applied_over s p) p.ask a (valid_list law s p.histories c one p.site (applied_over s p) (site_list s p h one))
+behind laws s p c h one a =
+    starts_with s (applied_over s p) p.ask a (valid_list laws s p.histories c one p.site (applied_over s p) (site_list s p h one))
     ∙ balance_is s (applied_over s p) a
 
 -- what an account starts with behind all periods
-after : Always ValidLists → (s : Settings) (ps : List Period) → ArePeriods s ps → (a : Place) →
+after : Always Holds → (s : Settings) (ps : List Period) → ArePeriods s ps → (a : Place) →
     pos (start_of (settings_after s ps) a) ≡ pos (start_of s a) +ℤ kept_over s ps a
-after law s [] h a = omega (arith, ints)
-after law s (p ∷ ps) h a =
+after laws s [] h a = omega (arith, ints)
+after laws s (p ∷ ps) h a =
     let rest : pos (start_of (settings_after (settings_behind s p) ps) a) ≡ pos (start_of (settings_behind s p) a)
-    +ℤ kept_over (settings_behind s p) ps a = after law (settings_behind s p) ps h.4 a in
+    +ℤ kept_over (settings_behind s p) ps a = after laws (settings_behind s p) ps h.4 a in
     let one : pos (start_of (settings_behind s p) a) ≡ pos (start_of s a) +ℤ total (λ u. delta u a) (kept (applied_over s p)) =
-    behind law s p h.0 h.1 h.2 a in
+    behind laws s p h.0 h.1 h.2 a in
     omega (arith, ints)
 
 -- each account keeps its place
@@ -42,14 +42,14 @@ same_place s [] i name at = at
 same_place s (p ∷ ps) i name at = same_place (settings_behind s p) ps i name (get_front s.names p.ask.added i name at)
 
 -- any number of periods are one bank
-pub one_bank : Always ValidLists → PeriodsAreOne
-one_bank law s ps c periods c' hs one i us at =
-    let valid : IsValid (settings_after s ps) us = valid_list law (settings_after s ps) hs c' one i us at in
+pub one_bank : Always Holds → PeriodsAreOne
+one_bank laws s ps c periods c' hs one i us at =
+    let valid : IsValid (settings_after s ps) us = valid_list laws (settings_after s ps) hs c' one i us at in
     record {
       names = same_place s ps;
       balances = λ a.
           balance_is (settings_after s ps) us a
-          ∙ ap (λ z. z +ℤ total (λ u. delta u a) (kept us)) (after law s ps periods a);
+          ∙ ap (λ z. z +ℤ total (λ u. delta u a) (kept us)) (after laws s ps periods a);
       added = λ a h. get_or_past s.starts a.0 0 (let same : length s.starts ≡ length s.names = c.starts_of_all in omega arith);
       never_negative = λ a. covers (settings_after s ps) us a valid;
     }

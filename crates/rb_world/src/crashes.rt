@@ -14,10 +14,7 @@ ghost use Rattle.rb_world.specs.Interleaved.{InterleavedStepsLead};
 ghost use Rattle.rb_world.specs.CrashLaws.{AfterSteps, HidesCrashes, CrashesLoseEvents, DeeperCrashesShow};
 ghost use Rattle.rb_world.specs.CrashLaws.{ForgetsTheReported, HeadlineHolds, KeepsTheReported, ReportsTheDurable};
 
-use crate::{
-    agreement, can_catch_up, clocks, exact_reversal, funds, never_negative, never_stuck, one_token,
-    red_blue, trusts_its_own, valid_lists,
-};
+use crate::laws_always_hold;
 
 /// Whatever crashed when, the sites' histories are one world's, in which nothing crashed.
 pub fn crashes_are_invisible()
@@ -30,17 +27,7 @@ pub fn crashes_are_invisible()
 pub fn headline_holds()
     ensures { AfterSteps HeadlineHolds }
 {
-    exact_reversal();
-    one_token();
-    red_blue();
-    clocks();
-    agreement();
-    funds();
-    valid_lists();
-    never_negative();
-    never_stuck();
-    trusts_its_own();
-    can_catch_up();
+    laws_always_hold();
 }
 
 /// The reports of a site, each an event with its reply and its messages, are a prefix of its history and of its reports

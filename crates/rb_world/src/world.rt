@@ -25,7 +25,7 @@ use std::marker::Model;
 /// is closed. `E` is what the sites keep of each entry, and `R` is what the world keeps of each event.
 pub struct World<E: KeepsEntry = Entry, R: KeepsEvent = WorldEvent> {
     alloc: Global,
-    config: Config,
+    pub(crate) config: Config,
     sites: Vec<Site<E>>,
     messages: Vec<Message>,
     events: Vec<R>,
@@ -223,10 +223,9 @@ impl<E: KeepsEntry, R: KeepsEvent> World<E, R> {
         self.sites.get(site as usize)
     }
 
-    /// Every message that was ever sent, in order. Whatever happened, the laws of a world hold.
+    /// Every message that was ever sent, in order.
     pub fn messages(&self) -> &[Message]
-        ensures same { result.now ≡ self.now.world.messages }
-        ensures holds { Holds self.now.settings self.now.world }
+        ensures { result.now ≡ self.now.world.messages }
     {
         self.messages.as_slice()
     }

@@ -4,16 +4,14 @@ ghost use Rattle.rb_runs.specs.BookLaws.{OpenListsAreLacking, PeriodsAreOne};
 
 use crate::audit::laws::inputs_are_read_back;
 use rb_history::{configs_are_read, lines_are_single};
-use rb_world::{agreement, clocks, red_blue, valid_lists};
+use rb_world::laws_always_hold;
 
 /// If the histories are one world's and the books may be closed, any two sites have equal balances, and each has
 /// applied every operation that any site made, and no other.
 pub fn closed_balances_agree()
     ensures { ClosedBalancesAgree }
 {
-    clocks();
-    agreement();
-    red_blue();
+    laws_always_hold();
 }
 
 /// An `open` line of one world's histories: each name of a site's list is of an operation that some site made and this
@@ -22,9 +20,7 @@ pub fn closed_balances_agree()
 pub fn open_lists_are_lacking()
     ensures { OpenListsAreLacking }
 {
-    clocks();
-    red_blue();
-    valid_lists();
+    laws_always_hold();
 }
 
 /// If the histories are one world's and the books may be closed, each account of the next bank starts with its
@@ -33,9 +29,7 @@ pub fn open_lists_are_lacking()
 pub fn carried_forward()
     ensures { CarriedForward }
 {
-    clocks();
-    agreement();
-    valid_lists();
+    laws_always_hold();
 }
 
 /// If nothing is wrong with the next bank's sites and accounts, it is a configuration, and its line is read as it.
@@ -53,7 +47,7 @@ pub fn next_is_configured()
 pub fn periods_are_one()
     ensures { PeriodsAreOne }
 {
-    valid_lists();
+    laws_always_hold();
 }
 
 /// The histories for which the next configuration's line is answered are such a period, and the line is that of the

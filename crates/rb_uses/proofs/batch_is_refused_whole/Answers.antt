@@ -26,7 +26,7 @@ returns-in-Ok-clause-sent c =
     let requests : c.new.result ≡ Deposit ann c.args.deposited ∷ Withdraw ann c.args.withdrawn ∷ [] = search rules in
     let then : c.step.new.self ≡ next_world (after []) (batch c.args.deposited c.args.withdrawn) =
     c.in-Ok.ensures.ok.1 ∙ ap₂ next_world c.in_ok-world.ensures (ap (λ rs. At 0 (Batch rs)) requests) in
-    ap length c.messages.ensures.same ∙ ap (λ (w : SeenWorld). length w.world.messages) then
+    ap length c.messages.ensures ∙ ap (λ (w : SeenWorld). length w.world.messages) then
 
 pub returns-in-Ok-clause-example : goal.returns-in-Ok-clause-example
 returns-in-Ok-clause-example c = λ deposited withdrawn.
@@ -36,5 +36,5 @@ returns-in-Ok-clause-example c = λ deposited withdrawn.
     in
     let reply = c.in-Ok.ensures.ok.0 ∙ ap₂ next_reply c.in_ok-world.ensures event ∙ batch_reply in
     let balance = same_Some _ _ (sym c.balance.ensures ∙ ap (λ (w : SeenWorld). balance_in w 0 ann) then ∙ batch_here) in
-    let sent = ap length c.messages.ensures.same ∙ ap (λ (w : SeenWorld). length w.world.messages) then ∙ ap length batch_sends in
+    let sent = ap length c.messages.ensures ∙ ap (λ (w : SeenWorld). length w.world.messages) then ∙ ap length batch_sends in
     rw (reply, balance, sent) refl

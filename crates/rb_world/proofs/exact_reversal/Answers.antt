@@ -1,5 +1,0 @@
-use Rattle.rb_world.proofs.Headline
-use Rattle.rb_world.proofs.exact_reversal.Goals as goal
-
-pub returns : goal.returns
-returns c s es some few own = (Headline.holds s es some few own).exact_reversal
