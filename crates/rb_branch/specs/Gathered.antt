@@ -1,6 +1,6 @@
 -- When histories are made of receipts.
 use Rattle.std.specs.Prelude.{◌≡◌, ◌≢◌, ℕ, ◌+◌, ◌<◌, ◌≤◌, ◌^◌, List, [], ◌∷◌, All, ◌==◌, if◌then◌else◌, Some, map, length}
-use Rattle.std.specs.Prelude.{slice_get, slice_set, sum_by, vec_len, Bool, Err, IsTrue, OnOk, Result}
+use Rattle.std.specs.Prelude.{slice_get, slice_set, sum_by, vec_len}
 use Rattle.rb_money.specs.Settings.{Settings}
 use Rattle.rb_money.specs.declared.limits.TheConstants.{MOST_SITES}
 use Rattle.rb_branch.specs.declared.gather_fault.GatherFault.{GatherFault}
@@ -118,16 +118,6 @@ Explains reports seats (Missing site) =
 Explains reports seats (Mixed site) =
     (r : SiteReport) × (slice_get reports site ≡ Some r) × ¬ IsGathered site r.history.items seats
 Explains reports seats OutOfMemory = Unit {0}
-
--- the outcome of a look at the report at k: it is of the site k and gathered, or there is a fault of that site; b says
--- that there are fewer receipts than entries
-abbrev pub LooksSo : List SiteReport → List SeenSeat → Bool → ℕ → Result (Unit {0}) GatherFault → Type 0
-LooksSo reports seats b k found =
-    (r : SiteReport) → slice_get reports k ≡ Some r
-    → OnOk found ((r.me ≡ k) × IsGathered k r.history.items seats)
-    × ((s : ℕ) → found ≡ Err (Missing s)
-    → (s ≡ k) × (r.me ≡ k) × IsTrue b × (receipts_at s seats < vec_len r.history))
-    × ((s : ℕ) → found ≡ Err (Mixed s) → (s ≡ k) × ¬ IsGathered s r.history.items seats)
 
 -- a fault that closed sites of this configuration explain, beside the seats that were given back: it is of the first
 -- site at fault, and if every seat was given back, none is missing

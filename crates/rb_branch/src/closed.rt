@@ -1,13 +1,8 @@
 //! The closed sites of a branch, and the seats that are given back to them.
-//!
-//! Histories are gathered with a thread for each site: one after another takes 3 of 56 ms more at eight sites.
 ghost use Rattle.std.specs.Prelude.{◌≡◌, ◌≢◌, ◌+◌, ◌^◌, ◌<◌, ◌≤◌, ℕ, All, IfOk, IfErr};
-ghost use Rattle.std.specs.Prelude.{OnOk, IsTrue, Err, Result, length, slice_index_or};
-ghost use Rattle.std.specs.Prelude.{vec_len};
-ghost use Rattle.rb_branch.specs.Gathered.{AllGathered, Explains, IsClosedReport, IsFirst};
-ghost use Rattle.rb_branch.specs.Gathered.{IsGathered, LooksSo, entries_in};
-ghost use Rattle.rb_branch.specs.declared.gather_fault.GatherFault.{GatherFault as FaultOf};
-ghost use Rattle.rb_branch.specs.Gathered.{receipts_at, receipts_in};
+ghost use Rattle.std.specs.Prelude.{OnOk, IsTrue, Err, length, vec_len};
+ghost use Rattle.rb_branch.specs.Gathered.{AllGathered, Explains, IsClosedReport, IsFirst, IsGathered};
+ghost use Rattle.rb_branch.specs.Gathered.{entries_in, receipts_at, receipts_in};
 ghost use Rattle.rb_branch.specs.declared.gather_fault.GatherFault.TheVariants.{Missing, Mixed};
 ghost use Rattle.rb_branch.specs.declared.limits.TheConstants.{MOST_SEATS};
 ghost use Rattle.rb_money.specs.declared.limits.TheConstants.{MOST_SITES};
@@ -20,8 +15,6 @@ use rb_site::SiteReport;
 use std::alloc::{AllocError, Global};
 use std::marker::Model;
 use std::sync::ledger::{Ledger, Share};
-use std::thread;
-use std::thread::Threads;
 
 /// A closed branch, to which seats are given back: the reports of its sites, and its books. Clients see the reports,
 /// one for each site, and how many seats were given.
@@ -99,27 +92,6 @@ impl<E: Entries, R: Ledger> Closed<E, R> {
         Ok(reports)
     }
 
-    /// Settles as `settle` does, with each site looked at in a thread of its own.
-    pub fn settle_by<W: Threads + Sync>(
-        self,
-        rt: &W,
-        seats: Vec<Seat<E, R>>,
-    ) -> Result<Vec<SiteReport>, GatherFault>
-        ensures ok { IfOk result (λ reports. (reports.items ≡ self.reports) × AllGathered reports.items seats.items) }
-        ensures err { IfErr result (Explains self.reports seats.items) }
-        ensures first { IfErr result (IsFirst self.reports seats.items) }
-        ensures every { vec_len seats ≡ self.seats → (site : ℕ) → result ≢ Err (Missing site) }
-    {
-        let alloc = self.alloc;
-        let Ok((reports, given, missing)) = self.take_in(seats) else {
-            return Err(GatherFault::OutOfMemory);
-        };
-        match look_at_each(rt, alloc, reports.as_slice(), given.as_slice(), missing) {
-            Ok(()) => Ok(reports),
-            Err(fault) => Err(fault),
-        }
-    }
-
     /// Takes the seats back: the reports, what the seats gave, and whether there are fewer receipts than entries. If
     /// every seat is given back, there are as many. `Err` means out of memory.
     fn take_in(
@@ -166,54 +138,6 @@ fn look_at_all(
     for k in 0..reports.len() {
         let report = &reports[k];
         look_at(alloc, report, k, seats, missing)?;
-    }
-    Ok(())
-}
-
-/// Looks at all sites, each in a thread of its own. `missing` says that there are fewer receipts than entries.
-fn look_at_each<W: Threads + Sync>(
-    rt: &W,
-    alloc: Global,
-    reports: &[SiteReport],
-    seats: &[ReturnedSeat],
-    missing: bool,
-) -> Result<(), GatherFault>
-    requires fits { receipts_in seats.now < 2 ^ 64 }
-    requires few { length seats.now < 2 ^ 16 }
-    requires missing { IsTrue missing → receipts_in seats.now < entries_in reports.now }
-    ensures ok { OnOk result (AllGathered reports.now seats.now) }
-    ensures err { IfErr result (Explains reports.now seats.now) }
-    ensures first { IfErr result (IsFirst reports.now seats.now) }
-{
-    let look = |k: usize| -> Result<(), GatherFault>
-        requires { (k < length reports.now) × (receipts_in seats.now < 2 ^ 64) × (length seats.now < 2 ^ 16) }
-        ensures { LooksSo reports.entry.now seats.entry.now missing k result }
-    { look_at(alloc, &reports[k], k, seats, missing) };
-    let Ok(found) = thread::map_indices(rt, alloc, reports.len(), &look) else {
-        return Err(GatherFault::OutOfMemory);
-    };
-    first_fault(reports, seats, missing, found.as_slice())
-}
-
-/// The first fault that was found, if any.
-fn first_fault(
-    reports: &[SiteReport],
-    seats: &[ReturnedSeat],
-    missing: bool,
-    found: &[Result<(), GatherFault>],
-) -> Result<(), GatherFault>
-    requires len { length found.now ≡ length reports.now }
-    requires missing { IsTrue missing → receipts_in seats.now < entries_in reports.now }
-    requires each { (k : ℕ) (d : Result (Unit {0}) FaultOf) → k < length reports.now
-        → LooksSo reports.now seats.now missing k (slice_index_or found.now k d) }
-    ensures ok { OnOk result (AllGathered reports.now seats.now) }
-    ensures err { IfErr result (Explains reports.now seats.now) }
-    ensures first { IfErr result (IsFirst reports.now seats.now) }
-{
-    for k in 0..found.len() {
-        if let Err(fault) = found[k] {
-            return Err(fault);
-        }
     }
     Ok(())
 }

@@ -72,7 +72,7 @@ fn run_with<
     let sites = config.sites();
     let branch: Branch<E, R, G> = Branch::open(alloc, config, gate, entries, receipts)?;
     match run_branch(rt, alloc, &branch, sites, tellers, seed) {
-        Ok(seats) => match branch.gather_by(rt, seats) {
+        Ok(seats) => match branch.gather(seats) {
             Ok(reports) => Ok(reports),
             Err(GatherFault::OutOfMemory) => Err(TellersFault::OutOfMemory),
             Err(_) => Err(TellersFault::Gather),

@@ -27,18 +27,18 @@ returns-in_err-branch-clause-gathered g c = IfOk-from_err c.from_residual.result
 pub run_branch-requires-after_bounds : goal.run_branch-requires-after_bounds
 run_branch-requires-after_bounds g c = λ _ _. omega (arith, c.sites-sites.ensures.some)
 
-pub returns-in-Ok-gather_by-clause-all : goal.returns-in-Ok-gather_by-clause-all
-returns-in-Ok-gather_by-clause-all g c = c.in-Ok-gather_by.ensures.all ∙ ap (λ (s : Config). s.sites) (sym c.requires.config)
+pub returns-in-Ok-gather-clause-all : goal.returns-in-Ok-gather-clause-all
+returns-in-Ok-gather-clause-all g c = c.in-Ok-gather.ensures.all ∙ ap (λ (s : Config). s.sites) (sym c.requires.config)
 
-pub returns-in-Ok-gather_by-clause-closed : goal.returns-in-Ok-gather_by-clause-closed
-returns-in-Ok-gather_by-clause-closed g c =
-    subst (λ (s : Config). All (IsClosedReport s) c.in-Ok-gather_by.reports.items) (sym c.requires.config) c.in-Ok-gather_by.ensures.closed
+pub returns-in-Ok-gather-clause-closed : goal.returns-in-Ok-gather-clause-closed
+returns-in-Ok-gather-clause-closed g c =
+    subst (λ (s : Config). All (IsClosedReport s) c.in-Ok-gather.reports.items) (sym c.requires.config) c.in-Ok-gather.ensures.closed
 
-pub returns-in-Ok-gather_by-clause-gathered : goal.returns-in-Ok-gather_by-clause-gathered
-returns-in-Ok-gather_by-clause-gathered g c = (
+pub returns-in-Ok-gather-clause-gathered : goal.returns-in-Ok-gather-clause-gathered
+returns-in-Ok-gather-clause-gathered g c = (
   c.in-Ok.seats.items,
   subst (λ (n : ℕ). IsCrew c.args.seed c.args.tellers n c.in-Ok.seats.items) c.sites-sites.ensures.same c.in-Ok.ensures,
-  c.in-Ok-gather_by.ensures.gathered,
+  c.in-Ok-gather.ensures.gathered,
 )
 
 pub returns-in-Err-OutOfMemory-clause-all : goal.returns-in-Err-OutOfMemory-clause-all
@@ -59,5 +59,5 @@ returns-in-Err-clause-closed g c = tt
 pub returns-in-Err-clause-gathered : goal.returns-in-Err-clause-gathered
 returns-in-Err-clause-gathered g c = tt
 
-pub returns-in-Err-gather_by : goal.returns-in-Err-gather_by
-returns-in-Err-gather_by g c = record { all = tt; closed = tt; gathered = tt }
+pub returns-in-Err-gather : goal.returns-in-Err-gather
+returns-in-Err-gather g c = record { all = tt; closed = tt; gathered = tt }
