@@ -220,7 +220,9 @@ wires: build
 	@tests/wire_mutants.py crates/rbbank/out/rbbank
 
 # Three sites over mosquitto.
-broker: build
+broker:
+	@examples/broker/three_sites.sh --look
+	@$(MAKE) --no-print-directory build
 	@examples/broker/three_sites.sh crates/rbbank/out/rbbank
 
 # The bank as a service. Debian's packages are those of its own Python, if no other is given. What is missing is said,

@@ -337,8 +337,9 @@ class Browse:
         made = page.ask("return S.commands")
         page.load("#out_of_order_delivery")
         same("files", "the same address again keeps what was made", page.ask("return S.commands"), made)
+        said, bad, good = [], '{"deposit":["ann",-1],"site":0}', '{"deposit":["ann",1],"site":0}'
         with tempfile.NamedTemporaryFile("w", suffix=".jsonl") as file:
-            for line in ('{"deposit":["ann",-1],"site":0}', '{"deposit":["ann",1],"site":0}'):
+            for line in (f"{good}\n{bad}", bad, good):
                 file.seek(0)
                 file.write(json.dumps(TWO) + "\n" + line + "\n")
                 file.truncate()
@@ -346,7 +347,21 @@ class Browse:
                 page.one("#file").send_keys(file.name)
                 page.settle()
                 page.settle()
+                said.append(page.one("#said").text)
         same("files", "a mended file", page.ask("return S.commands.length"), 1)
+        for part in ("line 3: bad line", "column 19: -1 has a sign", "Only the lines before it are read."):
+            same("files", f"a bad line after a good one: {part}", part in said[0], True)
+
+    def tries(self) -> None:
+        """Each try of the audit changes the histories as they were."""
+        page, texts = self.page, []
+        page.open(bank.read(bank.example("deposit_reaches_the_other_site.jsonl")).decode())
+        page.press("a")
+        for kind in ("reply", "amount", "reply"):
+            page.click(f"[data-forge='{kind}']")
+            texts.append(page.js("return document.getElementById('texts').value"))
+        same("tries", "the first and the last are alike", (texts[2] == texts[0], texts[1] == texts[0]), (True, False))
+        page.click("#close")
 
     def touch(self) -> None:
         """A finger drags a message, and lights an operation."""
@@ -415,8 +430,8 @@ class Browse:
     def all(self, is_few: bool, only: str | None) -> int:
         count = self.rows(is_few) if only in (None, "rows") else 0
         for check in (self.keys, self.pointing, self.waiting, self.switch, self.aside, self.puzzles, self.crashes,
-                      self.saved, self.refused, self.sixty, self.thousand, self.sixteen, self.files, self.touch,
-                      self.names, self.phone, self.alone):
+                      self.saved, self.refused, self.sixty, self.thousand, self.sixteen, self.files, self.tries,
+                      self.touch, self.names, self.phone, self.alone):
             if only not in (None, check.__name__):
                 continue
             try:

@@ -295,8 +295,11 @@ async def closes(folder: str) -> None:
                  ({"is": "open", "applied": applied}, False))
         same("and at a start", Desk(one.site).closing, False)
         same("no next before the seal", (await step("stop") and await step("next")), "no next now")
-        for _ in range(2):
-            same("seal", await step("seal"), {"is": "sealed"})
+        with unittest.mock.patch("logging.info") as info:
+            for _ in range(2):
+                same("seal", await step("seal"), {"is": "sealed"})
+        logged = [call.args[0] for call in info.call_args_list]
+        same("what is logged of it", (logged[-1], "ended in 2" in str(logged)), ("the journal is sealed", False))
         same("sealed", (await step("stop"), await step("open")), ({"is": "sealed"}, "no open now"))
         with open(period.journal(0), "rb") as file:
             same("the journal's end", file.read()[-2:], b"\n\t")
@@ -319,8 +322,9 @@ async def closes(folder: str) -> None:
 
 def texts(folder: str) -> None:
     """Each refusal that docs/FORMAT.md lists has its text, and all but requests have no key."""
-    with open(os.path.join(HERE, "refusals.json")) as file:
-        same("refusals", sorted(map(int, json.load(file))), sorted(bank.NUMBERS))
+    said = {int(number): text for number, text in site_child.load(os.path.join(HERE, "refusals.json")).items()}
+    same("refusals", sorted(said), sorted(bank.NUMBERS))
+    same("ranges", [said[number] for number in (2, 3)], [bank.meaning(number) for number in (2, 3)])
     same("what has no key", client.UNKEYED, bank.TAKES.keys() - {*site_child.REQUESTS, "apply", "deliver"})
 
 
@@ -580,7 +584,8 @@ def apart(folder: str) -> None:
     words = [sys.executable, os.path.join(HERE, "close.py"), os.path.join(folder, "bank.json"), NAME,
              os.path.join(folder, "archive"), "--patience", "1"]
     run = subprocess.run(words, capture_output=True, text=True, timeout=PATIENCE)
-    same("sites that are apart", (run.returncode, "the sites haven't applied the same" in run.stderr), (1, True))
+    same("sites that are apart, said at once and at the end",
+         (run.returncode, run.stderr.count("the sites haven't applied the same")), (1, 2))
     same("clients are served", [service.event({"deposit": ["ann", 5]})[0] for service in (first, second)], [200, 200])
 
 
@@ -618,6 +623,12 @@ def tokens(folder: str) -> None:
     service = Http(folder, tokens=path)
     service.wait()
     till, officer = {"Authorization": "Bearer t1"}, {"Authorization": "Bearer t2"}
+    with open(os.path.join(folder, "bank.json")) as file, open(os.path.join(folder, "none.json"), "w") as other:
+        json.dump(json.load(file) | {"tokens": None}, other)
+    for name, fault in (("bank.json", f"{path} has no token that may close"), ("none.json", "site 0: 401 {")):
+        run = subprocess.run([sys.executable, os.path.join(HERE, "close.py"), os.path.join(folder, name), NAME, folder],
+                             capture_output=True, text=True, timeout=PATIENCE / 10)
+        same("a closing without a token", (run.returncode, run.stderr[:len(fault) + 7]), (1, f"close: {fault}"))
     same("no token", [service.ask(path)[0] for path in ("/state", "/balance/ann", "/metrics", "/live", "/closing",
                                                         "/journals/0001.0.journal")], [401] * 6)
     same("no such token", [service.event({"deposit": ["ann", 1]}, Authorization=f"Bearer {it}")[0]
@@ -702,7 +713,7 @@ async def keeps(folder: str) -> None:
         for _ in range(2):
             await other.hears(message(made.desk.says()))
     found = [call.args[0] % call.args[1:] for call in error.call_args_list]
-    same("an older copy", found, ["site 1 has another B0.2: an older copy of this journal was started"])
+    same("an older copy", found, ["an older copy of the journal of site 0 was started: site 1 has another B0.2"])
     import wires as module
     connect = module.aio_pika.connect
     for fault in (module.PAMQPException, StopAsyncIteration):  # what a connection's end comes to at times
@@ -778,7 +789,7 @@ def periods(folder: str) -> None:
         words = [sys.executable, os.path.join(HERE, "close.py"), os.path.join(folder, "bank.json"), NAME, archive]
         for _ in range(2):
             run = subprocess.run([*words, "--account", "zed"], capture_output=True, text=True, timeout=PATIENCE)
-            same("closed", (run.returncode, run.stderr), (0, ""))
+            same("closed", (run.returncode, re.sub("(?m)^close: waits: .*\n", "", run.stderr)), (0, ""))
         same("the archive", sorted(os.listdir(archive)), ["0001.0.journal", "0001.1.journal", "0002.bank"])
         for service in (first, second):
             service.wait()

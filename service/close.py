@@ -34,9 +34,11 @@ class Books:
         self.period, self.until = Period(asked.folder, name, int(number)), time.monotonic() + asked.patience
         self.words = [word for name in asked.account for word in ("--account", name)]
         self.heads = {"Connection": "close", "Content-Type": "application/json"}
-        if self.bank.get("tokens"):
-            token = next(row["token"] for row in load(self.bank["tokens"]).values() if "close" in row["may"])
-            self.heads["Authorization"] = f"Bearer {token}"
+        self.said = set[str]()  # what it said that it waits for
+        if path := self.bank.get("tokens"):
+            if not (tokens := [row["token"] for row in load(path).values() if "close" in row["may"]]):
+                sys.exit(f"close: {path} has no token that may close")
+            self.heads["Authorization"] = f"Bearer {tokens[0]}"
 
     def ask(self, site: int, path: str, body: str | None = None) -> bytes:
         """What a service answers; it is asked until it does, or no time is left."""
@@ -49,14 +51,19 @@ class Books:
                 if reply.status == 200:
                     return said
                 why = f"{reply.status} {said.decode(errors='replace')}"
+                if reply.status in (401, 403):
+                    sys.exit(f"close: site {site}: {why}")  # (no time lets a client do what it may not)
             except (OSError, http.client.HTTPException) as fault:
                 why = repr(fault)
             self.wait(f"site {site}: {why}")
 
     def wait(self, why: str) -> None:
-        """Waits for a moment before something is tried again; if no time is left, this is why it ends."""
+        """Waits for a moment before something is tried again, and says once why; if no time is left, it ends so."""
         if time.monotonic() > self.until:
             sys.exit(f"close: {why}")
+        if (what := why.partition(":")[0]) not in self.said:
+            self.said.add(what)
+            print(f"close: waits: {why}", file=sys.stderr, flush=True)
         time.sleep(PAUSE)
 
     def all(self, step: str, line: Json | None = None) -> list[Json]:

@@ -207,7 +207,7 @@ class Site:
             is_expected = self.is_sealed and self.period.kept("closing") or "journal is in use" in errors
             if status == 2 and not is_expected:
                 raise Fault(errors)
-            logging.info("the child ended in %s: %s", status, errors)
+            logging.info("the journal is sealed" if self.is_sealed else f"the child ended in {status}: {errors}")
             await asyncio.sleep(1 if status > 2 else 0.1)  # (above 2 the disk is full, or there is no memory)
         await self.next.wait()
 
@@ -304,7 +304,8 @@ class Desk:
             self.wanted[other] = time.monotonic() + HEARD if said["wants"] else 0
             if (name := said.get("others", {}).get(str(self.site.me))) and other not in self.told:
                 self.told.add(other)
-                logging.error("site %d has another %s: an older copy of this journal was started", other, name)
+                logging.error("an older copy of the journal of site %d was started: site %d has another %s",
+                              self.site.me, other, name)
 
     def ask(self, ask: Callable[[], asyncio.Future[Json]], patience: float) -> asyncio.Future[Json]:
         """Asks the site, and again while it lacks the token, for this number of seconds at most."""

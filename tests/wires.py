@@ -438,7 +438,8 @@ def whose_replies(asked, folder):
 
 
 def older_copy(asked, folder):
-    """That a site was started from an older copy of its journal is said once, where its messages are refused."""
+    """That a site was started from an older copy of its journal is said once, by its number, where its messages are
+    refused; of several others each may be it."""
     config = compact({"accounts": [["ann", 0]], "sites": 2, "version": 1})
     journals = [os.path.join(folder, f"{number}.journal") for number in (0, 1)]
 
@@ -452,11 +453,15 @@ def older_copy(asked, folder):
     first = json.loads(answers(0, {"deposit": ["ann", 5]}))["sends"]
     shutil.copy(copy, journals[0])
     second = json.loads(answers(0, {"deposit": ["ann", 7]}))["sends"]
-    words = [sys.executable, asked.wire, "--me", "1", "--sites", "2", "--to", "cat"]
-    run = subprocess.run(words, input=answers(1, *first, *first, *second, *second), capture_output=True, text=True,
-                         timeout=PATIENCE[0])
-    return run.stdout.count('{"refused":18}') == 2 and re.fullmatch(
-        r"wire: site 1 has another operation .* \(18\): an older copy .*\n", run.stderr) is not None
+    answered = answers(1, *first, *first, *second, *second)
+    for sites, senders in (2, "0"), (4, "0 or 2 or 3"):
+        words = [sys.executable, asked.wire, "--me", "1", "--sites", str(sites), "--to", "cat"]
+        run = subprocess.run(words, input=answered, capture_output=True, text=True, timeout=PATIENCE[0])
+        if run.stdout.count('{"refused":18}') != 2 or run.stderr != (
+                f"wire: an older copy of the journal of site {senders} was started: site 1 has another operation of a "
+                "name that came (18)\n"):
+            return False
+    return True
 
 
 ALONE = [ended_command, killed_command, slow_readers, dropped_messages, whose_replies, older_copy]

@@ -162,7 +162,12 @@ class Banks(unittest.TestCase):
             site.answer({"deposit": ["ann", 5], "id": "x"})
             for event, refusal in [({"pass": 1}, rbbank.Refusal.NO_SITE), ({"pass": 0}, rbbank.Refusal.NEED_TOKEN),
                                    ({"deposit": ["ann", 6], "id": "x"}, rbbank.Refusal.OTHER_REQUEST)]:
-                self.assertEqual(site.answer(event)["reply"], {"refused": refusal})
+                answer = site.answer(event)
+                self.assertEqual(answer["reply"], {"refused": refusal})
+                self.assertIs(rbbank.Refusal.of(answer), refusal)
+                self.assertIs(rbbank.Refusal.of(site.reply()), refusal)
+            for other in [site.answer('{"resend":1}'), MADE, "", b'{"refused":27}', {"reply": {"balance": 1}}]:
+                self.assertIsNone(rbbank.Refusal.of(other))
 
     def test_version(self):
         self.assertRegex(rbbank.version(), r"^\d+\.\d+\.\d+$")

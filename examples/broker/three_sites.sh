@@ -2,6 +2,7 @@
 # Three sites over the message broker mosquitto. Each is ended once by SIGKILL; an audit of their journals comes last.
 #
 # usage: three_sites.sh [PROGRAM]      (without PROGRAM the one that `make build` makes)
+#        three_sites.sh --look         only looks for what it wants
 #
 # A site takes its lines from the topic bank/N, on which clients publish as well; wire.py publishes what it sends. The
 # broker keeps what comes for a site that is down (a session of its own, QoS 1), so each line is delivered at least
@@ -15,13 +16,14 @@ port=${BROKER_PORT:-18831}
 bank='{"accounts":[["ann",0],["bob",1000]],"sites":3,"version":1}'
 PATH=$PATH:/usr/sbin:/sbin
 
-case $program in -h | --help) sed -n '2,9s/^# \{0,1\}//p' "$0"; exit 0 ;; esac
+case $program in -h | --help) sed -n '2,10s/^# \{0,1\}//p' "$0"; exit 0 ;; esac
 for command in mosquitto mosquitto_pub mosquitto_sub python3; do
     if ! command -v "$command" > /dev/null; then
         echo "broker: no $command here; on Debian: apt-get install mosquitto mosquitto-clients python3" >&2
         exit 1
     fi
 done
+[ "$program" != --look ] || exit 0
 [ -x "$program" ] || { echo "broker: $program: no program" >&2; exit 1; }
 
 folder=$(mktemp -d)

@@ -109,6 +109,11 @@ def words(program):
     yield "draw.py --from past the end", (out, status) == ("", 1) and "the last line that did something is" in err
     yield "draw.py of a long run", all(row.width <= picture.ROW for row in picture.rows_of(
         draw.drawing_of(bank.program(program), bank.read(bank.example("tellers.histories.jsonl")))))
+    of_sites = [bank.example(f"site_{it}.site.jsonl").replace("jsonl", "journal") for it in ("deposit", "receives")]
+    for script, shown in (("draw.py", "▶○ B0.1 held"), ("explain.py", "One world has these histories: 5 entries")):
+        yield f"{script} of journals", shown in run_of(program, [script, *asked, *of_sites])[0]
+    other = f"draw: {path}: another bank's journal than {of_sites[0]}"
+    yield "draw.py of two banks' journals", run_of(program, ["draw.py", *asked, of_sites[0], path]) == ("", other, 1)
     changed = bank.example("changed_reply.histories.jsonl")
     out, err, status = run_of(program, ["demo.py", changed, *asked, "--draw"])
     yield "demo.py of histories", status == 1 and "The replies are those that are stored." in out

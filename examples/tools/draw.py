@@ -9,8 +9,8 @@ its reason.
   ● made   ○ held   ◉ applied   ✕ refused   ◆ token   ? asked   = came again   ║ has the token   [..] balance after it
 
 The replies and balances are the program's. Histories are drawn in the order in which an audit takes them; what it
-can't take comes last. The journals of sites are such histories, one after another, all but the first without its first
-line.
+can't take comes last. The journals of sites are such histories: several files are one, all but the first without its
+first line, and lines are counted on.
 """
 import argparse
 import copy
@@ -29,7 +29,7 @@ NARROWEST = 22  # a column of a site, in characters
 
 def options():
     reader = argparse.ArgumentParser(description=__doc__, formatter_class=argparse.RawDescriptionHelpFormatter)
-    reader.add_argument("file", metavar="FILE", help="a script or histories; - is standard input")
+    reader.add_argument("files", metavar="FILE", nargs="+", help="a script, histories or journals; - is standard input")
     reader.add_argument("--svg", metavar="FILE", help="write a picture to this file, and draw nothing in the terminal")
     reader.add_argument("--from", dest="first", metavar="LINE", type=int, help="begin at what this line says")
     reader.add_argument("--to", dest="last", metavar="LINE", type=int, help="end with what this line says")
@@ -221,7 +221,7 @@ def drawing_of(program, data, first=None, last=None, sites=()):
 
 def main():
     asked = options()
-    data = bank.read(asked.file)
+    data = bank.read_all(asked.files)
     drawing = drawing_of(bank.program(asked.program), data, asked.first, asked.last, asked.site)
     if asked.svg:
         bank.write(asked.svg, picture.svg(drawing))

@@ -32,7 +32,8 @@ WORDS = {
 
 def options():
     reader = argparse.ArgumentParser(description=__doc__, formatter_class=argparse.RawDescriptionHelpFormatter)
-    reader.add_argument("file", metavar="FILE", help="a script, histories or a site's lines; - is standard input")
+    reader.add_argument("files", metavar="FILE", nargs="+",
+                        help="a script, histories, journals of a bank or a site's lines; - is standard input")
     reader.add_argument("--as", dest="kind", choices=["script", "audit", "site"],
                         help="what to run; else a site by a name as x.site.jsonl, else a script or an audit")
     reader.add_argument("--me", metavar="S", type=int, default=0, help="the site of --as site, 0")
@@ -83,11 +84,14 @@ def made(step):
     return f"made as {name}, {colour}"
 
 
-def answered(step):
-    """A reply in words."""
+def answered(found, step):
+    """A reply in words. Of an account that isn't there the name: the first such one is why."""
     reply = step.reply
     if "refused" in reply:
-        return f"refused with {reply['refused']}: {bank.refusal(reply, whole=True)}"
+        known = dict(found.config["accounts"])
+        names = world.named_in(step.event) if 1 in (reply["refused"], reply.get("cause")) else []
+        which = next((f" {name}" for name in names if name not in known), "")
+        return f"refused with {reply['refused']}: {bank.refusal(reply, whole=True)}{which}"
     if "kind" in reply:
         return made(step)
     if "names" in reply:
@@ -106,7 +110,7 @@ def of_step(found, step):
         balances = f"{found.config['accounts'][0][0]} {balances}"
     beside = " and the ".join(f"{key} {it}" for key, it in step.beside.items())
     what = asked(found, step) + (f", by the {beside}," if beside else "")
-    return f"site {step.site}: {what} -> {answered(step)}{f' [{balances}]' if balances else ''}"
+    return f"site {step.site}: {what} -> {answered(found, step)}{f' [{balances}]' if balances else ''}"
 
 
 def of_script(found, data):
@@ -133,12 +137,12 @@ def of_fault(found, step, data):
     """An entry at which an audit stops."""
     yield f"line {step.line}, entry {step.position} of site {step.site}:"
     yield f"  {text_of(data, step.line)}"
-    yield f"  recorded: {asked(found, step)} -> {answered(step)}"
+    yield f"  recorded: {asked(found, step)} -> {answered(found, step)}"
     if found.verdict["fault"] != "reply":
         yield f"  {step.fault}"
     elif found.answer is not None:
         right = world.Step(step.line, step.site, step.event, found.answer)
-        yield f"  the site answers: {answered(right)}   {bank.compact(found.answer)}"
+        yield f"  the site answers: {answered(found, right)}   {bank.compact(found.answer)}"
     elif "full" in step.fault:
         yield f"  {step.fault}"
     else:
@@ -181,7 +185,7 @@ def name_of(message):
     return message["shadow"]["name"] if "shadow" in message else f"token {message['token'][0]}"
 
 
-def of_answer(data, number, event, answer, me):
+def of_answer(found, data, number, event, answer, me):
     """A line of a site, with its answer."""
     if "bad" in answer:
         what = "line too long" if answer["bad"] == "long" else "bad line"
@@ -189,12 +193,12 @@ def of_answer(data, number, event, answer, me):
         return "\n  ".join([f"line {number}: {what}", *why, text_of(data, number)])
     step = world.Step(number, me, event, answer["reply"])
     again = "made before, so it is answered again: " if "again" in answer else ""
-    words = [f"line {number}  site {me}: {asked(None, step)} -> {again}{answered(step)}"]
+    words = [f"line {number}  site {me}: {asked(found, step)} -> {again}{answered(found, step)}"]
     if answer["sends"]:
         words.append(f"sends {', '.join(map(name_of, answer['sends']))}")
     for reply in answer["then"]:
         step = world.Step(number, me, {}, reply)
-        words.append(f"then {reply['applied']}: applied" if "applied" in reply else f"then {answered(step)}")
+        words.append(f"then {reply['applied']}: applied" if "applied" in reply else f"then {answered(found, step)}")
     return "; ".join(words)
 
 
@@ -203,8 +207,9 @@ def of_site(program, data, me):
     with tempfile.TemporaryDirectory() as folder:
         run = program.run("site", data, "--me", str(me), "--journal", os.path.join(folder, "journal"), "--new")
     answers = [answer for answer in map(json.loads, run.replies) if "reply" in answer or "bad" in answer]
-    events = [(number, world.parsed(line) or {}) for number, line in world.lines_of(data)[1:]]
-    lines = [of_answer(data, *line, answer, me) for line, answer in zip(events, answers)]
+    events = [(number, world.parsed(line) or {}) for number, line in world.lines_of(data)]
+    found = world.World(events[0][1] if events else None, [])
+    lines = [of_answer(found, data, *line, answer, me) for line, answer in zip(events[1:], answers)]
     if run.fault:
         lines.append(run.said)
     return lines, run.status
@@ -226,8 +231,8 @@ def explained(program, data, kind=None, me=0):
 
 def main():
     words = options()
-    data = bank.read(words.file)
-    kind = words.kind or ("site" if bank.word_of(words.file) == "site" else None)
+    data = bank.read_all(words.files)
+    kind = words.kind or ("site" if bank.word_of(words.files[0]) == "site" else None)
     lines, status = explained(bank.program(words.program), data, kind, words.me)
     for line in lines:
         print(line)

@@ -28,7 +28,8 @@ the command has read it whole; with --confirm, once the command has written a li
 for each that it delivered. What it read and lost is made up for when the site starts again, since a site then sends all
 its messages again.
 
-If the site refuses a message with 18, standard error says so once: an older copy of its sender's journal was started.
+If the site refuses a message with 18, standard error says so once, and which sites may have sent it: an older copy of
+the sender's journal was started.
 
 After the site's last line, what still waits is given on. The status is 1 if a command, or the reader of the replies,
 takes nothing for the seconds of --wait, or ended in another status than 0 after its last line, or if a message was
@@ -528,8 +529,9 @@ class Carrier:
         """Says once that a message has the name of another operation, as a site's that forgot what it had made."""
         if reply.get("refused") == ANOTHER and not self.has_told:
             self.has_told = True
-            say(f"site {self.me} has another operation of a name that came ({ANOTHER}): an older copy of its sender's "
-                "journal was started")
+            senders = " or ".join(str(way.site) for way in self.ways)
+            say(f"an older copy of the journal of site {senders} was started: site {self.me} has another operation of "
+                f"a name that came ({ANOTHER})")
 
     def send(self, answer: Answer) -> None:
         """Has the messages of a line wait."""

@@ -5,9 +5,10 @@ import {open, post, queue, script, scriptSoFar} from './program.js';
 
 export const hideHistories = () => $('over').classList.remove('open');
 export const areOpen = () => $('over').classList.contains('open');
-/** Shows the histories of the script up to now, or those that are drawn. */
+/** The histories of the script up to now, or those that are drawn. */
+const histories = (isAnew) => S.text !== null && !isAnew ? S.text : post('/histories', scriptSoFar());
 export const openHistories = (isAnew) => queue(async () => {
-  $('texts').value = S.text !== null && !isAnew ? S.text : await post('/histories', scriptSoFar());
+  $('texts').value = await histories(isAnew);
   $('verdict').textContent = '';
   $('over').classList.add('open');
   $('judge').focus();
@@ -30,15 +31,15 @@ export const judge = () => queue(async () => {
   changed();
 });
 const oneMore = (_, front, n) => `${front}${Number(n) + 1}`;
-/** Three ways to change histories. */
+/** Three ways to change histories, each as they were. */
 const FORGERIES = {
   amount: (text) => text.replace(/("shadow":\{"account":"[^"]*","amount":)(\d+)/, oneMore),
   reply: (text) => text.replace(/("reply":\{"balance":)(\d+)/, oneMore),
   site: (text) => text.split('\n').filter((each) => !each.endsWith('"site":0}')).join('\n'),
 };
 export function forge(kind) {
-  queue(() => {
-    $('texts').value = FORGERIES[kind]($('texts').value);
+  queue(async () => {
+    $('texts').value = FORGERIES[kind](await histories());
   });
   return judge();
 }

@@ -79,10 +79,11 @@ export const open = (text, isAtEnd) => queue(async () => {
   if (!world.config || world.error && !world.steps.length) return say(world.words.join('\n'));
   keep();
   const commands = text.split('\n').filter((each) => each.trim()).slice(1, 1 + world.steps.length);
-  const note = world.histories ? world.words.join('\n') : null;
-  Object.assign(S, {world, note, config: world.config, commands: world.histories ? [] : commands,
-    text: world.histories ? text : null, current: isAtEnd ? world.steps.length : 0, aside: new Set(), again: new Map(),
-    site: 0, batch: null, fields: {}, filter: ''});
+  const words = world.error ? [...world.words, 'Only the lines before it are read.'] : world.histories && world.words;
+  Object.assign(S, {world, note: words ? words.join('\n') : null, next: null, config: world.config,
+    commands: world.histories ? [] : commands, text: world.histories ? text : null,
+    current: isAtEnd ? world.steps.length : 0, aside: new Set(), again: new Map(), site: 0, batch: null, fields: {},
+    filter: ''});
   changed(true);
   return undefined;
 });

@@ -20,7 +20,7 @@ A dict is taken in place of a line, and then a dict is given back; a `Refusal` i
 
 >>> with Bank({"accounts": [["ann", 0]], "sites": 2, "version": 1}) as bank:
 ...     bank.answer({"deposit": ["ann", 500], "site": 0})["name"]
-...     Refusal(bank.answer({"balance": "eve", "site": 0})["refused"]).words
+...     Refusal.of(bank.answer({"balance": "eve", "site": 0})).words
 'B0.1'
 'unknown account'
 
@@ -165,9 +165,16 @@ class Refusal(enum.IntEnum):
         refusal._value_, refusal.words = number, words
         return refusal
 
+    @classmethod
+    def of(cls, answer: Line | Values) -> Refusal | None:
+        """The refusal that a bank's reply is, or the reply in a site's answer, if it is one."""
+        values = _last(_bytes(answer).decode() or "{}")
+        number = values.get("reply", values).get("refused")
+        return next((refusal for refusal in cls if refusal == number), None)
+
     UNKNOWN_ACCOUNT = 1, "unknown account"
-    BAD_AMOUNT = 2, "amount out of range"
-    BAD_RATE = 3, "rate out of range"
+    BAD_AMOUNT = 2, "amount out of range: 1 to 100,000,000,000 cents"
+    BAD_RATE = 3, "rate out of range: 0 to 10,000 basis points"
     UNKNOWN_OPERATION = 4, "unknown operation"
     NOT_CANCELLABLE = 5, "can't be cancelled (declined, or a cancellation)"
     ALREADY_CANCELLED = 6, "already cancelled, first at `position`"

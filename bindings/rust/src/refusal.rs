@@ -42,8 +42,8 @@ macro_rules! refusals {
 
 refusals! {
     UnknownAccount = 1, "unknown account";
-    BadAmount = 2, "amount out of range";
-    BadRate = 3, "rate out of range";
+    BadAmount = 2, "amount out of range: 1 to 100,000,000,000 cents";
+    BadRate = 3, "rate out of range: 0 to 10,000 basis points";
     UnknownOperation = 4, "unknown operation";
     NotCancellable = 5, "can't be cancelled (declined, or a cancellation)";
     AlreadyCancelled = 6, "already cancelled, first at `position`";
