@@ -3,7 +3,6 @@ from __future__ import annotations
 
 import json
 import os
-import re
 import subprocess
 import tempfile
 import threading
@@ -40,15 +39,8 @@ class Answers:
             run = self.program.run("script", data)
             return world.World(config, [], error=run.said, bad_line=run.bad_line)
         replies, error = self.session.run(data.rstrip(b"\n").split(b"\n"))
-        at = re.match(r"rbbank: line (\d+): ", error)
-        found = world.World(config or {}, [], error=bank.said(error), bad_line=int(at.group(1)) if at else None)
-        for (number, line), reply in zip(lines[1:], replies):
-            event = json.loads(line)
-            step = world.Step(number, event.pop("site"), event, json.loads(reply))
-            if "deliver" in event and step.reply.get("refused") not in (19, 20, 23):
-                step.came = event["deliver"]
-            found.steps.append(step)
-            world.note_sent(found, len(found.steps) - 1)
+        found = world.World(config or {}, [], error=bank.said(error), bad_line=bank.Run("", error, 2).bad_line)
+        world.add_steps(found, lines[1:], replies)
         return found
 
     def whole(self, data: bytes) -> world.World:

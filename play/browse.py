@@ -28,16 +28,10 @@ import bank
 import from_rows
 import play
 import world
-from browser import ActionChains, Handler, Json, Keys, Page, WebDriverException, browser
+from browser import PROBLEMS, ActionChains, Handler, Json, Keys, Page, WebDriverException, browser, same
 
-PROBLEMS: list[str] = []
 TWO = {"accounts": [["ann", 0]], "sites": 2, "version": 1}
 LONGEST = 3000  # bytes of a row that is worked through
-
-
-def same(name: str, what: str, found: Any, wanted: Any) -> None:
-    if found != wanted:
-        PROBLEMS.append(f"{name}: {what}\n  found  {str(found)[:400]}\n  wanted {str(wanted)[:400]}")
 
 
 class Browse:

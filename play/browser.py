@@ -22,9 +22,15 @@ except ImportError:
     sys.exit(77)
 
 Json = dict[str, Any]
+PROBLEMS: list[str] = []
 # what the page's own files know, for questions
 INSIDE = ("import * as state from '/state.js'; import * as program from '/program.js'; "
           "import * as basics from '/basics.js'; window.inside = {...state, ...program, ...basics};")
+
+
+def same(name: str, what: str, found: Any, wanted: Any) -> None:
+    if found != wanted:
+        PROBLEMS.append(f"{name}: {what}\n  found  {str(found)[:400]}\n  wanted {str(wanted)[:400]}")
 
 
 class Handler(play.Handler):

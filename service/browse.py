@@ -27,17 +27,10 @@ HERE = os.path.dirname(os.path.abspath(__file__))
 sys.path.insert(1, os.path.join(os.path.dirname(HERE), "play"))
 import browser  # noqa: E402
 import stub  # noqa: E402
-from browser import ActionChains, Keys  # noqa: E402
+from browser import PROBLEMS, ActionChains, Json, Keys, same  # noqa: E402
 
-Json = dict[str, Any]
 PAGE = os.path.join(HERE, "console.html")
-PROBLEMS: list[str] = []
 MARKUP = '<img src=x onerror="window.hurt=1">'
-
-
-def same(name: str, what: str, found: Any, wanted: Any) -> None:
-    if found != wanted:
-        PROBLEMS.append(f"{name}: {what}\n  found  {str(found)[:400]}\n  wanted {str(wanted)[:400]}")
 
 
 def money(cents: int) -> str:

@@ -41,9 +41,9 @@ import cluster
 from bank import COMMANDS, REQUESTS, command, fields
 from client import Client, Denied
 from faults import Disk, Net, slow_disk
+from site_child import Json, compact
 from view import BESIDE
 
-Json = dict[str, Any]
 ACCOUNTS = ("ann", "bob", "eve", "fund.a", "fund.b")
 SHARES = {"deposit": 8, "withdraw": 5, "transfer": 3, "cancel": 4}  # of the requests; of each other kind, 1
 TARGETS = ("child", "child", "service", "both", "stop")
@@ -51,10 +51,6 @@ TARGETS = ("child", "child", "service", "both", "stop")
 
 class Wrong(Exception):
     """What may not be."""
-
-
-def compact(value: Any) -> str:
-    return json.dumps(value, separators=(",", ":"), sort_keys=True)
 
 
 def names_of(reply: Json) -> list[str]:
@@ -400,13 +396,8 @@ class Books:
         return found
 
     def audit(self, program: str) -> int:
-        """Has an audit order the journals, one after another, all but the first without its first line."""
-        text = b""
-        for path in self.paths:
-            with open(path, "rb") as file:
-                journal = file.read()
-            text += journal.partition(b"\n")[2] if text else journal
-        run = subprocess.run([program, "audit"], input=text, capture_output=True)
+        """Has an audit order the journals."""
+        run = subprocess.run([program, "audit", *self.paths], capture_output=True)
         entries = sum(map(len, self.entries))
         if run.returncode or len(json.loads(run.stdout).get("order", [])) != entries:
             raise Wrong(f"the audit of {self.paths} says {run.stdout[:300].decode()} {run.stderr.decode()}")

@@ -17,16 +17,13 @@ from collections.abc import Iterator
 from typing import Any, NamedTuple
 
 import report
+from site_process import compact
 
 BANK = {"accounts": [["ann", 0], ["bob", 7]], "sites": 2, "version": 1}
 FULL = {"accounts": [["ann", 99_999_999_999]], "sites": 2, "version": 1}
 LIMITS = {"blue": 1_000_000, "epoch": 4_000_000_000, "history": 100_000_000, "inbox": 4096, "red": 1_000_000}
 
 NO_VALUE = "  column 1: the line ends here, and a value is missing\n  \n  ^\n"  # of a blank line
-
-
-def compact(value: Any) -> str:
-    return json.dumps(value, separators=(",", ":"))
 
 
 def next_bank(accounts: list[list[Any]], sites: int = 2, version: int = 1) -> str:

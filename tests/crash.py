@@ -33,7 +33,7 @@ from collections import Counter
 
 import books
 import lost_disk
-from site_process import Failed, Site, compact, name_of, names_of, read, without_bank
+from site_process import Failed, Site, compact, name_of, names_of, without_bank
 
 sys.path.append(os.path.join(books.ROOT, "examples", "tools"))
 from bank import COMMANDS, REQUESTS, command  # noqa: E402
@@ -314,17 +314,11 @@ class Bank:
                 raise Failed(f"entries and answers differ at site {site.number}: {differ}")
 
     def audit(self):
-        """Has an audit order the journals: one after another, all but the first without its first line."""
-        path = self.file("histories")
-        with open(path, "wb") as out:
-            for number, site in enumerate(self.all):
-                journal = read(site.journal)
-                out.write(journal.partition(b"\n")[2] if number else journal)
-        with open(path, "rb") as given:
-            run = subprocess.run([self.program, "audit"], stdin=given, capture_output=True)
+        """Has an audit order the journals."""
+        run = subprocess.run([self.program, "audit", *(site.journal for site in self.all)], capture_output=True)
         entries = sum(len(site.entries) for site in self.all)
         if run.returncode != 0 or len(json.loads(run.stdout).get("order", [])) != entries:
-            raise Failed(f"the audit of {path} says {run.stdout[:300].decode()} {run.stderr.decode()}")
+            raise Failed(f"the audit says {run.stdout[:300].decode()} {run.stderr.decode()}")
         return entries
 
     def stop(self):

@@ -68,10 +68,9 @@ class Kept:
         return self.run(site, first, asked, None, journal)
 
     def audited(self) -> tuple[str, str, int]:
-        parts = [read(self.file(f"{site}.journal")) for site in range(3)]
-        given = parts[0] + b"".join(part.partition(b"\n")[2] for part in parts[1:])
-        run = subprocess.run([self.program, "audit"], input=given, capture_output=True)
-        return run.stdout.decode(), run.stderr.decode(), run.returncode
+        paths = [self.file(f"{site}.journal") for site in range(3)]
+        run = subprocess.run([self.program, "audit", *paths], capture_output=True, text=True)
+        return run.stdout, run.stderr, run.returncode
 
     def closed(self, folder: str) -> tuple[str, str, int]:
         """What closing the books answers to sealed copies."""

@@ -42,6 +42,7 @@ DEPOSIT = b'{"deposit":["%s",1]}\n' % NAME.encode()
 BALANCE = b'{"balance":"%s"}\n' % NAME.encode()
 WHOSE = {"kind": "client", "balance": "client", "held": "peer", "already": "peer", "refused 16": "peer",
          "applied": "then"}
+CAME = ("already", "held", "refused 16")  # what messages are answered
 
 
 class Failed(Exception):
@@ -87,8 +88,9 @@ class Replies:
             self.balance = reply.get("balance", self.balance)
         return self.count
 
-    def of(self, kind):
-        return self.read().get(kind, 0)
+    def of(self, *kinds):
+        count = self.read()
+        return sum(count.get(kind, 0) for kind in kinds)
 
 
 class Site:
@@ -200,24 +202,20 @@ class Bank:
     def settled(self):
         """Whether every site has held each operation of the others that it didn't refuse. Two sites refuse none, since
         an operation rests on those alone that came before it."""
-        for site in self.all:
-            count = site.replies.read()
-            messages = (self.sites - 1) * self.deposits
-            if count.get("held", 0) + count.get("refused 16", 0) < messages:
-                return False
+        if any(site.replies.of("held", "refused 16") < (self.sites - 1) * self.deposits for site in self.all):
+            return False
         return self.sites > 2 or all(site.replies.of("applied") == self.deposits for site in self.all)
 
     def again(self):
         """Starts each site again with all that it sends, until all sites have all. How many rounds that took."""
         for number in range(1, 9):
             for site in self.all:
-                seen = [other.replies.of("already") + other.replies.of("held") + other.replies.of("refused 16")
-                        for other in self.all]
+                seen = [other.replies.of(*CAME) for other in self.all]
                 site.end(signal.SIGKILL)
                 site.start()
                 self.wait(lambda: all(
-                    other.replies.of("already") + other.replies.of("held") + other.replies.of("refused 16")
-                    >= before + self.deposits for before, other in zip(seen, self.all) if other is not site),
+                    other.replies.of(*CAME) >= before + self.deposits
+                    for before, other in zip(seen, self.all) if other is not site),
                     f"site {site.number} sends all again")
             if all(site.replies.of("applied") == (self.sites - 1) * self.deposits for site in self.all):
                 return number
@@ -233,14 +231,10 @@ class Bank:
                 raise Failed(f"site {site.number} has {site.replies.balance} and not {self.sites * self.deposits}")
         for site in self.all:
             site.end(0)
-        text = b""
-        for number, site in enumerate(self.all):
-            with open(site.journal, "rb") as file:
-                text += file.read() if number == 0 else file.read().partition(b"\n")[2]
-        run = subprocess.run([self.program, "audit"], input=text, capture_output=True)
+        run = subprocess.run([self.program, "audit", *(site.journal for site in self.all)], capture_output=True)
         if run.returncode != 0:
             raise Failed(f"the audit says {run.stdout[:200]} {run.stderr[:200]}")
-        return text.count(b"\n") - 1
+        return len(json.loads(run.stdout)["order"])
 
 
 def run_bank(asked, sites):

@@ -152,15 +152,20 @@ def of_script(program, data):
     has = balances(asked, run.replies[len(replies):])
     if run.fault and replies or any('"refused":23' in reply for reply in run.replies):
         has = balances_with_room(program, config, texts, replies, asked)
-    for (number, _), command, reply in zip(lines[1:], commands, replies):
-        event = {key: value for key, value in command.items() if key != "site"}
-        step = Step(number, command["site"], event, json.loads(reply))
+    add_steps(world, lines[1:], replies)
+    add_balances(world, has)
+    return world
+
+
+def add_steps(world, lines, replies):
+    """Adds the commands of a script that were answered."""
+    for (number, line), reply in zip(lines, replies):
+        event = json.loads(line)
+        step = Step(number, event.pop("site"), event, json.loads(reply))
         if "deliver" in event and step.reply.get("refused") not in (19, 20, 23):
             step.came = event["deliver"]
         world.steps.append(step)
         note_sent(world, len(world.steps) - 1)
-    add_balances(world, has)
-    return world
 
 
 def add_balances(world, has):
