@@ -1,4 +1,4 @@
-.PHONY: help demo try play play-test build install install-libs uninstall dist test gate-cases toolchain check \
+.PHONY: help demo try program play play-test build install install-libs uninstall dist test gate-cases toolchain check \
 	examples bench bindings refuse mutants crash disk wires broker service service-setup service-test service-page \
 	service-mutants
 
@@ -70,6 +70,10 @@ build:
 	@cd crates/rbbank && rt run -- script < stdin > /dev/null
 	@echo $(CURDIR)/crates/rbbank/out/rbbank
 
+PROGRAM ?= crates/rbbank/out/rbbank
+program:
+	@test -x "$(PROGRAM)" || { echo 'there is no program yet: make build'; exit 1; }
+
 # A page in the browser over the built program. It builds nothing.
 play:
 	@play/play.py $(if $(OPEN),--open "$(OPEN)")
@@ -77,22 +81,19 @@ play:
 # The same page used in a browser as a person does, and the mutants of page and server. Without a browser it says what
 # to install, and ends in a status.
 PYTHON ?= python3
-play-test:
-	@test -x crates/rbbank/out/rbbank || { echo 'there is no program yet: make build'; exit 1; }
-	@$(PYTHON) play/browse.py crates/rbbank/out/rbbank
-	@$(PYTHON) play/mutants.py crates/rbbank/out/rbbank
+play-test: program
+	@$(PYTHON) play/browse.py $(PROGRAM)
+	@$(PYTHON) play/mutants.py $(PROGRAM)
 	@if command -v eslint > /dev/null; then eslint play/page/*.js; \
 		else echo 'no eslint on PATH (Debian: apt-get install eslint): its rules were not checked'; fi
 
 # Below PREFIX: the program; the manual page and completions that are made from its help, and those that are made from
 # pages of docs/; and the tools, with what they import.
 PREFIX ?= /usr/local
-PROGRAM ?= crates/rbbank/out/rbbank
 UNDER = $(DESTDIR)$(PREFIX)
 TOOLS = draw explain wire close rebuild
 MODULES = bank journals picture saying world
-install:
-	@test -x "$(PROGRAM)" || { echo 'there is no program yet: make build'; exit 1; }
+install: program
 	@install -D -m 755 "$(PROGRAM)" "$(UNDER)/bin/rbbank"
 	@examples/tools/from_help.py "$(UNDER)/bin/rbbank" "$(UNDER)"
 	@examples/tools/from_format.py "$(UNDER)"
@@ -139,18 +140,11 @@ dist:
 	@echo "$(OUT)/$(RELEASE).tar.gz"
 
 # Every script, all histories and migrations of examples/, and the cases of tests/cases, through the program.
+CASES = examples/tools/check.py examples/tools/check_drawings.py tests/cases.py tests/sites.py tests/banks.py \
+	tests/closings.py tests/older.py tests/tools.py tests/files.py tests/install.py
 examples: build
-	@examples/tools/check.py crates/rbbank/out/rbbank
-	@examples/tools/check_drawings.py crates/rbbank/out/rbbank
-	@tests/cases.py crates/rbbank/out/rbbank
+	@for cases in $(CASES); do $$cases crates/rbbank/out/rbbank || exit 1; done
 	@examples/tools/from_help.py --check crates/rbbank/out/rbbank
-	@tests/sites.py crates/rbbank/out/rbbank
-	@tests/banks.py crates/rbbank/out/rbbank
-	@tests/closings.py crates/rbbank/out/rbbank
-	@tests/older.py crates/rbbank/out/rbbank
-	@tests/tools.py crates/rbbank/out/rbbank
-	@tests/files.py crates/rbbank/out/rbbank
-	@tests/install.py crates/rbbank/out/rbbank
 
 # The library in bindings/out, its tests in each language, the same answers by each of them, and the shop. What is
 # missing is said, and ends it in a status. If the gate built the program of these sources, it isn't built again.
@@ -176,18 +170,8 @@ gate-cases:
 	@tests/refuse.py --gate crates/rbbank/out/rbbank crates/rb_tests/out/rb_tests_tests \
 		crates/rb_tests_runs/out/rb_tests_runs_tests
 	@examples/tools/bank.py --record crates/rbbank/out/rbbank
-	@examples/tools/check.py --quiet crates/rbbank/out/rbbank
-	@examples/tools/check_drawings.py --quiet crates/rbbank/out/rbbank
-	@tests/cases.py --quiet crates/rbbank/out/rbbank
+	@for cases in $(CASES) play/check.py; do $$cases --quiet crates/rbbank/out/rbbank || exit 1; done
 	@examples/tools/from_help.py --check crates/rbbank/out/rbbank
-	@tests/sites.py --quiet crates/rbbank/out/rbbank
-	@tests/banks.py --quiet crates/rbbank/out/rbbank
-	@tests/closings.py --quiet crates/rbbank/out/rbbank
-	@tests/older.py --quiet crates/rbbank/out/rbbank
-	@tests/tools.py --quiet crates/rbbank/out/rbbank
-	@tests/files.py --quiet crates/rbbank/out/rbbank
-	@tests/install.py --quiet crates/rbbank/out/rbbank
-	@play/check.py --quiet crates/rbbank/out/rbbank
 	@tests/crash.py --quiet crates/rbbank/out/rbbank --kills 20 --seed 1
 	@tests/disk.py --gate --quiet crates/rbbank/out/rbbank
 	@tests/wires.py --gate --quiet crates/rbbank/out/rbbank
@@ -228,7 +212,6 @@ broker:
 # The bank as a service. Debian's packages are those of its own Python, if no other is given. What is missing is said,
 # and ends it in a status.
 SERVICE_PYTHON = $(if $(filter file,$(origin PYTHON)),/usr/bin/python3,$(PYTHON))
-SERVICE_PROGRAM = crates/rbbank/out/rbbank
 SECONDS ?= 60
 SEEDS ?= 1
 service-setup:
@@ -236,27 +219,23 @@ service-setup:
 	apt-get install -y rabbitmq-server python3-aiohttp python3-aio-pika python3-prometheus-client \
 		python3-uvloop python3-jsonschema python3-yaml
 
-service:
-	@test -x $(SERVICE_PROGRAM) || { echo 'there is no program yet: make build'; exit 1; }
-	@$(SERVICE_PYTHON) service/cluster.py $(SERVICE_PROGRAM)
+service: program
+	@$(SERVICE_PYTHON) service/cluster.py $(PROGRAM)
 
-service-test:
-	@test -x $(SERVICE_PROGRAM) || { echo 'there is no program yet: make build'; exit 1; }
-	@$(SERVICE_PYTHON) service/check.py $(SERVICE_PROGRAM) --broker
-	@$(SERVICE_PYTHON) service/chaos.py $(SERVICE_PROGRAM) --seconds $(SECONDS) --seeds $(SEEDS) \
+service-test: program
+	@$(SERVICE_PYTHON) service/check.py $(PROGRAM) --broker
+	@$(SERVICE_PYTHON) service/chaos.py $(PROGRAM) --seconds $(SECONDS) --seeds $(SEEDS) \
 		$(if $(SEED),--seed $(SEED))
 
 # The console in a browser, over sites that answer from recorded states, and over real services.
-service-page:
-	@test -x $(SERVICE_PROGRAM) || { echo 'there is no program yet: make build'; exit 1; }
+service-page: program
 	@$(SERVICE_PYTHON) service/browse.py
-	@$(SERVICE_PYTHON) service/browse.py --services $(SERVICE_PROGRAM)
+	@$(SERVICE_PYTHON) service/browse.py --services $(PROGRAM)
 	@$(SERVICE_PYTHON) service/browse.py --mutants
 	@$(SERVICE_PYTHON) service/deploy/check_deploy.py
 
-service-mutants:
-	@test -x $(SERVICE_PROGRAM) || { echo 'there is no program yet: make build'; exit 1; }
-	@$(SERVICE_PYTHON) service/mutants.py $(SERVICE_PROGRAM)
+service-mutants: program
+	@$(SERVICE_PYTHON) service/mutants.py $(PROGRAM)
 
 # Each allocation of the program and of five tests refused in turn (docs/CHANGING.md, "Beside the gate"); it wants cc.
 refuse: build
