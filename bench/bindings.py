@@ -19,6 +19,7 @@ import time
 sys.dont_write_bytecode = True
 import measure
 import run
+from measure import seconds, written
 
 ROOT = os.path.dirname(os.path.dirname(os.path.abspath(__file__)))
 OUT = os.path.join(ROOT, "bindings", "out")
@@ -32,21 +33,6 @@ WAYS = {
 }
 TIMED, COUNTED, PIPED = 500_000, 2_000, 50_000  # calls, by what is measured
 HEAD = ["Command", "Way", "Calls a second", "Instructions a call", "More than in a script"]
-
-
-def written(folder, lines):
-    path = os.path.join(folder, "lines")
-    with open(path, "wb") as file:
-        file.writelines(lines)
-    return path
-
-
-def seconds(words, path):
-    """Seconds of a run on a file."""
-    with open(path, "rb") as given:
-        begun = time.perf_counter()
-        subprocess.run(words, stdin=given, stdout=subprocess.DEVNULL, check=True)
-        return time.perf_counter() - begun
 
 
 def rate(given, runs):

@@ -3,12 +3,29 @@ import ctypes
 import os
 import re
 import subprocess
+import time
 
 # Copies and clearings of any size by vector instructions: of a `rep movsb` callgrind would count each byte.
 NO_REP = "glibc.cpu.x86_rep_movsb_threshold=1000000000000:glibc.cpu.x86_rep_stosb_threshold=1000000000000"
 SUBREAPER = 36
 # A run that takes more seconds of processor time is ended.
 LIMIT = 20
+
+
+def written(folder, lines):
+    """A file of these lines, which are bytes or ASCII."""
+    path = os.path.join(folder, "lines")
+    with open(path, "wb") as file:
+        file.writelines(line if isinstance(line, bytes) else line.encode() for line in lines)
+    return path
+
+
+def seconds(command, path):
+    """Seconds that a command takes on a file."""
+    with open(path, "rb") as given:
+        begun = time.perf_counter()
+        subprocess.run(command, stdin=given, stdout=subprocess.DEVNULL, check=True)
+        return time.perf_counter() - begun
 
 
 def adopt():

@@ -16,6 +16,7 @@ import time
 sys.dont_write_bytecode = True
 import measure
 import run
+from measure import seconds, written
 
 BANK = '{"accounts":[["a0",1000]],"sites":2,"version":1}\n'
 RECEIVED = (
@@ -101,22 +102,6 @@ def at_once(program, kind, lines, folder):
 def from_file(command, lines, folder):
     """Seconds of a site that reads a file."""
     return seconds(command, written(folder, [BANK, *lines]))
-
-
-def written(folder, lines):
-    """A file of these lines."""
-    path = os.path.join(folder, "lines")
-    with open(path, "w", encoding="ascii") as file:
-        file.writelines(lines)
-    return path
-
-
-def seconds(command, path):
-    """Seconds that a command takes on a file."""
-    with open(path, "rb") as given:
-        begun = time.perf_counter()
-        ended(subprocess.Popen(command, stdin=given, stdout=subprocess.DEVNULL))
-        return time.perf_counter() - begun
 
 
 def rate(program, place, kind, lines_a_read, count, runs):

@@ -223,17 +223,16 @@ async function start() {
 document.documentElement.dataset.theme = matchMedia('(prefers-color-scheme:dark)').matches ? 'dark' : 'light';
 document.documentElement.classList.add('started');
 document.addEventListener('click', click);
-document.addEventListener('contextmenu', (event) => {
-  const of = event.target.closest('.chip.way, .chip.aside');
-  if (!of) return;
-  event.preventDefault();
-  putAside(of);
-  changed();
-});
 const setAside = (of) => {
   putAside(of);
   changed();
 };
+document.addEventListener('contextmenu', (event) => {
+  const of = event.target.closest('.chip.way, .chip.aside');
+  if (!of) return;
+  event.preventDefault();
+  setAside(of);
+});
 pointer.listen((message, site) => act(deliverLine(message, site)));
 keys.listen(setAside);
 listenToForms();
