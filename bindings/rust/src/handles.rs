@@ -23,7 +23,7 @@ pub(crate) fn copy<'a>(handle: &mut Handle, call: Copying, text: &'a mut Vec<u8>
 type Sending = unsafe extern "C" fn(*mut Handle, usize, *mut u8, usize, *mut usize, &mut u8) -> i32;
 
 /// The message of an index, if there is one. `text` only grows.
-pub(crate) fn message(
+fn message(
     handle: &mut Handle,
     call: Sending,
     index: usize,
@@ -55,6 +55,19 @@ pub(crate) fn message(
         line: line.to_owned(),
         to: (to != c::EACH_OTHER_SITE).then_some(to),
     }))
+}
+
+/// All of them.
+pub(crate) fn messages(
+    handle: &mut Handle,
+    call: Sending,
+    text: &mut Vec<u8>,
+) -> Result<Vec<Message>, AnswerError> {
+    let mut found = Vec::new();
+    while let Some(one) = message(handle, call, found.len(), text)? {
+        found.push(one);
+    }
+    Ok(found)
 }
 
 pub(crate) fn without_line_feed(line: &str) -> &str {
@@ -315,16 +328,7 @@ impl Site {
     ///
     /// `OutOfMemory`, after which the site is as it was; `Ended`.
     pub fn sends(&mut self) -> Result<Vec<Message>, AnswerError> {
-        let mut messages = Vec::new();
-        while let Some(one) = message(
-            &mut self.handle,
-            c::rbbank_site_send,
-            messages.len(),
-            &mut self.text,
-        )? {
-            messages.push(one);
-        }
-        Ok(messages)
+        messages(&mut self.handle, c::rbbank_site_send, &mut self.text)
     }
 
     /// The lines that the last answer adds to the journal, each with its line feed, none if it recorded nothing;

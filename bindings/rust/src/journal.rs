@@ -1,6 +1,6 @@
 //! A site whose journal is in a file, on a Unix system: the calls on the file that the library asks for.
 use crate::c::{self, Handle};
-use crate::handles::{copy, message, without_line_feed};
+use crate::handles::{copy, messages, without_line_feed};
 use crate::{fault_of, JournalError, LineKind::Event, Message};
 use std::ffi::OsString;
 use std::fmt;
@@ -196,16 +196,11 @@ impl Journal {
     ///
     /// `OutOfMemory`, after which the site is as it was; `Ended`.
     pub fn sends(&mut self) -> Result<Vec<Message>, JournalError> {
-        let mut messages = Vec::new();
-        while let Some(one) = message(
+        Ok(messages(
             &mut self.handle,
             c::rbbank_journal_send,
-            messages.len(),
             &mut self.text,
-        )? {
-            messages.push(one);
-        }
-        Ok(messages)
+        )?)
     }
 
     /// Makes the calls that are left, one after another, and none after one that failed.
