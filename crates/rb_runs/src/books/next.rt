@@ -5,6 +5,7 @@
 ghost use Rattle.std.specs.Prelude.{◌≡◌, ◌≢◌, ◌≤◌, ◌++◌, ◌∷◌, ℕ, [], IfErr, IfOk, None, OnOk, Some, length};
 ghost use Rattle.std.specs.Prelude.{map, slice_get};
 ghost use Rattle.rb_money.specs.Faults.{account_of, config_fault};
+ghost use Rattle.rb_money.specs.Settings.{IsConfigured};
 ghost use Rattle.rb_money.specs.declared.cents.TheConstants.{MOST_CENTS};
 ghost use Rattle.rb_runs.specs.Books.{next_accounts, sites_of_next, next_with};
 
@@ -80,7 +81,9 @@ fn accounts(
     ask: &NextBank<'_>,
 ) -> Result<Vec<(String, u64)>, AllocError>
     requires each { length balances.now ≡ length config.now.names }
-    ensures { IfOk result (λ accounts. map account_of accounts.items ≡ next_accounts config.now balances.now ask.now) }
+    ensures all { IfOk result
+        (λ accounts. map account_of accounts.items ≡ next_accounts config.now balances.now ask.now) }
+    ensures configured { IsConfigured config.now }
 {
     let mut accounts = Vec::new(alloc);
     let list = config.accounts();
@@ -108,6 +111,7 @@ pub fn next_config(
     ensures next { IfOk result (λ next. next ≡ next_with config.now balances.now ask.now) }
     ensures proper { OnOk result (config_fault (sites_of_next config.now ask.now.sites)
         (next_accounts config.now balances.now ask.now) config.now.limits ≡ None) }
+    ensures configured { IsConfigured config.now }
     // Memory may run out before it is known what is wrong.
     ensures first { IfErr result (λ fault. fault ≢ ConfigFault.OutOfMemory →
         config_fault (sites_of_next config.now ask.now.sites) (next_accounts config.now balances.now ask.now)
@@ -139,8 +143,6 @@ pub fn next_of_balances(
         (next_accounts config.now config.now.starts ask.now) config.now.limits ≡ None }
     ensures { IfOk result (λ next. next ≡ next_with config.now balances.now ask.now) }
 {
-    // For a fact alone: each account starts with something.
-    let _sites = config.sites();
     match next_config(alloc, config, balances, ask) {
         Ok(next) => Ok(next),
         Err(fault) => match fault {
