@@ -16,18 +16,8 @@ input_rest (Some c) n ls = input_after c.auditor.settings c.auditor.histories n 
 -- a line that is too long ends the audit, a blank one is skipped, and no line is no bad line
 pub collected_makes : MakesInput input_rest
 collected_makes = record {
-  long = long;
-  blank = blank;
+  long = elim [ None ↦ λ n l ls is. first_chosen (is_long l) _ _ is | Some c ↦ λ n l ls is. first_chosen (is_long l) _ _ is ];
+  blank = elim [ None ↦ λ n l ls short is. rw (short, is) refl | Some c ↦ λ n l ls short is. rw (short, is) refl ];
   unopened = λ n. refl;
   ended = λ c n. (record { settings = c.auditor.settings; histories = c.auditor.histories }, refl);
 }
-  where
-    long : (o : Option Collected) (n : ℕ) (l : List ℕ) (ls : List (List ℕ)) → is_long l ≡ true
-        → input_rest o n (l ∷ ls) ≡ Err (LongLine n)
-    long None n l ls is = first_chosen (is_long l) _ _ is
-    long (Some c) n l ls is = first_chosen (is_long l) _ _ is
-
-    blank : (o : Option Collected) (n : ℕ) (l : List ℕ) (ls : List (List ℕ)) → is_long l ≡ false → is_blank l ≡ true
-        → input_rest o n (l ∷ ls) ≡ input_rest o (n + 1) ls
-    blank None n l ls short is = rw (short, is) refl
-    blank (Some c) n l ls short is = rw (short, is) refl

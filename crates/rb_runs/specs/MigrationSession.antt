@@ -16,17 +16,11 @@ migration_rest (Some s) n ls = entries_from s n ls
 -- a line that is too long ends the migration, a blank one is skipped, and no line is written as nothing
 pub migration_takes : TakesAll migration_rest makes_nothing
 migration_takes = record {
-  long = long;
-  blank = blank;
+  long = elim [ None ↦ λ l is n ls. first_chosen (is_long l) _ _ is | Some s ↦ λ l is n ls. first_chosen (is_long l) _ _ is ];
+  blank = elim [
+    | None ↦ λ n l ls short is. (rw (short, is) refl, refl)
+    | Some s ↦ λ n l ls short is. (rw (short, is) refl, refl)
+  ];
   unopened = λ n. refl;
   ended = λ s n. refl;
 }
-  where
-    long : (o : Option Settings) (l : List ℕ) → is_long l ≡ true → StopsAt (migration_rest o) l (λ n. LongLine n)
-    long None l is n ls = first_chosen (is_long l) _ _ is
-    long (Some s) l is n ls = first_chosen (is_long l) _ _ is
-
-    blank : (o : Option Settings) (n : ℕ) (l : List ℕ) (ls : List (List ℕ)) → is_long l ≡ false → is_blank l ≡ true
-        → (migration_rest o n (l ∷ ls) ≡ migration_rest o (n + 1) ls) × (◌≡◌ {A = Unit {0}} tt tt)
-    blank None n l ls short is = (rw (short, is) refl, refl)
-    blank (Some s) n l ls short is = (rw (short, is) refl, refl)

@@ -19,18 +19,11 @@ recorder_rest (Some r) n ls = recording_by r.world (commands_from r.world.settin
 -- a line that is too long ends the script, a blank one is skipped, and no line is no bad line
 pub recorder_makes : MakesInput recorder_rest
 recorder_makes = record {
-  long = long;
-  blank = blank;
+  long = elim [
+    | None ↦ λ n l ls is. first_chosen (is_long l) _ _ is
+    | Some r ↦ λ n l ls is. ap (recording_by r.world) (first_chosen (is_long l) _ _ is)
+  ];
+  blank = elim [ None ↦ λ n l ls short is. rw (short, is) refl | Some r ↦ λ n l ls short is. rw (short, is) refl ];
   unopened = λ n. refl;
   ended = λ r n. (recording_in r.world, refl);
 }
-  where
-    long : (o : Option Recorder) (n : ℕ) (l : List ℕ) (ls : List (List ℕ)) → is_long l ≡ true
-        → recorder_rest o n (l ∷ ls) ≡ Err (LongLine n)
-    long None n l ls is = first_chosen (is_long l) _ _ is
-    long (Some r) n l ls is = ap (recording_by r.world) (first_chosen (is_long l) _ _ is)
-
-    blank : (o : Option Recorder) (n : ℕ) (l : List ℕ) (ls : List (List ℕ)) → is_long l ≡ false → is_blank l ≡ true
-        → recorder_rest o n (l ∷ ls) ≡ recorder_rest o (n + 1) ls
-    blank None n l ls short is = rw (short, is) refl
-    blank (Some r) n l ls short is = rw (short, is) refl

@@ -21,20 +21,17 @@ session_rest (Some s) n ls = script_outcome s.world (commands_from s.world.setti
 -- a line that is too long ends the script, a blank one is skipped, and no line asks for nothing
 pub session_takes : TakesAll session_rest makes_nothing
 session_takes = record {
-  long = long;
-  blank = blank;
+  long = elim [
+    | None ↦ λ l is n ls. first_chosen (is_long l) _ _ is
+    | Some s ↦ λ l is n ls. ap (script_outcome s.world) (first_chosen (is_long l) _ _ is)
+  ];
+  blank = elim [
+    | None ↦ λ n l ls short is. (rw (short, is) refl, refl)
+    | Some s ↦ λ n l ls short is. (rw (short, is) refl, refl)
+  ];
   unopened = λ n. refl;
   ended = λ s n. refl;
 }
-  where
-    long : (o : Option Session) (l : List ℕ) → is_long l ≡ true → StopsAt (session_rest o) l (λ n. LongLine n)
-    long None l is n ls = first_chosen (is_long l) _ _ is
-    long (Some s) l is n ls = ap (script_outcome s.world) (first_chosen (is_long l) _ _ is)
-
-    blank : (o : Option Session) (n : ℕ) (l : List ℕ) (ls : List (List ℕ)) → is_long l ≡ false → is_blank l ≡ true
-        → (session_rest o n (l ∷ ls) ≡ session_rest o (n + 1) ls) × (◌≡◌ {A = Unit {0}} tt tt)
-    blank None n l ls short is = (rw (short, is) refl, refl)
-    blank (Some s) n l ls short is = (rw (short, is) refl, refl)
 
 -- there is a command, and the world took it and replied this
 pub record TakesCommand (asked : Option WorldEvent) (old new : SeenWorld) (reply : Reply) : Type 0 where
