@@ -22,6 +22,7 @@ use Rattle.rb_auditor.specs.Findings.{IsFirstWrong, IsReplay}
 use Rattle.rb_auditor.specs.Kept.{AreJudged, HaveSteps, AreWhole, IsJudged, IsTakenAs, IsNoReceipt, IsStep}
 use Rattle.rb_auditor.specs.Kept.{HasPlaces, entries_noted, histories_in}
 use Rattle.rb_auditor.specs.Progress.{IsTaking, Progress, Rests, first_progress, site_after}
+use Rattle.rb_auditor.specs.Walks.{AreReplays}
 use Rattle.rb_auditor.proofs.Lists
 use Rattle.rb_auditor.proofs.Resting
 use Rattle.rb_auditor.proofs.Takings
@@ -38,12 +39,16 @@ notes_of : (ns : List Notes) (i : ℕ) (h : List Entry) → slice_get (histories
     → (n : Notes) × (slice_get ns i ≡ Some n) × (entries_noted n ≡ h)
 notes_of ns i h at = let m = map_back entries_noted ns i h at in (m.0, m.1, sym m.2)
 
--- before any entry is taken all is as a world could have it
+-- if that is so of each history, all replay
+pub all_replay : (s : Settings) (ns : List Notes) (ms : List Message) → AreJudged s ns ms → AreWhole ns → AreReplays s (histories_in ns)
+all_replay s ns ms all whole i h at =
+    let n = notes_of ns i h at in subst (IsReplay s i) n.2 (replays s i n.0 ms (all.each i n.0 n.1) (whole i n.0 n.1))
+
+-- and before any entry is taken all is as a world could have it
 pub first_taken : (s : Settings) (ns : List Notes) (ms : List Message) → AreJudged s ns ms → AreWhole ns
     → IsTaking (first_progress s (histories_in ns))
 first_taken s ns ms all whole =
-    Takings.first_taken s (histories_in ns) (length-map ns entries_noted ∙ all.notes) (λ i h at.
-    (let n = notes_of ns i h at in subst (IsReplay s i) n.2 (replays s i n.0 ms (all.each i n.0 n.1) (whole i n.0 n.1))))
+    Takings.first_taken s (histories_in ns) (length-map ns entries_noted ∙ all.notes) (all_replay s ns ms all whole)
 
 -- ---- the first entry that isn't recorded
 

@@ -1,7 +1,8 @@
 //! The search for an order. Entries are taken in rounds, from each site as many as can be, and none is ever given back:
 //! to take one only adds messages that were sent, so what could be taken before still can. So once no entry can be
 //! taken, no order has those that are left, and nothing has to be tried a second way.
-ghost use Rattle.std.specs.Prelude.{◌≡◌, ◌<◌, IfOk, IfErr, OnOk, MatchBool, length};
+ghost use Rattle.std.specs.Prelude.{◌≡◌, ◌⊎◌, ◌<◌, IfOk, IfErr, OnOk, MatchBool, length};
+ghost use Rattle.rb_auditor.specs.declared.audit_fault.AuditFault.TheVariants.{OutOfMemory as NoMemory};
 ghost use Rattle.rb_auditor.specs.Certificates.{Certifies};
 ghost use Rattle.rb_auditor.specs.Findings.{IsFound, Refutes, lists_of};
 ghost use Rattle.rb_auditor.specs.Kept.{AreJudged, histories_in};
@@ -28,7 +29,7 @@ pub fn audit(
 ) -> Result<Certificate, AuditFault>
     requires { length histories.now ≡ config.now.sites }
     ensures certified { IfOk result (Certifies config.now (lists_of histories.now)) }
-    ensures found { IfErr result (IsFound config.now (lists_of histories.now)) }
+    ensures found { IfErr result (λ why. (why ≡ NoMemory) ⊎ IsFound config.now (lists_of histories.now) why) }
     ensures refuted { IfErr result (Refutes config.now (lists_of histories.now)) }
 {
     match read_all(alloc, config, histories) {

@@ -79,7 +79,8 @@ impl Auditor {
     /// site as many as possible; if a site doesn't record an entry, or no entry can be taken any more, no world has the
     /// histories.
     ///
-    /// Errors: `WrongReply` or `Stuck` if no world has them, `OutOfMemory` if there was no memory to find out.
+    /// Errors: `WrongReply` or `Stuck` if no world has them, `OutOfMemory` if there was no memory to find out: a wrong
+    /// reply is found without any.
     pub fn finish(self) -> Result<Certificate, AuditFault>
         ensures certified { IfOk result (Certifies self.settings self.histories) }
         ensures found { IfErr result (IsFound self.settings self.histories) }

@@ -1,4 +1,4 @@
-//! The check of an order. It shares no code with the search for one.
+//! The check of an order. It shares no code with the search for one (tests/closure.py --check).
 
 pub mod check;
 mod following;

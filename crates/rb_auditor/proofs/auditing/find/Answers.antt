@@ -3,6 +3,7 @@ use Rattle.std.proofs.Common.{◌∙◌, ap}
 use Rattle.rb_auditor.specs.Findings.{IsStuckAt}
 use Rattle.rb_auditor.specs.Kept.{histories_in}
 use Rattle.rb_auditor.specs.Progress.{Progress}
+use Rattle.rb_auditor.proofs.Judged
 use Rattle.rb_auditor.proofs.Refuting
 use Rattle.rb_auditor.proofs.Takings
 use Rattle.rb_auditor.proofs.auditing.find.Goals as goal
@@ -21,11 +22,13 @@ returns-in-Some c = record {
 pub open-requires-clause-judged : goal.open-requires-clause-judged
 open-requires-clause-judged c = c.requires
 
-pub returns-in_default-open : goal.returns-in_default-open
-returns-in_default-open c = record { certified = tt; found = tt; refuted = tt }
+pub returns-in_default-open-clause-found : goal.returns-in_default-open-clause-found
+returns-in_default-open-clause-found c =
+    Judged.all_replay c.args.config.now c.args.notes.now c.args.messages.now.items c.requires c.in_default.ensures.none
 
-pub returns-in_default-take_all : goal.returns-in_default-take_all
-returns-in_default-take_all c = record { certified = tt; found = tt; refuted = tt }
+pub returns-in_default-take_all-clause-found : goal.returns-in_default-take_all-clause-found
+returns-in_default-take_all-clause-found c =
+    Judged.all_replay c.args.config.now c.args.notes.now c.args.messages.now.items c.requires c.in_default.ensures.none
 
 pub returns-then-is_done : goal.returns-then-is_done
 returns-then-is_done c = record {
@@ -55,5 +58,6 @@ returns-in-Ok-next c = record {
   refuted = Refuting.stuck_is_final c.args.config.now (histories_in c.args.notes.now) c.in-Ok-next.next.items (stuck_at c);
 }
 
-pub returns : goal.returns
-returns c = record { certified = tt; found = tt; refuted = tt }
+pub returns-clause-found : goal.returns-clause-found
+returns-clause-found c =
+    Judged.all_replay c.args.config.now c.args.notes.now c.args.messages.now.items c.requires c.in_default.ensures.none

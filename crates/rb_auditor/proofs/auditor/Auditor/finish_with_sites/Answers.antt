@@ -2,6 +2,7 @@
 use Rattle.std.proofs.Common.{◌∙◌, ap, sym, subst}
 use Rattle.rb_auditor.specs.Audits.{Audited}
 use Rattle.rb_auditor.specs.Certificates.{Certifies}
+use Rattle.rb_auditor.specs.Findings.{IsFound}
 use Rattle.rb_auditor.specs.Kept.{AreJudged, histories_in}
 use Rattle.rb_auditor.specs.Replays.{ended_sites}
 use Rattle.rb_auditor.proofs.Ended
@@ -23,3 +24,8 @@ returns-in-Ok-clause-sites c =
 
 pub returns-in-Ok-clause-each : goal.returns-in-Ok-clause-each
 returns-in-Ok-clause-each c = c.self.invariant.sites ∙ ap (λ (a : Audited). a.settings.sites) c.self.view_is
+
+pub returns-clause-found : goal.returns-clause-found
+returns-clause-found c =
+    subst (λ (a : Audited). IsFound a.settings a.histories c.in-Err.fault) c.self.view_is
+    (subst (λ ns. IsFound c.self.inside.config (histories_in ns) c.in-Err.fault) c.as_slice.ensures.value c.in-Err.ensures.found)
