@@ -13,8 +13,9 @@ usage: closure.py                  the headline's: the functions of the first ta
                                    whether the functions and clauses of the tables of promises are there, each clause
                                    in one table, and rest on as many definitions as these say, README.md's numbers too,
                                    whether each crate's list of conditions has just its public functions that have one,
-                                   whether other crates cite each file of proofs/Public and none else of proofs/, and
-                                   whether no two definitions share a name; this is silent if all is well
+                                   whether other crates cite each file of proofs/Public and none else of proofs/,
+                                   whether no two definitions share a name, and whether the check of an order names
+                                   nothing of the search for one; this is silent if all is well
 
 The tables of promises are that of docs/PROVED.md and, in each crate's README.md, the one whose first column is "What is
 proved": its functions are the crate's own. An item that begins with 'Conditions:' lists the functions that have one.
@@ -481,10 +482,19 @@ def namesakes(things):
     return [" and ".join(its) + ": two definitions, one name" for its in files.values() if len(its) > 1]
 
 
+def searches():
+    """Says what of the search for an order its check names: rb_auditor's own files, but for those of the check and the
+    type of orders."""
+    other = re.compile(r"\b(?:crate|super)::(?!checking::|Certificate;)[^;\s]*")
+    return [f"crates/rb_auditor/{file}: the check of an order uses {used}" for file in files("rb_auditor", "src", "rt")
+            if file.startswith("src/checking/") for used in other.findall(read("crates", "rb_auditor", file))]
+
+
 def check(things):
     """Says where docs/MODEL.md isn't as it is made, which clauses of the tables of promises aren't there, where proofs/
-    isn't as docs/ARCHITECTURE.md says, and which definitions share a name; how many."""
-    wrong, text = lemmas(things) + namesakes(things), read("docs/MODEL.md")
+    isn't as docs/ARCHITECTURE.md says, which definitions share a name, and what a check shares with a search; how many.
+    """
+    wrong, text = lemmas(things) + namesakes(things) + searches(), read("docs/MODEL.md")
     if text != model(things, text):
         wrong.append("docs/MODEL.md isn't what the comments say now: tests/closure.py --write makes it")
     for name in sorted(set(re.findall(r"`(\w*(?:[a-z]_|[a-z][A-Z])\w*)`", text)) - known(things)):

@@ -1,7 +1,7 @@
-//! Certificates that are checked. The findings of audits are in tests/cases, audits.cases.
+//! Certificates that are found and checked. The findings of audits are in tests/cases, audits.cases.
 use crate::checks::equal;
 use crate::copies::{AT_HOME, AWAY, entries_of};
-use rb_auditor::{Certificate, check};
+use rb_auditor::{Certificate, audit, check};
 use rb_history::read_config;
 use std::test::Fail;
 
@@ -26,6 +26,8 @@ fn orders_are_checked(rt: HostRuntime) -> Result<(), Fail> {
         entries_of(alloc, &config, AT_HOME)?,
         entries_of(alloc, &config, AWAY)?,
     ];
+    let found = audit(alloc, &config, histories.as_slice())?;
+    equal(&rt, found.as_slice(), ORDERS[0].0);
     for (sites, certified) in ORDERS {
         let certificate = Certificate::new(sites.to_vec(alloc)?);
         let found = check(alloc, &config, histories.as_slice(), &certificate)?;
