@@ -7,9 +7,9 @@ ghost use Rattle.rb_auditor.specs.Findings.{IsFound, Refutes};
 ghost use Rattle.rb_auditor.specs.Replays.{ended_sites};
 
 use crate::auditing::find;
+use crate::checking::sites::{close_all, open_all};
 use crate::notes::{Notes, no_notes};
 use crate::replay::take_entry;
-use crate::sites::{close_all, open_sites};
 use crate::store::Store;
 use crate::{AuditFault, Certificate};
 use rb_money::Config;
@@ -46,7 +46,7 @@ impl Auditor {
     {
         let store = Store::new(alloc, config.sites())?;
         let notes = no_notes(alloc, config.sites())?;
-        let sites = open_sites(alloc, &config)?;
+        let sites = open_all(alloc, &config)?;
         Ok(Auditor {
             alloc,
             config,

@@ -13,7 +13,7 @@ ghost use Rattle.rb_auditor.specs.Walks.{AreAtEnd, AreReplays, IsAlong, IsBefore
 use crate::checking::sent_before::SentBefore;
 use crate::checking::sites::{close_all, open_all};
 use rb_money::{Config, Refusal};
-use rb_site::{Entry, History, Reply, Site};
+use rb_site::{Entry, ErasedEntry, History, Reply, Site};
 use std::alloc::{AllocError, Global};
 
 /// Whether one world could have recorded these histories in this order. Each is one that its site records. `Err`
@@ -39,7 +39,7 @@ pub fn follow(
 fn lead(
     alloc: Global,
     config: &Config,
-    sites: &mut Vec<Site>,
+    sites: &mut Vec<Site<ErasedEntry>>,
     histories: &[History],
     order: &[u8],
 ) -> Result<bool, AllocError>
@@ -63,7 +63,11 @@ fn lead(
 
 /// Takes the site's next entry of its history, if one is left and it isn't the receipt of a message that wasn't sent.
 /// The messages that it sends go to the end of those before. `Err` means out of memory.
-fn take_next(site: &mut Site, history: &[Entry], sent: &mut SentBefore) -> Result<bool, AllocError>
+fn take_next(
+    site: &mut Site<ErasedEntry>,
+    history: &[Entry],
+    sent: &mut SentBefore,
+) -> Result<bool, AllocError>
     requires along { IsAlong site.old history.now }
     requires replays { IsReplay site.old.settings site.old.me history.now }
     ensures { IfOk result (λ took. MatchBool took
@@ -84,7 +88,7 @@ fn take_next(site: &mut Site, history: &[Entry], sent: &mut SentBefore) -> Resul
 }
 
 /// The entry after those that the site recorded, if one is left: its history isn't full then.
-fn next_entry<'a>(site: &Site, history: &'a [Entry]) -> Option<&'a Entry>
+fn next_entry<'a>(site: &Site<ErasedEntry>, history: &'a [Entry]) -> Option<&'a Entry>
     requires along { IsAlong site.now history.now }
     requires replays { IsReplay site.now.settings site.now.me history.now }
     ensures next { option_map (λ x. x.now) result ≡ slice_get history.now (length site.now.entries) }
@@ -94,7 +98,7 @@ fn next_entry<'a>(site: &Site, history: &'a [Entry]) -> Option<&'a Entry>
 }
 
 /// Whether each site recorded its whole history.
-fn are_at_end(sites: &[Site], histories: &[History]) -> bool
+fn are_at_end(sites: &[Site<ErasedEntry>], histories: &[History]) -> bool
     requires { length sites.now ≡ length histories.now }
     ensures { MatchBool result (AreAtEnd (lists_of histories.now) sites.now)
         (IsBeforeEnd (lists_of histories.now) sites.now) }

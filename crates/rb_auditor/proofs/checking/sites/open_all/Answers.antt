@@ -25,8 +25,8 @@ loop-me-init c =
       omega (arith, c.sites-count.ensures.same),
     )
 
-pub open-requires : goal.open-requires
-open-requires c = omega (arith, c.sites-count.ensures.same)
+pub open_keeping-requires : goal.open_keeping-requires
+open_keeping-requires c = omega (arith, c.sites-count.ensures.same)
 
 pub push_reserved-requires : goal.push_reserved-requires
 push_reserved-requires c = omega (arith, c.sites-count.ensures.same, c.loop-me.invariant.1, c.loop-me.invariant.2)
