@@ -67,7 +67,7 @@ impl KeptJournal {
             (EndsOnLine me [] file.now config.now) }
     {
         let bank = BankName::none(alloc);
-        let opened = open_on_line::<AllEvents>(alloc, config, file, me, bank, resend)?;
+        let mut opened = open_on_line::<AllEvents>(alloc, config, file, me, bank, resend)?;
         match opened.begin(Planned::new(alloc, file), file) {
             Ok(journal) => {
                 let Opened {

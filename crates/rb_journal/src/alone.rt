@@ -73,6 +73,6 @@ pub fn answer_alone<R: JournaledResponder, H: Host>(
 {
     let mut batch = LineBatch::new(alloc);
     take_line(responder, line, number, &mut batch, text)?;
-    journal.append(&batch.bytes)?;
+    journal.append(&mut batch.bytes)?;
     Ok(())
 }

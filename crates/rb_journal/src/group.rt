@@ -65,7 +65,7 @@ pub fn answer_group<R: JournaledResponder, H: Host>(
     ensures number { work.new.number + length buffers.new.pending ≤ work.old.number + length buffers.old.pending }
 {
     let answered = answer_waiting(responder, buffers, work);
-    journal.commit_and_put_out(&work.batch.bytes, &buffers.buffered)?;
+    journal.commit_and_put_out(&mut work.batch.bytes, &buffers.buffered)?;
     work.batch.clear();
     take_out_all(&mut buffers.buffered);
     Ok(answered?)

@@ -68,66 +68,75 @@ impl<H: Host> Journal<H> {
         }
     }
 
-    /// Adds a batch of lines, with two syncs, whatever its size, and none if it is empty.
+    /// Adds a batch of lines, with two writes and two syncs, whatever its size, and none if it is empty. For the first
+    /// write the new gate is put at the batch's end, and then taken out again.
     /// At `Ok` all of it is on the disk: from then on each crash leaves a file that has it. At `Err`, open the file
     /// again.
-    pub fn append(&mut self, batch: &[u8]) -> Result<(), HostError>
+    pub fn append(&mut self, batch: &mut Vec<u8>) -> Result<(), HostError>
         requires settled { IsSettled H.is_usable H.content H.may_leave self.old }
-        requires lines { IsBatch batch.now }
+        requires lines { IsBatch batch.old.items }
 
         ensures settled { OnOk result (IsSettled H.is_usable H.content H.may_leave self.new) }
         ensures lines { OnOk result (recovered (H.content self.new.host) ≡ recovered (H.content self.old.host)
-            ++ recovered batch.now) }
+            ++ recovered batch.old.items) }
+        ensures batch { batch.new.items ≡ batch.old.items }
         ensures output { H.output self.new.host ≡ H.output self.old.host }
         ensures reported { H.reported self.new.host ≡ H.reported self.old.host }
 
         // A crash at any moment of the call leaves the lines from before it, with all of the batch or none of it.
         ensures any_moment { LeavesOnly H.moment H.left_since self.old.host self.new.host
-            (IsBeforeOrAfter (recovered (H.content self.old.host)) (recovered batch.now) (H.output self.old.host)) }
+            (IsBeforeOrAfter (recovered (H.content self.old.host)) (recovered batch.old.items)
+            (H.output self.old.host)) }
 
         // And a file that isn't damaged: the gate is closed, or the file is at rest with the batch.
         ensures appended { LeavesOnly H.moment H.left_since self.old.host self.new.host
-            (λ c _. IsAppended (recovered (H.content self.old.host)) batch.now c × IsIntact c) }
+            (λ c _. IsAppended (recovered (H.content self.old.host)) batch.old.items c × IsIntact c) }
 
         // It doesn't give up by itself.
         ensures cause { HasCause (H.faults self.old.host) (H.faults self.new.host)
-            (H.faults self.old.host < H.faults self.new.host) ⊥ (2 ^ 60 ≤ self.old.end + length batch.now)
+            (H.faults self.old.host < H.faults self.new.host) ⊥ (2 ^ 60 ≤ self.old.end + length batch.old.items)
             (IsErrOf result) }
     {
-        let [gate, tail @ ..] = batch else {
+        let len = batch.len();
+        if len == 0 {
             return Ok(());
-        };
-        if self.end >= MAX_LEN || tail.len() >= MAX_LEN {
+        }
+        if self.end >= MAX_LEN || len > MAX_LEN {
             return Err(HostError::Full);
         }
-        stage(&mut self.host, self.end, tail)?;
-        write_byte(&mut self.host, self.end, *gate)?;
-        self.end += 1 + tail.len();
+        batch.push(b' ')?;
+        let staged = stage(&mut self.host, self.end, &batch[1..]);
+        batch.truncate(len);
+        staged?;
+        write_byte(&mut self.host, self.end, b'{')?;
+        self.end += len;
         Ok(())
     }
 
     /// Adds a batch of lines, and puts out the reply once all of it is on the disk. At `Err`, open the file again.
-    pub fn commit_and_put_out(&mut self, batch: &[u8], reply: &[u8]) -> Result<(), HostError>
+    pub fn commit_and_put_out(&mut self, batch: &mut Vec<u8>, reply: &[u8]) -> Result<(), HostError>
         requires settled { IsSettled H.is_usable H.content H.may_leave self.old }
-        requires lines { IsBatch batch.now }
+        requires lines { IsBatch batch.old.items }
 
         ensures settled { OnOk result (IsSettled H.is_usable H.content H.may_leave self.new) }
         ensures lines { OnOk result (recovered (H.content self.new.host) ≡ recovered (H.content self.old.host)
-            ++ recovered batch.now) }
+            ++ recovered batch.old.items) }
+        ensures batch { batch.new.items ≡ batch.old.items }
         ensures output { OnOk result (H.output self.new.host ≡ H.output self.old.host ++ reply.now) }
 
         // Nothing is put out that a crash, at any moment of the call, takes back.
         ensures any_moment { LeavesOnly H.moment H.left_since self.old.host self.new.host
-            (IsDurable (recovered (H.content self.old.host)) (recovered batch.now) (H.output self.old.host) reply.now) }
+            (IsDurable (recovered (H.content self.old.host)) (recovered batch.old.items) (H.output self.old.host)
+            reply.now) }
         ensures appended { LeavesOnly H.moment H.left_since self.old.host self.new.host
-            (λ c _. IsAppended (recovered (H.content self.old.host)) batch.now c × IsIntact c) }
+            (λ c _. IsAppended (recovered (H.content self.old.host)) batch.old.items c × IsIntact c) }
 
         // It doesn't give up by itself. If the output fails, the batch is on the disk all the same.
         ensures cause { HasCause (H.faults self.old.host) (H.faults self.new.host)
             (H.faults self.old.host < H.faults self.new.host) (H.faults self.old.host < H.faults self.new.host)
-            (2 ^ 60 ≤ self.old.end + length batch.now) (IsErrOf result) }
+            (2 ^ 60 ≤ self.old.end + length batch.old.items) (IsErrOf result) }
         ensures kept { IsErrOf result HostError.OutputFailed →
-            (recovered (H.content self.new.host) ≡ recovered (H.content self.old.host) ++ recovered batch.now)
+            (recovered (H.content self.new.host) ≡ recovered (H.content self.old.host) ++ recovered batch.old.items)
             × Only (H.content self.new.host) (H.may_leave self.new.host) }
     {
         self.append(batch)?;
@@ -135,22 +144,21 @@ impl<H: Host> Journal<H> {
     }
 }
 
-// Writes a batch but for its first byte, and then a closed gate, after the closed gate that is there.
-fn stage<H: Host>(host: &mut H, end: usize, tail: &[u8]) -> Result<(), HostError>
+// Writes what follows a batch's first byte, its closed gate too, after the closed gate that is there.
+fn stage<H: Host>(host: &mut H, end: usize, rest: &[u8]) -> Result<(), HostError>
     requires usable { H.is_usable host.old }
     requires rest { H.content host.old ≡ at_rest (recovered (H.content host.old)) }
     requires end { end ≡ length (concat (recovered (H.content host.old))) }
     requires durable { Only (H.content host.old) (H.may_leave host.old) }
-    requires fits { end + length tail.now < 2 ^ 62 }
+    requires fits { end < 2 ^ 62 }
 
-    ensures quiet { Quiet H.Host (HasClosedGate (recovered (H.content host.old)) (length tail.now + 1)) host.old
-        host.new result }
-    ensures staged { OnOk result (H.content host.new ≡ concat (recovered (H.content host.old)) ++ 32
-        ∷ (tail.now ++ 32 ∷ [])) }
+    ensures quiet { Quiet H.Host (HasClosedGate (recovered (H.content host.old)) (length rest.now)) host.old host.new
+        result }
+    ensures staged { OnOk result (H.content host.new ≡ concat (recovered (H.content host.old)) ++ 32 ∷ rest.now) }
     ensures durable { OnOk result (Only (H.content host.new) (H.may_leave host.new)) }
 {
-    host.write_at(end + 1, tail)?;
-    write_byte(host, end + 1 + tail.len(), b' ')
+    host.write_at(end + 1, rest)?;
+    host.sync()
 }
 
 // Puts out all of the bytes.

@@ -115,7 +115,7 @@ pub fn answer_long_line<R: JournaledResponder, H: Host, I: Input>(
 {
     drop_line(buffers, reader, &journal.host)?;
     responder.answer_long(work.number, &mut buffers.buffered)?;
-    journal.commit_and_put_out(&[], &buffers.buffered)?;
+    journal.commit_and_put_out(&mut work.batch.bytes, &buffers.buffered)?;
     take_out_all(&mut buffers.buffered);
     work.number += 1;
     work.count += 1;

@@ -44,30 +44,32 @@ impl<M: Records> Opened<M> {
     /// Repairs the end of the site's file, whose bytes these are, and adds the configuration's line if the journal
     /// doesn't have it yet. At `Ok` the file's lines are those of the site's journal, all of them on the disk. At
     /// `Err`, open the file again.
-    pub fn begin<H: Host>(&self, host: H, bytes: &[u8]) -> Result<Journal<H>, (HostError, H)>
+    pub fn begin<H: Host>(&mut self, host: H, bytes: &[u8]) -> Result<Journal<H>, (HostError, H)>
         requires opened { H.never_failed host }
         requires bytes { bytes.now ≡ H.content host }
         requires durable { H.knows_disk host → Only (H.content host) (H.may_leave host) }
-        requires begins { IsToBegin (recovered bytes.now) self.now.responder.node.site self.now.first.items }
-        requires journal { IsJournalOf (recovered bytes.now) self.now.responder.node.site }
+        requires begins { IsToBegin (recovered bytes.now) self.old.responder.node.site self.old.first.items }
+        requires journal { IsJournalOf (recovered bytes.now) self.old.responder.node.site }
+        ensures responder { self.new.responder ≡ self.old.responder }
+        ensures sends { self.new.sends ≡ self.old.sends }
         ensures settled { IfOk result (λ journal. IsSettled H.is_usable H.content H.may_leave journal) }
         ensures lines { IfOk result (λ journal. recovered (H.content journal.host)
-            ≡ journal_of self.now.responder.node.site) }
+            ≡ journal_of self.old.responder.node.site) }
         ensures output { IfOk result (λ journal. H.output journal.host ≡ H.output host) }
         ensures reported { IfOk result (λ journal. H.reported journal.host ≡ H.reported host) }
 
         // A crash at any moment leaves the lines from before, or those of the site's journal.
         ensures any_moment { IfOk result (λ journal. LeavesOnly H.moment H.left_since host journal.host
-            (λ c d. AreEither (recovered bytes.now) (journal_of self.now.responder.node.site) (recovered c)
+            (λ c d. AreEither (recovered bytes.now) (journal_of self.old.responder.node.site) (recovered c)
             × (d ≡ H.output host))) }
         ensures any_moment_err { IfErr result (λ e. LeavesOnly H.moment H.left_since host e.1
-            (λ c d. AreEither (recovered bytes.now) (journal_of self.now.responder.node.site) (recovered c)
+            (λ c d. AreEither (recovered bytes.now) (journal_of self.old.responder.node.site) (recovered c)
             × (d ≡ H.output host))) }
         ensures no_output_fault { IfErr result (λ e. e.0 ≡ HostError.OutputFailed → ⊥) }
     {
         settings_are_configured(&self.responder.node);
         match Journal::open(host, bytes) {
-            Ok(mut journal) => match journal.append(&self.first) {
+            Ok(mut journal) => match journal.append(&mut self.first) {
                 Ok(()) => Ok(journal),
                 Err(error) => {
                     let Journal { host, end: _ } = journal;

@@ -69,7 +69,7 @@ fn go_on<S: Source, H: Host, M: Records>(
     ensures calls { S.calls reader.new ≤ MOST_READS }
 {
     settings_are_configured(&opened.responder.node);
-    journal.commit_and_put_out(&opened.first, &opened.sends)?;
+    journal.commit_and_put_out(&mut opened.first, &opened.sends)?;
     // All that was sent again is given back before the first read of events.
     opened.sends = Vec::new(alloc);
     serve(

@@ -1,8 +1,8 @@
 -- A group of lines is answered and committed.
-use Rattle.std.proofs.Common.{rules, ◌≡◌, ◌++◌, ⊎_elim, inl, inr, Option, Err, ap, sym, subst, ℕ, List, true}
+use Rattle.std.proofs.Common.{rules, ◌≡◌, ◌++◌, ⊎_elim, inl, inr, Option, Err, refl, ap, sym, subst, ℕ, List, true}
 use Rattle.std.specs.Io.KnownBytes.{IsAtEnd}
 use Rattle.rb_journal.specs.Host.{LeavesOnly}
-use Rattle.rb_journal.specs.Lines.{IsBatch, IsIntact, recovered}
+use Rattle.rb_journal.specs.Lines.{IsIntact, recovered}
 use Rattle.rb_journal.specs.declared.host.HostError.TheVariants.{DiskFailed, Full}
 use Rattle.rb_journal.specs.Faults.{fault_of_host}
 use Rattle.rb_journal.specs.Steps.{AdvancesByBatch, IsRunFrom, point_at, point_of}
@@ -37,12 +37,10 @@ run : (g : Over) (c : After-commit_and_put_out g) (rest : Option (List ℕ)) →
     (IsRunFrom g.R.JournaledResponder.answers (point_at g.R.JournaledResponder g.H.Host c.args.responder.now c.args.journal.now
     c.args.work.now c.args.buffers.now.pending) rest)
 run g c rest end =
-    let lines = recovered (g.H.Host.content c.args.journal.now.host) in
     let advances = steps g (goal.at.After-commit_and_put_out g c).After-answer_waiting-answered in
     weaker g.H.Host.moment g.H.Host.left_since _ _ _ _ c.commit_and_put_out.ensures.any_moment
-    (λ f d kept. durable_is_run g.R.JournaledResponder.answers _ _ _ rest c.deref.result.now _ c.deref-2.result.now f d advances
-    end (ap (λ l. lines ++ recovered l) (sym c.deref.ensures.value)) c.requires.buffered
-    (sym c.deref-2.ensures.value) kept)
+    (λ f d kept. durable_is_run g.R.JournaledResponder.answers _ _ _ rest c.answer_waiting-answered.new.work.batch.bytes.items _
+    c.deref.result.now f d advances end refl c.requires.buffered (sym c.deref.ensures.value) kept)
 
 pub returns-in_err-commit_and_put_out-clause-any_moment : goal.returns-in_err-commit_and_put_out-clause-any_moment
 returns-in_err-commit_and_put_out-clause-any_moment g c =
@@ -61,15 +59,11 @@ returns-in_err-commit_and_put_out-clause-journal g c = λ is.
     let error = c.in_err-commit_and_put_out.field-0.0 in
     let passed : c.from_residual.result ≡ Err (fault_of_host error) = search rules in
     let journal : fault_of_host error ≡ Journal = cc (passed, is) in
-    let lines = recovered (g.H.Host.content c.args.journal.now.host) in
-    let p = goal.at.returns-in_err-commit_and_put_out-clause-journal g c in
-    let advances = steps g p.After-answer_waiting-answered in
-    let batch : c.deref.result.now ≡ c.answer_waiting-answered.new.work.batch.bytes.items = c.deref.ensures.value in
+    let advances = steps g (goal.at.returns-in_err-commit_and_put_out-clause-journal g c).After-answer_waiting-answered in
+    let batch = c.answer_waiting-answered.new.work.batch in
     ⊎_elim (λ (disk : error ≡ DiskFailed). inl (why.failed (ap Err disk)))
-    (λ (full : error ≡ Full). inr (λ rest end. is_full g.R.JournaledResponder.answers _ _ _ rest c.deref.result.now
-    c.args.journal.now.end advances.0 end (ap (λ l. lines ++ recovered l) (sym batch))
-    (subst IsBatch (sym batch) c.answer_waiting-answered.new.work.batch.whole)
-    c.requires.settled.end (why.full (ap Err full))))
+    (λ (full : error ≡ Full). inr (λ rest end. is_full g.R.JournaledResponder.answers _ _ _ rest batch.bytes.items
+    c.args.journal.now.end advances.0 end refl batch.whole c.requires.settled.end (why.full (ap Err full))))
     (journal_cause error journal)
 
 -- nor is a damaged file left

@@ -88,11 +88,18 @@ same_lines g c =
     let lines = recovered (g.H.Host.content c.args.journal.now.host) in
     t.lines_are ∙ ap (λ ls. ls ++ t.added) c.requires.same ∙ ap (λ ls. lines ++ ls) (sym t.batch_is) ∙ append-nil lines
 
+-- no line is committed with it
+none : (g : Over) (c : After-commit_and_put_out g)
+    → recovered (g.H.Host.content c.args.journal.now.host) ++ recovered c.args.work.now.batch.bytes.items
+    ≡ recovered (g.H.Host.content c.args.journal.now.host)
+none g c =
+    let lines = recovered (g.H.Host.content c.args.journal.now.host) in
+    ap (λ l. lines ++ recovered l) c.requires.batch ∙ append-nil lines
+
 pub returns-clause-same : goal.returns-clause-same
 returns-clause-same g c = λ _.
-    let lines = recovered (g.H.Host.content c.args.journal.now.host) in
-    same_lines g (goal.at.returns-clause-same g c).After-commit_and_put_out
-    ∙ sym (c.in_ok-commit_and_put_out.ensures.lines ∙ append-nil lines)
+    let p = (goal.at.returns-clause-same g c).After-commit_and_put_out in
+    same_lines g p ∙ sym (c.in_ok-commit_and_put_out.ensures.lines ∙ none g p)
 
 pub returns-clause-answered : goal.returns-clause-answered
 unfolding all before after
@@ -102,7 +109,7 @@ returns-clause-answered g c =
     let p = (goal.at.returns-clause-answered g c).After-commit_and_put_out in
     let dropped = c.in_ok-drop_line.ensures.dropped in
     let kept : recovered (g.H.Host.content c.commit_and_put_out.new.self.host) ≡ lines =
-    c.in_ok-commit_and_put_out.ensures.lines ∙ append-nil lines in
+    c.in_ok-commit_and_put_out.ensures.lines ∙ none g p in
     let said : g.H.Host.output c.commit_and_put_out.new.self.host ≡ output ++ c.answer_long.new.text.items =
     c.in_ok-commit_and_put_out.ensures.output ∙ ap (λ l. output ++ l) c.deref.ensures.value in
     record { more = dropped.more; read = dropped.read; still = dropped.still; steps = rw (kept, said) (step g p output) }
@@ -114,16 +121,15 @@ moments : (g : Over) (c : After-commit_and_put_out g) → LeavesOnly g.H.Host.mo
     c.args.work.now c.args.buffers.now.pending) (g.I.Input.remaining c.args.reader.now))
 unfolding all before after
 moments g c =
-    let lines = recovered (g.H.Host.content c.args.journal.now.host) in
     let dropped = c.in_ok-drop_line.ensures.dropped in
     let end = c.in_ok-drop_line.ensures.end in
     let s = step g c [] in
     let p = point_at g.R.JournaledResponder g.H.Host c.args.responder.now c.args.journal.now c.args.work.now c.args.buffers.now.pending in
     weaker g.H.Host.moment g.H.Host.left_since _ _ _ _ c.commit_and_put_out.ensures.any_moment
     (λ f d kept. run_on (only_read g.R.JournaledResponder.answers _ _ p dropped.more _ _ dropped.read dropped.still) end f d
-    (durable_is_run g.R.JournaledResponder.answers c.drop_line.new.buffers.ended (before g c []) (after g c []) _ [] _
-    c.deref.result.now f d (s, alone s.turns (omega (arith, s.count_is))) end (sym (append-nil lines)) refl (sym c.deref.ensures.value)
-    kept))
+    (durable_is_run g.R.JournaledResponder.answers c.drop_line.new.buffers.ended (before g c []) (after g c []) _
+    c.args.work.now.batch.bytes.items _ c.deref.result.now f d (s, alone s.turns (omega (arith, s.count_is))) end (sym (none g c)) refl
+    (sym c.deref.ensures.value) kept))
 
 pub returns-in_err-commit_and_put_out-clause-any_moment : goal.returns-in_err-commit_and_put_out-clause-any_moment
 returns-in_err-commit_and_put_out-clause-any_moment g c =

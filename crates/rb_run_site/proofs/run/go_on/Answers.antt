@@ -6,22 +6,18 @@ use Rattle.rb_journal.specs.Lines.{IsIntact, recovered}
 use Rattle.rb_journal.specs.Ends.{IsFull}
 use Rattle.rb_journal.specs.Run.{IsRunOfTurns, served_input}
 use Rattle.rb_run_site.specs.Journals.{SiteAnswers, journal_of}
-use Rattle.rb_run_site.specs.Openings.{IsToBegin}
 use Rattle.rb_run_site.specs.Runs.{IsNewOrAnswered}
 use Rattle.rb_run_site.proofs.Going.{Begins, all_answered, answered, begins, begun}
 use Rattle.rb_journal.proofs.Public.Moments.{both, runs_on, weaker}
 use Rattle.rb_run_site.proofs.run.go_on.Given.{Over}
-use Rattle.rb_run_site.proofs.run.go_on.Goals.{After-commit_and_put_out, After-deref, In_ok-commit_and_put_out}
+use Rattle.rb_run_site.proofs.run.go_on.Goals.{After-commit_and_put_out, After-settings_are_configured, In_ok-commit_and_put_out}
 use Rattle.rb_run_site.proofs.run.go_on.Goals as goal
 
 -- what the journal is to begin with makes it the site's
-adds : (g : Over) (c : After-deref g) → Begins (recovered (g.H.Host.content c.args.journal.now.host))
-    c.args.opened.now.responder.node.site c.deref.result.now
-adds g c =
-    let x = c.args.opened.now.responder.node.site in
-    let lines = recovered (g.H.Host.content c.args.journal.now.host) in
-    begins lines x c.deref.result.now c.settings_are_configured.ensures.line c.requires.journal
-    (subst (λ f. IsToBegin lines x f) (sym c.deref.ensures.value) c.requires.begins)
+adds : (g : Over) (c : After-settings_are_configured g) → Begins (recovered (g.H.Host.content c.args.journal.now.host))
+    c.args.opened.now.responder.node.site c.args.opened.now.first.items
+adds g c = begins (recovered (g.H.Host.content c.args.journal.now.host)) c.args.opened.now.responder.node.site
+    c.args.opened.now.first.items c.settings_are_configured.ensures.line c.requires.journal c.requires.begins
 
 -- a crash while it begins leaves a new journal, or the site's
 beginning : (g : Over) (c : After-commit_and_put_out g) → LeavesOnly g.H.Host.moment g.H.Host.left_since
@@ -37,8 +33,8 @@ beginning g c =
     let mid = c.commit_and_put_out.new.self.host in
     let lines = recovered (host.content was) in
     let output = host.output was in
-    let first = c.deref.result.now in
-    let reply = c.deref-2.result.now in
+    let first = c.args.opened.now.first.items in
+    let reply = c.deref.result.now in
     let sends = c.args.opened.now.sends.items in
     let input = served_input c.args.buffers.now.pending (g.S.Source.remaining c.args.reader.now) in
     weaker host.moment host.left_since was mid
@@ -47,20 +43,20 @@ beginning g c =
     (both host.moment host.left_since was mid (IsDurable lines (recovered first) output reply)
     (λ f d. IsAppended lines first f × IsIntact f) c.commit_and_put_out.ensures.any_moment c.commit_and_put_out.ensures.appended)
     (λ f d at. begun g.M.Records.ALL lines x first sends reply c.args.number input output f d
-    (adds g (goal.at.After-commit_and_put_out g c).After-deref) c.deref-2.ensures.value at.0 at.1.0 at.1.1)
+    (adds g (goal.at.After-commit_and_put_out g c).After-settings_are_configured) c.deref.ensures.value at.0 at.1.0 at.1.1)
 
 -- once it has begun, it is the site's, and what is sent again was put out
 begun_as : (g : Over) (c : In_ok-commit_and_put_out g) →
     (journal_of c.args.opened.now.responder.node.site ≡ recovered (g.H.Host.content c.commit_and_put_out.new.self.host))
     × (g.H.Host.output c.commit_and_put_out.new.self.host ≡ g.H.Host.output c.args.journal.now.host ++ c.args.opened.now.sends.items)
 begun_as g c = (
-  sym (c.in_ok-commit_and_put_out.ensures.lines ∙ (adds g (goal.at.In_ok-commit_and_put_out g c).After-deref).whole),
-  c.in_ok-commit_and_put_out.ensures.output ∙ ap (λ l. g.H.Host.output c.args.journal.now.host ++ l) c.deref-2.ensures.value,
+  sym (c.in_ok-commit_and_put_out.ensures.lines ∙ (adds g (goal.at.In_ok-commit_and_put_out g c).After-settings_are_configured).whole),
+  c.in_ok-commit_and_put_out.ensures.output ∙ ap (λ l. g.H.Host.output c.args.journal.now.host ++ l) c.deref.ensures.value,
 )
 
 pub commit_and_put_out-requires-clause-lines : goal.commit_and_put_out-requires-clause-lines
 commit_and_put_out-requires-clause-lines g c =
-    (adds g (goal.at.commit_and_put_out-requires-clause-lines g c).After-deref).batch
+    (adds g (goal.at.commit_and_put_out-requires-clause-lines g c).After-settings_are_configured).batch
 
 pub returns-in_err-commit_and_put_out-clause-any_moment :
     goal.returns-in_err-commit_and_put_out-clause-any_moment

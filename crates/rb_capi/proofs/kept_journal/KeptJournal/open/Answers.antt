@@ -16,7 +16,7 @@ returns-in-Ok c =
     let old = c.new.result in
     let journal = c.in-Ok.journal in
     let is = c.in-Ok.ensures in
-    record {
+    rw (is.responder, is.sends) (record {
       first = o.first.items;
       opens = subst (λ bank. OpensSite c.args.config.now c.args.me bank c.args.resend file x o.first.items o.sends.items)
           c.none-bank.ensures c.in_ok-opened.ensures;
@@ -24,4 +24,4 @@ returns-in-Ok c =
       any_moment = over_calls old journal.host (recovered file) (journal_of x) (output_of (log_planned old)) c.new.ensures.usable
           is.settled.usable c.new.ensures.none is.reported is.any_moment;
       on_disk = on_disk journal x o.sends.items is.settled is.lines;
-    }
+    })

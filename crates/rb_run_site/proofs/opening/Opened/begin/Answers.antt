@@ -1,33 +1,31 @@
 -- A site's file is repaired, and its journal begins.
-use Rattle.std.proofs.Common.{◌≡◌, ◌∙◌, ◌++◌, ⊎_elim, inl, inr, sym, ap, subst}
+use Rattle.std.proofs.Common.{◌≡◌, ◌∙◌, ◌++◌, ⊎_elim, inl, inr, ap}
 use Rattle.rb_journal.specs.Alone.{AreEither}
 use Rattle.rb_journal.specs.Host.{LeavesOnly}
 use Rattle.rb_journal.specs.Journal.{IsBeforeOrAfter, IsLeftAs}
 use Rattle.rb_journal.specs.Lines.{recovered}
 use Rattle.rb_journal.proofs.Public.Moments.{runs_on, weaker}
 use Rattle.rb_run_site.specs.Journals.{journal_of}
-use Rattle.rb_run_site.specs.Openings.{IsToBegin}
 use Rattle.rb_run_site.proofs.Going.{Begins, begins}
 use Rattle.rb_run_site.proofs.opening.Opened.begin.Given.{Over}
-use Rattle.rb_run_site.proofs.opening.Opened.begin.Goals.{After-append, After-deref}
+use Rattle.rb_run_site.proofs.opening.Opened.begin.Goals.{After-append, After-settings_are_configured}
 use Rattle.rb_run_site.proofs.opening.Opened.begin.Goals as goal
 
 -- what the journal is to begin with makes it the site's
-adds : (g : Over) (c : After-deref g) → Begins (recovered c.args.bytes.now) c.args.self.now.responder.node.site c.deref.result.now
-adds g c =
-    let x = c.args.self.now.responder.node.site in
-    let lines = recovered c.args.bytes.now in
-    begins lines x c.deref.result.now c.settings_are_configured.ensures.line c.requires.journal
-    (subst (λ f. IsToBegin lines x f) (sym c.deref.ensures.value) c.requires.begins)
+adds : (g : Over) (c : After-settings_are_configured g)
+    → Begins (recovered c.args.bytes.now) c.args.self.now.responder.node.site c.args.self.now.first.items
+adds g c = begins (recovered c.args.bytes.now) c.args.self.now.responder.node.site c.args.self.now.first.items
+    c.settings_are_configured.ensures.line c.requires.journal c.requires.begins
 
 pub append-requires-clause-lines : goal.append-requires-clause-lines
-append-requires-clause-lines g c = (adds g (goal.at.append-requires-clause-lines g c).After-deref).batch
+append-requires-clause-lines g c = (adds g (goal.at.append-requires-clause-lines g c).After-settings_are_configured).batch
 
 -- so it is once that is added
-whole : (g : Over) (c : After-append g) → recovered (g.H.Host.content c.in-Ok.journal.host) ++ recovered c.deref.result.now
+whole : (g : Over) (c : After-append g)
+    → recovered (g.H.Host.content c.in-Ok.journal.host) ++ recovered c.args.self.now.first.items
     ≡ journal_of c.args.self.now.responder.node.site
-whole g c =
-    ap (λ ls. ls ++ recovered c.deref.result.now) c.in-Ok.ensures.lines ∙ (adds g (goal.at.After-append g c).After-deref).whole
+whole g c = ap (λ ls. ls ++ recovered c.args.self.now.first.items) c.in-Ok.ensures.lines
+    ∙ (adds g (goal.at.After-append g c).After-settings_are_configured).whole
 
 -- a crash leaves the lines from before, or the journal's
 moments : (g : Over) (c : After-append g) → LeavesOnly g.H.Host.moment g.H.Host.left_since c.args.host c.append.new.self.host
@@ -38,7 +36,7 @@ moments g c =
     let x = c.args.self.now.responder.node.site in
     let mid = c.in-Ok.journal.host in
     let lines = recovered c.args.bytes.now in
-    let first = c.deref.result.now in
+    let first = c.args.self.now.first.items in
     runs_on host.moment host.left_since c.args.host mid c.append.new.self.host _
     (IsBeforeOrAfter (recovered (host.content mid)) (recovered first) (host.output mid))
     (weaker host.moment host.left_since c.args.host mid (IsLeftAs lines (host.output c.args.host)) _ c.in-Ok.ensures.any_moment
