@@ -1,6 +1,5 @@
 pub mod Public
 mod OneTurn
-mod Batches
 mod Crash
 mod Intact
 mod Quiet

@@ -37,7 +37,7 @@ mod waiting;
 mod work;
 
 pub use alone::answer_alone;
-pub use batch::{LineBatch, is_line};
+pub use batch::LineBatch;
 pub use call::Call;
 pub use call_log::CallLog;
 pub use disk::{Disk, open_disk};

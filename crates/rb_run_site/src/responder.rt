@@ -1,7 +1,7 @@
 //! A site as the responder that answers lines over a journal.
 //!
-//! The entries of a line are written apart, and then added to the batch at once. If memory for that runs out, the text
-//! of the answer is taken back, so no answer is put out whose entries aren't in the batch.
+//! The entries of a line are written to the end of the batch, and its answer to the end of the text. If memory runs out
+//! on the way, both are as before, so no answer is put out whose entries aren't in the batch.
 ghost use Rattle.std.specs.Prelude.{◌≡◌};
 ghost use Rattle.serde_json.specs.Written.{compact_text};
 ghost use Rattle.rb_money.specs.Settings.{IsConfigured};
@@ -11,7 +11,6 @@ ghost use Rattle.rb_journal.specs.Lines.{IsLine};
 use crate::bad_line::{append_bad_line, append_long_line};
 use rb_history::{LineFault, lines_are_single, read_events_fit};
 use rb_journal::{JournaledResponder, LineBatch};
-use rb_lines::whole_or_none;
 use rb_node::{Node, Records};
 use rb_reasons::reason_at_site;
 use std::alloc::{AllocError, Global};
@@ -29,7 +28,6 @@ pub fn settings_are_configured<M: Records>(node: &Node<M>)
 pub struct SiteResponder<M: Records> {
     alloc: Global,
     pub node: Node<M>,
-    entries: Vec<u8>,
 }
 
 impl<M: Records> SiteResponder<M> {
@@ -37,20 +35,12 @@ impl<M: Records> SiteResponder<M> {
     pub fn new(alloc: Global, node: Node<M>) -> SiteResponder<M>
         ensures { result.node ≡ node }
     {
-        SiteResponder {
-            alloc,
-            node,
-            entries: Vec::new(alloc),
-        }
+        SiteResponder { alloc, node }
     }
 
     /// Closes the site.
     pub fn close(self) {
-        let SiteResponder {
-            alloc: _,
-            node,
-            entries: _,
-        } = self;
+        let SiteResponder { alloc: _, node } = self;
         node.close();
     }
 }
@@ -78,17 +68,14 @@ impl<M: Records> JournaledResponder for SiteResponder<M> {
         // For a fact alone: lines of entries are lines if the id that was read is one.
         lines_are_single();
         read_events_fit();
-        let before = text.len();
-        self.entries.clear();
-        match self.node.answer(line, text, &mut self.entries) {
-            Ok(()) => {}
+        match self.node.answer(line, text, &mut batch.bytes) {
+            Ok(()) => Ok(()),
             Err(LineFault::Bad) => {
                 let why = reason_at_site(self.alloc, self.node.config(), self.node.bank(), line);
-                return append_bad_line(self.alloc, text, number, why);
+                append_bad_line(self.alloc, text, number, why)
             }
-            Err(LineFault::OutOfMemory) => return Err(AllocError),
+            Err(LineFault::OutOfMemory) => Err(AllocError),
         }
-        whole_or_none(batch.extend(&self.entries), text, before)
     }
 
     fn answer_long(&mut self, number: u64, text: &mut Vec<u8>) -> Result<(), AllocError> {
