@@ -97,7 +97,7 @@ def journals_of(period: Period) -> list[Journal]:
                         f"--bank {period.name}")
     if absent:
         raise bank.Stop(f"only some sites of {period.name} are started: there is no {', '.join(absent)}; start the "
-                        f"others with --bank {period.name}, or make a lost journal again by rebuild")
+                        f"others with --bank {period.name}, or make a lost journal again by rbbank-rebuild")
     return [Journal(path) for path in paths]
 
 
