@@ -162,8 +162,8 @@ The commands, an example each. "R1", "B0.1" and the like are names of operations
 
 Refusals:
    1  unknown account
-   2  amount out of range
-   3  rate out of range
+   2  amount out of range: 1 to 100,000,000,000 cents
+   3  rate out of range: 0 to 10,000 basis points
    4  unknown operation
    5  can't be cancelled: declined, or a cancellation
    6  already cancelled, first at "position"
