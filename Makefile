@@ -102,8 +102,8 @@ install: program
 	@install -m 755 $(TOOLS:%=examples/tools/%.py) "$(UNDER)/share/rbbank"
 	@for tool in $(TOOLS); do ln -sf "../share/rbbank/$$tool.py" "$(UNDER)/bin/rbbank-$$tool" || exit 1; done
 
-# The library for C, its headers and what pkg-config says of it, below PREFIX. The one version is the library's, whose
-# first number `rbbank --version` says.
+# The library for C, its headers and what pkg-config says of it, below PREFIX. The one version is the library's; the
+# program's is the same.
 VERSION := $(shell sed -n 's/.*VERSION: &str = "\(.*\)";/\1/p' crates/rb_capi/src/version.rt)
 SHARED := librbbank.so.$(firstword $(subst ., ,$(VERSION)))
 HEADERS = rbbank.h rbbank_file.h

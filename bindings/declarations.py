@@ -8,8 +8,9 @@ usage: declarations.py             the table of calls
 The exports are the `extern "C"` functions of crates/rb_capi/src; the declarations are those of c/rbbank.h,
 rust/src/c.rs and python/rbbank. What an export takes is compared as C passes it: a slice is a pointer and a length,
 the allocator is nothing, and a handle is one pointer, to a struct of one pointer. The version is that of
-crates/rb_capi/src/version.rt: Rust's crates have to say the same. A refusal's name and number are those of the
-program, in crates/rb_money and rb_node, and its meaning is that of docs/FORMAT.md; each language has them again.
+crates/rb_capi/src/version.rt: the program and Rust's crates have to say the same. A refusal's name and number are
+those of the program, in crates/rb_money and rb_node, and its meaning is that of docs/FORMAT.md; each language has them
+again.
 """
 import ctypes
 import glob
@@ -107,8 +108,10 @@ def as_python_has_it(kinds):
     return [re.sub("^(u64|u8)s? .*", r"\1s", kind) for kind in known]
 
 
-def version_of(manifest):
-    return re.search(r'(?m)^version = "(.*)"$', read(HERE, manifest))[1]
+def versions():
+    """The files that have the version again, each with what it says."""
+    for path in ("rust/Cargo.toml", "rust/serde/Cargo.toml", "../crates/rb_cli/src/texts.rt"):
+        yield path, re.search(r'(?m)^(?:version|pub const VERSION: &str) = "(.*)"', read(HERE, path))[1]
 
 
 # ---- refusals
@@ -151,9 +154,9 @@ def refusals_that_differ():
 def differences():
     """What isn't the same, in words."""
     yield from refusals_that_differ()
-    for manifest in ("rust/Cargo.toml", "rust/serde/Cargo.toml"):
-        if version_of(manifest) != build.version():
-            yield f"{manifest} has the version {version_of(manifest)}; crates/rb_capi/src/version.rt {build.version()}"
+    for path, found in versions():
+        if found != build.version():
+            yield f"{path} has the version {found}; crates/rb_capi/src/version.rt {build.version()}"
     made, in_c, in_rust, in_python = exports(), of_c(), of_rust(), of_python()
     if not made:
         yield "crates/rb_capi/src has no export"

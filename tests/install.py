@@ -147,11 +147,11 @@ def examples(there: Installed) -> Results:
 
 
 def version(there: Installed) -> Results:
-    """All has the library's version: the program says its first number."""
+    """All has the library's version, the program too."""
     with open(os.path.join(ROOT, "crates", "rb_capi", "src", "version.rt"), encoding="utf-8") as file:
         number = re.findall(r'VERSION: &str = "(.*)"', file.read())[0]
     yield "the archive's name", there.name == f"rbbank-{number}-linux-x86-64"
-    yield "rbbank --version", there.ran("rbbank", "--version") == (f"rbbank {number.split('.')[0]}\n", "", 0)
+    yield "rbbank --version", there.ran("rbbank", "--version") == (f"rbbank {number}\n", "", 0)
     with open(there.path("CHANGELOG.md"), encoding="utf-8") as file:
         newest = next(line for line in file if line.startswith("## "))
     yield "the newest in CHANGELOG.md", newest.startswith(f"## {number},")

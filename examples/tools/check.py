@@ -79,7 +79,7 @@ def helps(program, command):
 
 def tells_version(program):
     run = subprocess.run([program, "--version"], capture_output=True)
-    return (run.stdout, run.stderr, run.returncode) == (b"rbbank 2\n", b"", 0)
+    return (run.stdout, run.stderr, run.returncode) == (b"rbbank 2.0.0\n", b"", 0)
 
 
 def tellers(program, sites, count):

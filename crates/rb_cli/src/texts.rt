@@ -1,7 +1,8 @@
 //! The texts of the program's help.
 
-/// The newest version of the lines that it reads and writes. Each configuration names its own.
-pub const VERSION: &str = "2";
+/// The version of the program and of the library, which bindings/declarations.py compares. Its first number is the
+/// newest version of the lines. Each configuration names its own.
+pub const VERSION: &str = "2.0.0";
 
 /// The program in one line.
 pub const ABOUT: &str =
