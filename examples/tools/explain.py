@@ -143,7 +143,7 @@ def of_fault(found, step, data):
     elif found.answer is not None:
         right = world.Step(step.line, step.site, step.event, found.answer)
         yield f"  the site answers: {answered(found, right)}   {bank.compact(found.answer)}"
-    elif "full" in step.fault:
+    elif step.fault != world.WRONG_REPLY:
         yield f"  {step.fault}"
     else:
         yield "  What the site answers can't be asked: it rests on a message that no entry sent."

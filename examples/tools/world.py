@@ -13,6 +13,7 @@ from bank import TAKES, compact, fields
 
 VERBS = (*TAKES, "shadow", "token")
 LARGEST_HISTORY = 100_000_000
+WRONG_REPLY = "another reply than this site gives"   # of an entry whose right reply can't be asked
 
 
 @dataclass
@@ -293,6 +294,11 @@ def replayed(program, world, order, wrong):
     return balances(asked, run.replies[len(order):len(order) + len(asked)])
 
 
+def red_before(queue, step):
+    """How many red operations a site had applied before an entry."""
+    return sum(name[0] == "R" for before in queue[:step.position - 1] for name in before.changed)
+
+
 def clock_before(world, queue, step, name):
     """What a site had applied before it made this operation, as its version of the lines has it."""
     names = [each for before in queue[:step.position - 1] for each in before.changed]
@@ -325,13 +331,21 @@ def difference(world, queues, step):
     """How a received operation differs from the one that was made under its name at its home, or nothing."""
     at, what = world.senders[step.came - 1]
     if "token" in step.event:
-        return ""
+        return token_difference(world.steps[at], queues, step)
     made, came = made_as(world, queues, at, what), step.event["shadow"]
     for key in ("kind", "account", "to", "amount", "target", "deps"):
         if key in made and made[key] != came.get(key):
             there = f"site {world.steps[at].site} made {what} with {compact(made[key])} (line {world.steps[at].line})"
             return f"{key} {compact(came.get(key))} came, but {there}"
     return ""
+
+
+def token_difference(sender, queues, step):
+    """How a token that came differs from the one that was passed, or nothing."""
+    made, came = red_before(queues[sender.site], sender), step.event["token"][2]
+    if made == came:
+        return ""
+    return f"a token with {came} red operations came, but site {sender.site} passed it with {made} (line {sender.line})"
 
 
 def why_not_sent(world, queues, step):
@@ -356,8 +370,11 @@ def note_faults(world, queues):
                 queue[first - 1].fault = why_not_sent(world, queues, queue[first - 1])
     elif verdict.get("fault") == "reply":
         step = queues[verdict["site"]][verdict["event"] - 1]
-        step.fault = "another reply than this site gives"
-        if step.position > world.config.get("history", LARGEST_HISTORY):
+        step.fault, differs = WRONG_REPLY, step.came and difference(world, queues, step)
+        if differs:
+            # (what was asked is another message than the one that came)
+            step.came, world.answer, step.fault = 0, None, differs
+        elif step.position > world.config.get("history", LARGEST_HISTORY):
             step.fault = "the site's history is full before this entry"
         elif world.answer is not None:
             step.fault = f"the site answers {compact(world.answer)} here"
