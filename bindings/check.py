@@ -137,7 +137,8 @@ def restart():
         with open(journal, "ab") as file:
             file.write(b"\t")
         sealed = run([program, "0", journal])
-    answer = b'{"reply":{"balance":500},"sends":[],"then":[]}\ncolumn 11: a colon is missing behind the key balance\n'
+    answer = (b'{"reply":{"balance":500},"sends":[],"then":[]}\n'
+              b"column 11: the line ends here: an object is on one line, and that of column 1 has no }\n")
     entry = b'{"event":{"balance":"ann"},"reply":{"balance":500},"site":0}\n'
     return (fresh and (found, again, status) == (answer, sent, 0) and kept == before + entry
             and re.fullmatch(rb'to all: \{"shadow":.*\}\nto 1: \{"token":\[1,1,0\]\}\n', sent) is not None

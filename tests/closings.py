@@ -79,7 +79,7 @@ rbbank: nothing.0: another bank's journal
          "  its first line is no configuration\n", status=2),
     Case("bad.0 none.1", err="""\
 rbbank: bad.0: line 2: bad line
-  column 28: -5 has a sign, and an amount in cents is 0 to 18,446,744,073,709,551,615
+  column 28: -5 has a sign, and an amount in cents is 1 to 100,000,000,000
   {"event":{"deposit":["ann",-5]},"reply":{"kind":"deposit","name":"B0.1"}
                              ^
 """, status=2),

@@ -8,24 +8,28 @@ use rb_money::{
     MOST_SITES_OF_VERSION_1, Refusal,
 };
 
-/// What a value has to be, with its name: a number from a least to a most, a text, a list of these items or of any
-/// number of one shape, or an object.
+/// What a value has to be, with its name: a number of the first range, of which a line may have the second, and a bank
+/// refuses the rest; a text, a list of these items or of any number of one shape, or an object.
 #[derive(Clone, Copy)]
 pub enum Shape {
-    Number(&'static str, i64, u64),
+    Number(&'static str, Range, Range),
     Text(&'static str, Rule),
     Items(&'static str, &'static [Shape]),
     Every(&'static str, &'static Shape),
     Object(&'static str, Keys),
     Flag,
-    /// The number of a refusal, the site of an entry, the counts of a clock, and a site of these.
+    /// The number of a refusal, a site with its name, that of an entry, the counts of a clock, and a site of these.
     Refused,
+    Site(&'static str),
     OwnSite,
     Counts,
     CountSite,
     /// Anything, after a key that its object doesn't have.
     Unknown,
 }
+
+/// The least and the most of a number.
+pub type Range = (i64, u64);
 
 /// What a text has to be.
 #[derive(Clone, Copy)]
@@ -67,33 +71,35 @@ macro_rules! key {
     ($word:ident) => { rb_history::word!($word []) };
 }
 
-/// The shape of this name, here or among the objects below.
+/// The shape of this name, here or among the objects below, or a number that a line may have in its range alone.
 macro_rules! shape {
-    (AMOUNT) => { Shape::Number("an amount in cents", 0, u64::MAX) };
-    (BALANCE) => { Shape::Number("a balance", 0, u64::MAX) };
-    (BLUE) => { Shape::Number("the limit blue", 1, MOST_BLUE as u64) };
-    (CAUSE) => { Shape::Number("a cause that isn't \"declined\"", 0, BYTE) };
-    (COUNT) => { Shape::Number("a count", 0, WORD) };
-    (COUNTED) => { Shape::Number("a count", 1, WORD) };
-    (EPOCH) => { Shape::Number("an epoch", 0, WORD) };
-    (EPOCHS) => { Shape::Number("the limit epoch", 1, MOST_EPOCH as u64) };
-    (HISTORY) => { Shape::Number("the limit history", 1, MOST_HISTORY as u64) };
-    (HOME) => { Shape::Number("the home", 0, BYTE) };
-    (INBOX) => { Shape::Number("the limit inbox", 1, MOST_INBOX as u64) };
-    (INDEX) => { Shape::Number("an index", 0, BYTE) };
-    (LAST) => { Shape::Number("the number of the last entries", 0, MOST_HISTORY as u64) };
-    (MESSAGE) => { Shape::Number("a message's number", 0, WORD) };
-    (MOVED) => { Shape::Number("what a row moved", i64::MIN, i64::MAX as u64) };
-    (PASSED_TO) => { Shape::Number("the site that the token is passed to", 0, BYTE) };
-    (POSITION) => { Shape::Number("a position", 0, WORD) };
-    (RATE) => { Shape::Number("a rate in basis points", 0, WORD) };
-    (RED) => { Shape::Number("the number of red operations", 0, WORD) };
-    (REDS) => { Shape::Number("the limit red", 1, MOST_RED as u64) };
-    (SITE) => { Shape::Number("a site", 0, BYTE) };
-    (SITES) => { Shape::Number("the number of sites", 2, MOST_SITES as u64) };
-    (START) => { Shape::Number("a starting balance in cents", 0, MOST_CENTS) };
-    (VERSION) => { Shape::Number("the version", 1, 2) };
-    (WHY) => { Shape::Number("why", 0, BYTE) };
+    ($what:literal, $least:expr, $most:expr) => { Shape::Number($what, ($least, $most), ($least, $most)) };
+    (AMOUNT) => { Shape::Number("an amount in cents", (1, MOST_CENTS), (0, u64::MAX)) };
+    (BALANCE) => { shape!("a balance", 0, u64::MAX) };
+    (BLUE) => { shape!("the limit blue", 1, MOST_BLUE as u64) };
+    (CAUSE) => { shape!("a cause that isn't \"declined\"", 0, BYTE) };
+    (COUNT) => { shape!("a count", 0, WORD) };
+    (COUNTED) => { shape!("a count", 1, WORD) };
+    (EPOCH) => { shape!("an epoch", 0, WORD) };
+    (EPOCHS) => { shape!("the limit epoch", 1, MOST_EPOCH as u64) };
+    (HISTORY) => { shape!("the limit history", 1, MOST_HISTORY as u64) };
+    (HOME) => { Shape::Site("the home") };
+    (INBOX) => { shape!("the limit inbox", 1, MOST_INBOX as u64) };
+    (INDEX) => { shape!("an index", 0, BYTE) };
+    (LAST) => { shape!("the number of the last entries", 0, MOST_HISTORY as u64) };
+    (MESSAGE) => { shape!("a message's number", 0, WORD) };
+    (MOVED) => { shape!("what a row moved", i64::MIN, i64::MAX as u64) };
+    (PASSED_TO) => { Shape::Site("the site that the token is passed to") };
+    (POSITION) => { shape!("a position", 0, WORD) };
+    (RATE) => { shape!("a rate in basis points", 0, WORD) };
+    (RED) => { shape!("the number of red operations", 0, WORD) };
+    (REDS) => { shape!("the limit red", 1, MOST_RED as u64) };
+    (SENT) => { Shape::Number("an amount in cents", (0, MOST_CENTS), (0, u64::MAX)) };
+    (SITE) => { Shape::Site("a site") };
+    (SITES) => { shape!("the number of sites", 2, MOST_SITES as u64) };
+    (START) => { shape!("a starting balance in cents", 0, MOST_CENTS) };
+    (VERSION) => { shape!("the version", 1, 2) };
+    (WHY) => { shape!("why", 0, BYTE) };
     (ABOUT) => { Shape::Text("what a question is about", Rule::About) };
     (ACCOUNT) => { Shape::Text("the account", Rule::Any) };
     (BANK) => { Shape::Text("the bank's name", Rule::Any) };
@@ -169,6 +175,7 @@ const COMMAND: Shape = object!["a command";
     Stray("\"shadow\" is in histories alone; in a script \"deliver\" brings a message, by its number") =>
         [shadow SHADOW],
     Stray("\"token\" is in histories alone; in a script \"deliver\" brings a message, by its number") => [token TOKEN],
+    Stray("ids are for `rbbank site`") => [id ID],
     One => REQUESTS, One => ASKED, One => [deliver MESSAGE], Needed => [site SITE]];
 
 const ENTRY: Shape = object!["an entry"; Needed => [event EVENT], other!(ENTRY) => REQUESTS,
@@ -190,7 +197,7 @@ const EVENT: Shape = object!["an event";
     One => ASKED, One => RECEIVED];
 
 const SHADOW: Shape = object!["a received operation";
-    Needed => [account ACCOUNT, amount AMOUNT, deps DEPS, home HOME, kind KIND, name NAME],
+    Needed => [account ACCOUNT, amount SENT, deps DEPS, home HOME, kind KIND, name NAME],
     If(key!(cancel)) => [target NAME], If(key!(transfer)) => [to SECOND]];
 
 const REPLY: Shape = object!["a reply";
@@ -233,12 +240,14 @@ impl Terms<'_> {
         const COUNTS: Shape = shape!(COUNTS);
         let (version, sites) = match self {
             Terms::Site(it, _) | Terms::Line(_, Some(it)) => (it.version(), it.sites()),
-            Terms::Line(_, None) => (1, 1),
+            Terms::Line(_, None) => (1, u8::MAX),
         };
+        let last = u64::from(sites.saturating_sub(1));
         match shape {
-            Shape::Refused => Shape::Number("a refusal", 1, Refusal::SameAccount.number().into()),
-            Shape::OwnSite => Shape::Number("a site", 0, sites.saturating_sub(1).into()),
-            Shape::CountSite => Shape::Number("a site", 0, MOST_SITES as u64 - 1),
+            Shape::Refused => shape!("a refusal", 1, Refusal::SameAccount.number().into()),
+            Shape::Site(what) => Shape::Number(what, (0, last), (0, BYTE)),
+            Shape::OwnSite => shape!("a site", 0, last),
+            Shape::CountSite => Shape::Number("a site", (0, last), (0, MOST_SITES as u64 - 1)),
             Shape::Counts if version == 1 => FIRST_COUNTS,
             Shape::Counts => COUNTS,
             shape => shape,

@@ -4,6 +4,7 @@
 use crate::fault::{Found, fault, number, quote, words};
 use crate::scan::Scan;
 use crate::shapes::Terms;
+use crate::text::column_of;
 use json::Scratch;
 use serde_json::{Error, Value};
 use std::alloc::Global;
@@ -50,6 +51,9 @@ pub fn wrong_syntax(alloc: Global, terms: Terms<'_>, line: &str, error: &Error) 
             return wrong_token(alloc, &scan, line, begin, at);
         }
     }
+    if rest.is_empty() && scan.holder().is_some() {
+        return wrong_end(alloc, &scan, line, at);
+    }
     let is_object = matches!(scan.holder(), Some((_, true)));
     match (last, rest.first(), scan.nodes.last()) {
         (Some(b','), Some(b'}'), _) if is_object =>
@@ -61,7 +65,7 @@ pub fn wrong_syntax(alloc: Global, terms: Terms<'_>, line: &str, error: &Error) 
             let key = quote(alloc, key.said().as_bytes())?;
             fault!(alloc, at => "a colon is missing behind the key {key}")
         }
-        _ => wrong_end(alloc, &scan, rest, at),
+        _ => wrong_end(alloc, &scan, line, at),
     }
 }
 
@@ -86,7 +90,7 @@ fn wrong_token(alloc: Global, scan: &Scan<'_>, line: &str, begin: usize, at: usi
         (Some(b'"'), None) => (begin, "this text has no closing \""),
         (Some(b'"'), Some(0..=31)) => (at, "a control character in a text"),
         (Some(b'"'), Some(_)) => (at, "no such escape in a text"),
-        (_, None) => return wrong_end(alloc, scan, b"", at),
+        (_, None) => return wrong_end(alloc, scan, line, at),
         (Some(b'-'), _) if is_second => (begin, "a minus sign is before a digit"),
         (Some(b'0'), _) if is_second => (begin, "a number has no zero in front"),
         (Some(b'-' | b'0'..=b'9'), _) => (at, "a number goes on with digits, or ends here"),
@@ -122,18 +126,18 @@ fn no_value(alloc: Global, rest: &[u8], at: usize) -> Found {
 }
 
 /// Something that can't come after a value.
-fn wrong_end(alloc: Global, scan: &Scan<'_>, rest: &[u8], at: usize) -> Found {
+fn wrong_end(alloc: Global, scan: &Scan<'_>, line: &str, at: usize) -> Found {
     let Some((begin, is_object)) = scan.holder() else {
         return fault!(alloc, at => "the object ends before this, and a line has one object");
     };
     let (end, what) = if is_object {
-        ("}", "object")
+        ("}", "an object")
     } else {
-        ("]", "list")
+        ("]", "a list")
     };
-    if !rest.is_empty() {
+    if at < line.len() {
         return fault!(alloc, at => "a comma or {end} is missing here");
     }
-    let column = number(alloc, (begin as u64).saturating_add(1))?;
-    fault!(alloc, at => "the line ends before the {end} of the {what} at column {column}")
+    let column = number(alloc, column_of(line.as_bytes(), begin) as u64)?;
+    fault!(alloc, at => "the line ends here: {what} is on one line, and that of column {column} has no {end}")
 }

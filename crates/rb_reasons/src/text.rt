@@ -68,7 +68,7 @@ fn count_chars(bytes: &[u8]) -> usize
 }
 
 /// The column of what is wrong with a line this many bytes from its beginning.
-fn column_of(line: &[u8], at: usize) -> usize
+pub fn column_of(line: &[u8], at: usize) -> usize
     ensures least { 1 ≤ result }
     ensures most { result ≤ length line.now + 1 }
 {

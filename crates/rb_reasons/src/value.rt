@@ -3,7 +3,7 @@
 use crate::Expected;
 use crate::fault::{Found, commas, fault, number, quote, words};
 use crate::scan::{Node, Scan};
-use crate::shapes::{Rule, Shape, Terms, key};
+use crate::shapes::{Range, Rule, Shape, Terms, key};
 use json::Token;
 use rb_history::{LineFault, MOST_ID_BYTES, is_id, open_config};
 use rb_money::{LONGEST_NAME, MOST_ACCOUNTS, MOST_SITES, MOST_SITES_OF_VERSION_1};
@@ -19,11 +19,11 @@ impl Scan<'_> {
         let node = self.nodes.get(place)?;
         let shape = self.terms.shape(node.shape);
         match (shape, node.token) {
-            (Shape::Number(what, least, most), Token::Number(_)) => {
-                if is_in_range(node.text, least, most) {
+            (Shape::Number(what, range, taken), Token::Number(_)) => {
+                if is_in_range(node.text, taken) {
                     return self.wrong_in_range(place);
                 }
-                wrong_number(self.alloc, node, what, least, most)
+                wrong_number(self.alloc, node, what, range)
             }
             (Shape::Text(_, rule), Token::String(_)) => self.wrong_text(place, rule),
             (Shape::Items(_, _) | Shape::Every(_, _), Token::BeginArray) => self.wrong_count(place),
@@ -137,8 +137,8 @@ fn counted(shape: Shape) -> Option<(&'static str, usize)> {
     }
 }
 
-/// A number that isn't a whole one of the range.
-fn wrong_number(alloc: Global, node: &Node<'_>, what: &str, least: i64, most: u64) -> Found {
+/// A number that isn't a whole one of those that a line may have: words on its range.
+fn wrong_number(alloc: Global, node: &Node<'_>, what: &str, (least, most): Range) -> Found {
     let (at, bytes) = (node.start, node.text.as_bytes());
     let (shown, all) = (quote(alloc, bytes)?, commas(alloc, bytes)?);
     let from = commas(alloc, least.to_string(alloc).ok()?.as_bytes())?;
@@ -156,7 +156,7 @@ fn wrong_number(alloc: Global, node: &Node<'_>, what: &str, least: i64, most: u6
 }
 
 /// Whether digits, maybe after a sign, are a number of the range; -0 is none.
-fn is_in_range(digits: &str, least: i64, most: u64) -> bool {
+fn is_in_range(digits: &str, (least, most): Range) -> bool {
     match (digits.parse::<u64>(), digits.parse::<i64>()) {
         (Ok(number), _) => number <= most && (least <= 0 || least.unsigned_abs() <= number),
         (Err(_), Ok(number)) => least <= number && number < 0,
