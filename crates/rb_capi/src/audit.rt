@@ -3,7 +3,7 @@ ghost use Rattle.rb_capi.specs.Audit.{AnswersAudit, IsEndOfVerdict};
 
 use crate::ending::{Ending, end_at_fault, hand_over, in_memory};
 use rb_lines::{FromBytes, ScriptFault, ToBytes};
-use rb_runs::run_audit;
+use rb_runs::{Explained, run_audit};
 use std::alloc::Global;
 
 /// How an audit ends: it writes one line.
@@ -37,7 +37,7 @@ pub extern "C" fn rbbank_audit(
 ) -> i32
     ensures { AnswersAudit input.now out.old out.new written.new number.new result }
 {
-    let mut reader = FromBytes::new(input);
+    let mut reader = Explained::new(FromBytes::new(input));
     let mut writer = ToBytes::new(alloc);
     let ran = run_audit(alloc, &mut reader, &mut writer);
     let ended = end_of_verdict(in_memory(ran, &mut writer.taken));

@@ -3,7 +3,7 @@ ghost use Rattle.rb_capi.specs.Migrate.{AnswersMigration};
 
 use crate::ending::{ending_of, hand_over, in_memory};
 use rb_lines::{FromBytes, ToBytes};
-use rb_runs::run_migrate;
+use rb_runs::{Explained, run_migrate};
 use std::alloc::Global;
 
 /// Writes the lines of histories, a configuration and entries, in version 2 of the format.
@@ -19,7 +19,7 @@ pub extern "C" fn rbbank_migrate(
 ) -> i32
     ensures { AnswersMigration input.now out.old out.new written.new number.new result }
 {
-    let mut reader = FromBytes::new(input);
+    let mut reader = Explained::new(FromBytes::new(input));
     let mut writer = ToBytes::new(alloc);
     let ran = run_migrate(alloc, &mut reader, &mut writer);
     let ended = ending_of(in_memory(ran, &mut writer.taken));

@@ -3,7 +3,7 @@ ghost use Rattle.rb_capi.specs.Script.{AnswersScript};
 
 use crate::ending::{ending_of, hand_over, in_memory};
 use rb_lines::{FromBytes, ToBytes};
-use rb_runs::run_script;
+use rb_runs::{Explained, run_script};
 use std::alloc::Global;
 
 /// Answers a script, a configuration and commands, by a line for each command.
@@ -22,7 +22,7 @@ pub extern "C" fn rbbank_script(
 ) -> i32
     ensures { AnswersScript input.now out.old out.new written.new number.new result }
 {
-    let mut reader = FromBytes::new(input);
+    let mut reader = Explained::new(FromBytes::new(input));
     let mut writer = ToBytes::new(alloc);
     let ran = run_script(alloc, &mut reader, &mut writer);
     let ended = ending_of(in_memory(ran, &mut writer.taken));

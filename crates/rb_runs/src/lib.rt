@@ -5,6 +5,7 @@
 mod audit;
 mod books;
 mod entry;
+mod explained;
 mod lines;
 mod migrate;
 mod recorded;
@@ -13,7 +14,7 @@ mod silent;
 mod takes_lines;
 
 pub use audit::laws::inputs_are_read_back;
-pub use audit::run::{run_audit, run_audit_explained};
+pub use audit::run::run_audit;
 pub use books::added::check_added;
 pub use books::added_fault::{AddedFault, added_message, added_status};
 pub use books::close_fault::{CloseFault, close_status};
@@ -26,10 +27,11 @@ pub use books::laws::{
 };
 pub use books::next::NextBank;
 pub use books::run::run_close;
+pub use explained::Explained;
 pub use migrate::laws::{migrated_lines_are_read, migrated_replays_are_equal, migrations_are_read};
-pub use migrate::run::{run_migrate, run_migrate_explained};
+pub use migrate::run::run_migrate;
 pub use recorded::laws::histories_are_accepted;
-pub use recorded::run::{run_histories, run_histories_explained};
+pub use recorded::run::run_histories;
 pub use recorded::text::write_text;
 pub use recorded::unwritten::Unwritten;
-pub use script::run::{run_script, run_script_explained};
+pub use script::run::run_script;

@@ -2,7 +2,7 @@
 //! tests/cases.
 use crate::checks::{equal, holds};
 use rb_lines::{FromBytes, ScriptFault, ToBytes};
-use rb_runs::run_script;
+use rb_runs::{Explained, run_script};
 use rb_tests::rows::row_named;
 use std::test::Fail;
 
@@ -11,7 +11,7 @@ use std::test::Fail;
 #[test]
 fn refuse_script(rt: HostRuntime) -> Result<(), Fail> {
     let row = row_named("deposit_reaches_the_other_site")?;
-    let mut reader = FromBytes::new(row.script.as_bytes());
+    let mut reader = Explained::new(FromBytes::new(row.script.as_bytes()));
     let mut writer = ToBytes::new(rt.alloc());
     // Spare capacity for the text, so that no write takes memory. If it is refused, it is had at once when it is asked
     // for again.

@@ -21,6 +21,7 @@ use rb_cli::{Task, Words, read_words};
 use rb_history::is_id;
 use rb_lines::{Sink, Source};
 use rb_run_threads::run_threads;
+use rb_runs::Explained;
 use std::process::ExitCode;
 use std::sync::Wait;
 use std::thread::Threads;
@@ -36,20 +37,19 @@ pub struct Ended {
 fn do_task<S: Source, W: Sink>(
     rt: &HostRuntime,
     task: Task,
-    reader: &mut S,
+    reader: &mut Explained<S>,
     writer: &mut W,
 ) -> Ended
-    requires unread { S.calls reader.old ≡ 0 }
+    requires unread { S.calls reader.old.source ≡ 0 }
     requires fresh { W.failed writer.old ≡ false }
     ensures done { (text : List ℕ) × Appends (W.contents writer.old) (W.contents writer.new) text
-        × DoesLines task (S.remaining reader.old) (S.remaining reader.new) result.done text }
+        × DoesLines task (S.remaining reader.old.source) (S.remaining reader.new.source) result.done text }
     ensures status { IsEndOf result.done (exit_status result.code) }
-    ensures calls { S.calls reader.new ≤ S.calls reader.old + MOST_READS }
+    ensures calls { S.calls reader.new.source ≤ S.calls reader.old.source + MOST_READS }
 {
-    let mut why = None;
-    let ran = run_task(rt.alloc(), task, reader, writer, &mut why);
+    let ran = run_task(rt.alloc(), task, reader, writer);
     let code = end_of_task(rt, ran);
-    report_why(rt, why);
+    report_why(rt, reader.why.take());
     let done = Done::Lines(ran);
     Ended { done, code }
 }
@@ -69,16 +69,16 @@ fn do_asked<H: Threads + Wait + Sync, S: Source, W: Sink>(
     rt: &HostRuntime,
     handle: &H,
     asked: Words<'_>,
-    reader: &mut S,
+    reader: &mut Explained<S>,
     writer: &mut W,
 ) -> Ended
     requires range { IsInRange (as_asked asked) }
-    requires unread { S.calls reader.old ≡ 0 }
+    requires unread { S.calls reader.old.source ≡ 0 }
     requires fresh { W.failed writer.old ≡ false }
     ensures done { (text : List ℕ) × Appends (W.contents writer.old) (W.contents writer.new) text
-        × DoesAsAsked asked.entry (S.remaining reader.old) (S.remaining reader.new) result.done text }
+        × DoesAsAsked asked.entry (S.remaining reader.old.source) (S.remaining reader.new.source) result.done text }
     ensures status { IsEndOf result.done (exit_status result.code) }
-    ensures calls { S.calls reader.new ≤ S.calls reader.old + MOST_READS }
+    ensures calls { S.calls reader.new.source ≤ S.calls reader.old.source + MOST_READS }
 {
     match asked {
         Words::Script => do_task(rt, Task::Script, reader, writer),
@@ -114,7 +114,16 @@ fn do_asked<H: Threads + Wait + Sync, S: Source, W: Sink>(
                 let done = Done::BadBank;
                 Ended { done, code }
             }
-            _ => of_site(run_on_disk(rt, reader, me, journal, is_new, resend, record, bank)),
+            _ => of_site(run_on_disk(
+                rt,
+                &mut reader.source,
+                me,
+                journal,
+                is_new,
+                resend,
+                record,
+                bank,
+            )),
         },
         Words::Seal { me, journal } => of_site(seal_on_disk(rt, me, journal)),
         Words::Close {
@@ -137,15 +146,15 @@ pub fn do_words<H: Threads + Wait + Sync, S: Source, W: Sink>(
     rt: &HostRuntime,
     handle: &H,
     words: &[&str],
-    reader: &mut S,
+    reader: &mut Explained<S>,
     writer: &mut W,
 ) -> Result<Ended, clap::Error>
-    requires unread { S.calls reader.old ≡ 0 }
+    requires unread { S.calls reader.old.source ≡ 0 }
     requires fresh { W.failed writer.old ≡ false }
     ensures done { IfOk result (λ ended. (asked : TheWords) × AreReadAs (map (λ word. word.now) words.entry.now) asked
         × IsAsUsual (map (λ word. word.now) words.entry.now) asked
         × (text : List ℕ) × Appends (W.contents writer.old) (W.contents writer.new) text
-        × DoesAsAsked asked (S.remaining reader.old) (S.remaining reader.new) ended.done text) }
+        × DoesAsAsked asked (S.remaining reader.old.source) (S.remaining reader.new.source) ended.done text) }
     ensures status { IfOk result (λ ended. IsEndOf ended.done (exit_status ended.code)) }
     // Words in their usual spelling are refused for want of memory alone.
     ensures unasked { IfErr result
@@ -154,7 +163,7 @@ pub fn do_words<H: Threads + Wait + Sync, S: Source, W: Sink>(
     // in, so help is answered only if they ask for it.
     ensures kinds { FailsByWords (map (λ word. word.now) words.entry.now) result }
     ensures untouched { OnErr result ((reader.new ≡ reader.old) × (writer.new ≡ writer.old)) }
-    ensures calls { S.calls reader.new ≤ S.calls reader.old + MOST_READS }
+    ensures calls { S.calls reader.new.source ≤ S.calls reader.old.source + MOST_READS }
 {
     match read_words(rt.alloc(), words) {
         Ok(asked) => Ok(do_asked(rt, handle, asked, reader, writer)),

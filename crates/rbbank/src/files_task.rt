@@ -18,7 +18,7 @@ use crate::{out_of_memory, print_line, report_fault, report_why};
 use rb_cli::Task;
 use rb_journal::CallLog;
 use rb_lines::{FromBytes, ScriptFault, Sink, status};
-use rb_runs::{JournalFault, journal_message, journal_status};
+use rb_runs::{Explained, JournalFault, journal_message, journal_status};
 use std::alloc::{AllocError, Global};
 use std::io;
 use std::process::ExitCode;
@@ -147,11 +147,10 @@ fn run_over<W: Sink>(
     let (read, error) = files.end();
     match joined {
         Ok(joined) => {
-            let mut reader = FromBytes::new(&joined.bytes);
-            let mut why = None;
-            let ran = run_task(rt.alloc(), task, &mut reader, writer, &mut why);
+            let mut reader = Explained::new(FromBytes::new(&joined.bytes));
+            let ran = run_task(rt.alloc(), task, &mut reader, writer);
             let code = end_of_task(rt, names, &joined, ran);
-            report_why(rt, why);
+            report_why(rt, reader.why.take());
             let ended = Ok(ran);
             RanOverFiles {
                 ids,

@@ -29,6 +29,7 @@ use clap::error::ErrorKind;
 use do_words::{Ended, do_words};
 use patient::Patient;
 use rb_lines::{FromReader, ScriptFault, ToWriter, message, status};
+use rb_runs::Explained;
 use std::alloc::{AllocError, Global};
 use std::process::ExitCode;
 use std::sync::Wait;
@@ -171,7 +172,7 @@ fn run<H: Threads + Wait + Sync>(rt: &HostRuntime, handle: &H) -> ExitCode
     else {
         return out_of_memory(rt);
     };
-    let mut reader = FromReader::new(Patient::new(*rt, rt.reader()));
+    let mut reader = Explained::new(FromReader::new(Patient::new(*rt, rt.reader())));
     let mut writer = ToWriter::new(io::writer(rt));
     match do_words(rt, handle, views.as_slice(), &mut reader, &mut writer) {
         Ok(Ended { done: _, code }) => code,

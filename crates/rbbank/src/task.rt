@@ -7,9 +7,7 @@ ghost use Rattle.rbbank.specs.Tasks.{DoesTask, task_status};
 use crate::FAULT_FOUND;
 use rb_cli::Task;
 use rb_lines::{ScriptFault, Sink, Source};
-use rb_runs::{
-    run_audit_explained, run_histories_explained, run_migrate_explained, run_script_explained,
-};
+use rb_runs::{Explained, run_audit, run_histories, run_migrate, run_script};
 use std::alloc::Global;
 
 /// The outcome of a task.
@@ -38,25 +36,23 @@ pub fn status_of(ran: TaskRan) -> Result<u8, ScriptFault>
     }
 }
 
-/// Does this with the lines of the reader, to the writer. `why` becomes the reason of a line that stops it, if memory
-/// suffices for it.
+/// Does this with the lines of the reader, to the writer.
 pub fn run_task<S: Source, W: Sink>(
     alloc: Global,
     task: Task,
-    reader: &mut S,
+    reader: &mut Explained<S>,
     writer: &mut W,
-    why: &mut Option<String>,
 ) -> TaskRan
-    requires unread { S.calls reader.old ≡ 0 }
+    requires unread { S.calls reader.old.source ≡ 0 }
     requires fresh { W.failed writer.old ≡ false }
     ensures done { (text : List ℕ) × Appends (W.contents writer.old) (W.contents writer.new) text
-        × DoesTask task result (S.remaining reader.old) (S.remaining reader.new) text }
-    ensures calls { S.calls reader.new ≤ S.calls reader.old + MOST_READS }
+        × DoesTask task result (S.remaining reader.old.source) (S.remaining reader.new.source) text }
+    ensures calls { S.calls reader.new.source ≤ S.calls reader.old.source + MOST_READS }
 {
     match task {
-        Task::Script => TaskRan::Script(run_script_explained(alloc, reader, writer, why)),
-        Task::Histories => TaskRan::Histories(run_histories_explained(alloc, reader, writer, why)),
-        Task::Audit => TaskRan::Audit(run_audit_explained(alloc, reader, writer, why)),
-        Task::Migrate => TaskRan::Migrate(run_migrate_explained(alloc, reader, writer, why)),
+        Task::Script => TaskRan::Script(run_script(alloc, reader, writer)),
+        Task::Histories => TaskRan::Histories(run_histories(alloc, reader, writer)),
+        Task::Audit => TaskRan::Audit(run_audit(alloc, reader, writer)),
+        Task::Migrate => TaskRan::Migrate(run_migrate(alloc, reader, writer)),
     }
 }

@@ -7,6 +7,7 @@ ghost use Rattle.rb_runs.specs.Audit.{AuditEndsAs};
 
 use crate::audit::collected::Collected;
 use crate::audit::verdict::answer;
+use crate::explained::Explained;
 use crate::silent::take_lines;
 use rb_lines::{ScriptFault, Sink, Source, write_all};
 use std::alloc::Global;
@@ -18,46 +19,23 @@ use std::alloc::Global;
 /// written, but for `Write`: then a prefix of the line.
 pub fn run_audit<S: Source, W: Sink>(
     alloc: Global,
-    reader: &mut S,
+    reader: &mut Explained<S>,
     writer: &mut W,
 ) -> Result<bool, ScriptFault>
-    requires unread { S.calls reader.old ≡ 0 }
+    requires unread { S.calls reader.old.source ≡ 0 }
     requires fresh { W.failed writer.old ≡ false }
     // The text written is what the audit of all histories of the input finds.
     ensures written { (text : List ℕ) × Appends (W.contents writer.old) (W.contents writer.new) text
-        × IfSome (S.remaining reader.old) (λ input. AuditEndsAs result input (S.remaining reader.new) text) }
-    ensures read { result ≡ Err Read → (S.failed reader.new ≡ true) ⊎ (S.calls reader.new ≡ MOST_READS) }
+        × IfSome (S.remaining reader.old.source)
+        (λ input. AuditEndsAs result input (S.remaining reader.new.source) text) }
+    ensures read { result ≡ Err Read → (S.failed reader.new.source ≡ true) ⊎ (S.calls reader.new.source ≡ MOST_READS) }
     ensures write { (result ≡ Err Write) ↔ (W.failed writer.new ≡ true) }
     // Whatever the reader has, there are no histories to gather.
     ensures gather { result ≢ Err Gather }
     // There are up to `MOST_READS` reads, whatever is answered.
-    ensures calls { S.calls reader.new ≤ S.calls reader.old + MOST_READS }
+    ensures calls { S.calls reader.new.source ≤ S.calls reader.old.source + MOST_READS }
 {
-    let mut why = None;
-    run_audit_explained(alloc, reader, writer, &mut why)
-}
-
-/// Does the same as [`run_audit`], and `why` becomes the reason of a line that stops the run, if memory suffices to
-/// say it.
-pub fn run_audit_explained<S: Source, W: Sink>(
-    alloc: Global,
-    reader: &mut S,
-    writer: &mut W,
-    why: &mut Option<String>,
-) -> Result<bool, ScriptFault>
-    requires unread { S.calls reader.old ≡ 0 }
-    requires fresh { W.failed writer.old ≡ false }
-    // The text written is what the audit of all histories of the input finds.
-    ensures written { (text : List ℕ) × Appends (W.contents writer.old) (W.contents writer.new) text
-        × IfSome (S.remaining reader.old) (λ input. AuditEndsAs result input (S.remaining reader.new) text) }
-    ensures read { result ≡ Err Read → (S.failed reader.new ≡ true) ⊎ (S.calls reader.new ≡ MOST_READS) }
-    ensures write { (result ≡ Err Write) ↔ (W.failed writer.new ≡ true) }
-    // Whatever the reader has, there are no histories to gather.
-    ensures gather { result ≢ Err Gather }
-    // There are up to `MOST_READS` reads, whatever is answered.
-    ensures calls { S.calls reader.new ≤ S.calls reader.old + MOST_READS }
-{
-    let opened: Option<Collected> = take_lines(alloc, reader, writer, why)?;
+    let opened: Option<Collected> = take_lines(alloc, reader, writer)?;
     let Some(collected) = opened else {
         return Err(ScriptFault::NoConfig);
     };

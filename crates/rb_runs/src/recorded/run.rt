@@ -9,6 +9,7 @@ ghost use Rattle.rb_runs.specs.Texts.{text_of};
 ghost use Rattle.rb_runs.specs.Writing.{Writes};
 ghost use Rattle.rb_runs.specs.declared.recorded.unwritten.Unwritten.TheVariants.{Write as NotWritten};
 
+use crate::explained::Explained;
 use crate::recorded::recorder::{Recorder, RecordingWorld};
 use crate::recorded::text::write_text;
 use crate::recorded::unwritten::Unwritten;
@@ -42,46 +43,23 @@ fn write_world<W: Sink>(
 /// written. After `Write` a prefix of the histories' lines was, and after `OutOfMemory` a prefix, or nothing.
 pub fn run_histories<S: Source, W: Sink>(
     alloc: Global,
-    reader: &mut S,
+    reader: &mut Explained<S>,
     writer: &mut W,
 ) -> Result<(), ScriptFault>
-    requires unread { S.calls reader.old ≡ 0 }
+    requires unread { S.calls reader.old.source ≡ 0 }
     requires fresh { W.failed writer.old ≡ false }
     // The text written is the histories of the script's run, and nothing else.
     ensures written { (text : List ℕ) × Appends (W.contents writer.old) (W.contents writer.new) text
-        × IfSome (S.remaining reader.old) (λ input. HistoriesEndAs result input (S.remaining reader.new) text) }
-    ensures read { result ≡ Err Read → (S.failed reader.new ≡ true) ⊎ (S.calls reader.new ≡ MOST_READS) }
+        × IfSome (S.remaining reader.old.source)
+        (λ input. HistoriesEndAs result input (S.remaining reader.new.source) text) }
+    ensures read { result ≡ Err Read → (S.failed reader.new.source ≡ true) ⊎ (S.calls reader.new.source ≡ MOST_READS) }
     ensures write { (result ≡ Err Write) ↔ (W.failed writer.new ≡ true) }
     // Whatever the reader has, the histories are those of one world, which need no gathering.
     ensures gather { result ≢ Err Gather }
     // There are up to `MOST_READS` reads, whatever is answered.
-    ensures calls { S.calls reader.new ≤ S.calls reader.old + MOST_READS }
+    ensures calls { S.calls reader.new.source ≤ S.calls reader.old.source + MOST_READS }
 {
-    let mut why = None;
-    run_histories_explained(alloc, reader, writer, &mut why)
-}
-
-/// Does the same as [`run_histories`], and `why` becomes the reason of a line that stops the run, if memory suffices to
-/// say it.
-pub fn run_histories_explained<S: Source, W: Sink>(
-    alloc: Global,
-    reader: &mut S,
-    writer: &mut W,
-    why: &mut Option<String>,
-) -> Result<(), ScriptFault>
-    requires unread { S.calls reader.old ≡ 0 }
-    requires fresh { W.failed writer.old ≡ false }
-    // The text written is the histories of the script's run, and nothing else.
-    ensures written { (text : List ℕ) × Appends (W.contents writer.old) (W.contents writer.new) text
-        × IfSome (S.remaining reader.old) (λ input. HistoriesEndAs result input (S.remaining reader.new) text) }
-    ensures read { result ≡ Err Read → (S.failed reader.new ≡ true) ⊎ (S.calls reader.new ≡ MOST_READS) }
-    ensures write { (result ≡ Err Write) ↔ (W.failed writer.new ≡ true) }
-    // Whatever the reader has, the histories are those of one world, which need no gathering.
-    ensures gather { result ≢ Err Gather }
-    // There are up to `MOST_READS` reads, whatever is answered.
-    ensures calls { S.calls reader.new ≤ S.calls reader.old + MOST_READS }
-{
-    let opened: Option<Recorder> = take_lines(alloc, reader, writer, why)?;
+    let opened: Option<Recorder> = take_lines(alloc, reader, writer)?;
     let Some(recorder) = opened else {
         return Err(ScriptFault::NoConfig);
     };

@@ -5,6 +5,7 @@ ghost use Rattle.rb_runs.specs.Script.{ScriptEndsAs};
 ghost use Rattle.rb_lines.specs.declared.fault.ScriptFault.TheVariants.{Gather, Read, Write};
 ghost use Rattle.rb_lines.specs.declared.limits.TheConstants.{MOST_READS};
 
+use crate::explained::Explained;
 use crate::lines::Lines;
 use crate::script::session::Session;
 use rb_lines::{ScriptFault, Sink, Source, run_lines};
@@ -17,47 +18,24 @@ use std::alloc::Global;
 /// the fault is reported; if that write fails, the fault is `Write`.
 pub fn run_script<S: Source, W: Sink>(
     alloc: Global,
-    reader: &mut S,
+    reader: &mut Explained<S>,
     writer: &mut W,
 ) -> Result<u64, ScriptFault>
-    requires unread { S.calls reader.old ≡ 0 }
+    requires unread { S.calls reader.old.source ≡ 0 }
     requires fresh { W.failed writer.old ≡ false }
     // The text written is what the script asks for, and nothing else.
     ensures written { (text : List ℕ) × Appends (W.contents writer.old) (W.contents writer.new) text
-        × IfSome (S.remaining reader.old) (λ input. ScriptEndsAs result input (S.remaining reader.new) text) }
-    ensures read { result ≡ Err Read → (S.failed reader.new ≡ true) ⊎ (S.calls reader.new ≡ MOST_READS) }
+        × IfSome (S.remaining reader.old.source)
+        (λ input. ScriptEndsAs result input (S.remaining reader.new.source) text) }
+    ensures read { result ≡ Err Read → (S.failed reader.new.source ≡ true) ⊎ (S.calls reader.new.source ≡ MOST_READS) }
     ensures write { (result ≡ Err Write) ↔ (W.failed writer.new ≡ true) }
     // Whatever the reader has, there are no histories to gather.
     ensures gather { result ≢ Err Gather }
     // There are up to `MOST_READS` reads, whatever is answered.
-    ensures calls { S.calls reader.new ≤ S.calls reader.old + MOST_READS }
-{
-    let mut why = None;
-    run_script_explained(alloc, reader, writer, &mut why)
-}
-
-/// Does the same as [`run_script`], and `why` becomes the reason of a line that stops the run, if memory suffices to
-/// say it.
-pub fn run_script_explained<S: Source, W: Sink>(
-    alloc: Global,
-    reader: &mut S,
-    writer: &mut W,
-    why: &mut Option<String>,
-) -> Result<u64, ScriptFault>
-    requires unread { S.calls reader.old ≡ 0 }
-    requires fresh { W.failed writer.old ≡ false }
-    // The text written is what the script asks for, and nothing else.
-    ensures written { (text : List ℕ) × Appends (W.contents writer.old) (W.contents writer.new) text
-        × IfSome (S.remaining reader.old) (λ input. ScriptEndsAs result input (S.remaining reader.new) text) }
-    ensures read { result ≡ Err Read → (S.failed reader.new ≡ true) ⊎ (S.calls reader.new ≡ MOST_READS) }
-    ensures write { (result ≡ Err Write) ↔ (W.failed writer.new ≡ true) }
-    // Whatever the reader has, there are no histories to gather.
-    ensures gather { result ≢ Err Gather }
-    // There are up to `MOST_READS` reads, whatever is answered.
-    ensures calls { S.calls reader.new ≤ S.calls reader.old + MOST_READS }
+    ensures calls { S.calls reader.new.source ≤ S.calls reader.old.source + MOST_READS }
 {
     let mut lines = Lines::<Session>::new();
-    let answered = run_lines(alloc, reader, writer, &mut lines);
-    *why = lines.close();
+    let answered = run_lines(alloc, &mut reader.source, writer, &mut lines);
+    reader.why = lines.close();
     answered
 }

@@ -13,7 +13,7 @@ returns-in-Ok-clause-fresh g c = (c.in-Ok.ensures.silent
 
 pub returns-in-Ok-clause-input : goal.returns-in-Ok-clause-input
 returns-in-Ok-clause-input g c =
-    all_taken g.T.TakesLines.rest g.T.TakesLines.made c.new-lines.result c.new-lines.ensures (g.S.Source.remaining c.args.reader.now)
+    all_taken g.T.TakesLines.rest g.T.TakesLines.made c.new-lines.result c.new-lines.ensures (g.S.Source.remaining c.args.reader.now.source)
     (g.S.Source.remaining c.run_lines.new.reader) c.in-Ok._answered c.in-Ok.ensures.written.0 c.run_lines.new.responder
     c.into_opened.result c.into_opened.ensures c.in-Ok.ensures.written.2 c.in-Ok.ensures.made
 
@@ -27,8 +27,9 @@ returns-in-Err-clause-fresh g c = (c.in-Err.ensures.silent
 
 pub returns-in-Err-clause-input : goal.returns-in-Err-clause-input
 returns-in-Err-clause-input g c =
-    stopped_at g.T.TakesLines.rest g.T.TakesLines.made c.new-lines.result c.new-lines.ensures (g.S.Source.remaining c.args.reader.now)
-    (g.S.Source.remaining c.run_lines.new.reader) c.in-Err.fault c.in-Err.ensures.written.0 c.in-Err.ensures.written.2
+    stopped_at g.T.TakesLines.rest g.T.TakesLines.made c.new-lines.result c.new-lines.ensures
+    (g.S.Source.remaining c.args.reader.now.source) (g.S.Source.remaining c.run_lines.new.reader)
+    c.in-Err.fault c.in-Err.ensures.written.0 c.in-Err.ensures.written.2
 
 pub returns-in-Err-clause-write : goal.returns-in-Err-clause-write
 returns-in-Err-clause-write g c e =

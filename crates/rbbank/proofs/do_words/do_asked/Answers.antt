@@ -23,7 +23,7 @@ unnamed (Some name) none = absurd (none name refl)
 pub returns-in-Some-clause-done : goal.returns-in-Some-clause-done
 returns-in-Some-clause-done g c =
     let met = c.in-Site in
-    let rest = g.S.Source.remaining c.args.reader.now in (
+    let rest = g.S.Source.remaining c.args.reader.now.source in (
       [],
       appends_nothing _,
       subst (λ asked. DoesAsAsked asked rest rest BadBank []) (sym met.is)
@@ -35,7 +35,7 @@ returns-in-Some-clause-done g c =
 pub returns-in_default-clause-done : goal.returns-in_default-clause-done
 returns-in_default-clause-done g c =
     let met = c.in-Site in
-    let rest = g.S.Source.remaining c.args.reader.now in
+    let rest = g.S.Source.remaining c.args.reader.now.source in
     let left = g.S.Source.remaining c.run_on_disk.new.reader in
     let named : IfSome met.bank (λ name. is_id name.now ≡ true) = elim c.in_default.branch [
       | in_default-via-in-Some+else-not-is_id w ↦ subst (λ bank. IfSome bank (λ name. is_id name.now ≡ true)) (sym w.in-Some.is)
@@ -52,7 +52,7 @@ returns-in_default-clause-done g c =
 pub returns-in-Seal-clause-done : goal.returns-in-Seal-clause-done
 returns-in-Seal-clause-done g c =
     let met = c.in-Seal in
-    let rest = g.S.Source.remaining c.args.reader.now in (
+    let rest = g.S.Source.remaining c.args.reader.now.source in (
       [],
       appends_nothing _,
       subst (λ asked. DoesAsAsked asked rest rest c.of_site-in-Seal.result.done []) (sym met.is)

@@ -3,7 +3,7 @@ use Rattle.rb_runs.proofs.Words.{◌≡◌, ◌∙◌, [], Err, ap, refl, rules,
 use Rattle.std.proofs.lemmas.Result.{err_from_is_err_and}
 use Rattle.rb_runs.proofs.Reported.{input_at, part_reported, reported, stopped_audit}
 use Rattle.rb_runs.proofs.Unanswered.{has_input, no_text, no_write, stopped}
-use Rattle.rb_runs.proofs.audit.run.run_audit_explained.Goals as goal
+use Rattle.rb_runs.proofs.audit.run.run_audit.Goals as goal
 
 pub take_lines-requires-clause-silent : goal.take_lines-requires-clause-silent
 take_lines-requires-clause-silent g c = λ ls. no_text (input_of ls)
@@ -12,8 +12,8 @@ pub returns-in_err-opened-clause-written : goal.returns-in_err-opened-clause-wri
 returns-in_err-opened-clause-written g c =
     let f = c.in_err-opened.field-0.0 in
     let passed : c.from_residual.result ≡ Err f = search rules in
-    let a = g.S.Source.remaining c.args.reader.now in
-    let b = g.S.Source.remaining c.take_lines.new.reader in
+    let a = g.S.Source.remaining c.args.reader.now.source in
+    let b = g.S.Source.remaining c.take_lines.new.reader.source in
     let stops = stopped input_rest a b f (λ e. c.in_err-opened.ensures.write (ap Err e)) c.in_err-opened.ensures.input in
     rw passed ([], c.in_err-opened.ensures.written, stopped_audit a b f stops)
 
@@ -24,8 +24,8 @@ returns-in_err-opened-clause-write g c =
 
 pub returns-clause-written : goal.returns-clause-written
 returns-clause-written g c =
-    let a = g.S.Source.remaining c.args.reader.now in
-    let b = g.S.Source.remaining c.take_lines.new.reader in
+    let a = g.S.Source.remaining c.args.reader.now.source in
+    let b = g.S.Source.remaining c.take_lines.new.reader.source in
     let s = c.in-Some.collected.auditor in
     let has = has_input input_rest a b c.in_ok-opened.opened c.in-Some.collected (input_at s) c.in-Some.is (λ n. refl)
     c.in_ok-opened.ensures.input in
@@ -34,8 +34,8 @@ returns-clause-written g c =
 
 pub returns-in_err-write_all-clause-written : goal.returns-in_err-write_all-clause-written
 returns-in_err-write_all-clause-written g c =
-    let a = g.S.Source.remaining c.args.reader.now in
-    let b = g.S.Source.remaining c.take_lines.new.reader in
+    let a = g.S.Source.remaining c.args.reader.now.source in
+    let b = g.S.Source.remaining c.take_lines.new.reader.source in
     let s = c.in-Some.collected.auditor in
     let has = has_input input_rest a b c.in_ok-opened.opened c.in-Some.collected (input_at s) c.in-Some.is (λ n. refl)
     c.in_ok-opened.ensures.input in
