@@ -1,5 +1,6 @@
 -- How a run from memory to memory ends, and what C finds then.
-use Rattle.std.specs.Prelude.{◌≡◌, ◌≢◌, ℕ, ℤ, pos, List, [], length, min, nat_le, Result, Ok, Err, if◌then◌else◌}
+use Rattle.std.specs.Prelude.{◌≡◌, ◌≢◌, ℕ, ℤ, pos, Bool, true, false, List, [], length, min, nat_le, Option, Some, Result, Ok, Err}
+use Rattle.std.specs.Prelude.{if◌then◌else◌}
 use Rattle.rb_lines.specs.declared.fault.ScriptFault.{ScriptFault}
 use Rattle.rb_lines.specs.declared.fault.ScriptFault.TheVariants.{NoConfig, BadConfig, BadLine, LongLine, Read, Write, OutOfMemory, Gather}
 use Rattle.rb_lines.specs.Messages.{status_of}
@@ -26,6 +27,12 @@ pub record IsEndAtFault (fault : ScriptFault) (e : Ending) : Type 0 where
 abbrev pub IsEndingOf : Result ℕ ScriptFault → Ending → Type 0
 IsEndingOf (Ok count) e = e ≡ record { status = 0; number = count }
 IsEndingOf (Err fault) e = IsEndAtFault fault e
+
+-- an audit has the status 0 if it found an order, and 1 if it found that no world has the histories: that is one line
+abbrev pub IsEndOfVerdict : Result Bool ScriptFault → Ending → Type 0
+IsEndOfVerdict (Ok true) e = e ≡ record { status = 0; number = 1 }
+IsEndOfVerdict (Ok false) e = e ≡ record { status = 1; number = 1 }
+IsEndOfVerdict (Err fault) e = IsEndAtFault fault e
 
 -- ---- from memory to memory
 
@@ -69,3 +76,14 @@ pub record IsHandedOver (text : List ℕ) (e : Ending) (before after : List ℕ)
   pub written_is : written ≡ min (length text) (length before)
   pub number_is : number ≡ (if nat_le (length text) (length before) then e.number else length text)
   pub status_is : status ≡ pos (if nat_le (length text) (length before) then e.status else status_of Write)
+
+-- a script, an audit or a migration of these bytes ended as it may, in memory, and C finds what it wrote and how it ended
+pub record AnswersRun {A : Type 0} (EndsAs : Result A ScriptFault → List ℕ → Option (List ℕ) → List ℕ → Type 0)
+    (EndsIn : Result A ScriptFault → Ending → Type 0) (input before after : List ℕ) (written number : ℕ) (status : ℤ) : Type 0 where
+  pub result : Result A ScriptFault
+  pub text : List ℕ
+  pub ending : Ending
+  pub ran : EndsAs result input (Some []) text
+  pub in_memory : IsInMemory result
+  pub ended : EndsIn result ending
+  pub handed : IsHandedOver text ending before after written number status

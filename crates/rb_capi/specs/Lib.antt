@@ -1,11 +1,8 @@
-pub mod Audit
 pub mod Banks
 pub mod Close
 pub mod Copies
 pub mod Endings
 pub mod JournalSites
-pub mod Migrate
-pub mod Script
 pub mod Sends
 pub mod Sites
 pub mod Slots

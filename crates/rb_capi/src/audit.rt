@@ -1,5 +1,6 @@
 //! An audit, from bytes to bytes.
-ghost use Rattle.rb_capi.specs.Audit.{AnswersAudit, IsEndOfVerdict};
+ghost use Rattle.rb_capi.specs.Endings.{AnswersRun, IsEndOfVerdict};
+ghost use Rattle.rb_runs.specs.Audit.{AuditEndsAs};
 
 use crate::ending::{Ending, end_at_fault, hand_over, in_memory};
 use rb_lines::{FromBytes, ScriptFault, ToBytes};
@@ -35,7 +36,7 @@ pub extern "C" fn rbbank_audit(
     written: &mut usize,
     number: &mut u64,
 ) -> i32
-    ensures { AnswersAudit input.now out.old out.new written.new number.new result }
+    ensures { AnswersRun AuditEndsAs IsEndOfVerdict input.now out.old out.new written.new number.new result }
 {
     let mut reader = Explained::new(FromBytes::new(input));
     let mut writer = ToBytes::new(alloc);

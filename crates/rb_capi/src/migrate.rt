@@ -1,5 +1,6 @@
 //! A migration, from bytes to bytes.
-ghost use Rattle.rb_capi.specs.Migrate.{AnswersMigration};
+ghost use Rattle.rb_capi.specs.Endings.{AnswersRun, IsEndingOf};
+ghost use Rattle.rb_runs.specs.Migration.{MigrationEndsAs};
 
 use crate::ending::{ending_of, hand_over, in_memory};
 use rb_lines::{FromBytes, ToBytes};
@@ -17,7 +18,7 @@ pub extern "C" fn rbbank_migrate(
     written: &mut usize,
     number: &mut u64,
 ) -> i32
-    ensures { AnswersMigration input.now out.old out.new written.new number.new result }
+    ensures { AnswersRun MigrationEndsAs IsEndingOf input.now out.old out.new written.new number.new result }
 {
     let mut reader = Explained::new(FromBytes::new(input));
     let mut writer = ToBytes::new(alloc);

@@ -1,5 +1,6 @@
 //! A script, from bytes to bytes.
-ghost use Rattle.rb_capi.specs.Script.{AnswersScript};
+ghost use Rattle.rb_capi.specs.Endings.{AnswersRun, IsEndingOf};
+ghost use Rattle.rb_runs.specs.Script.{ScriptEndsAs};
 
 use crate::ending::{ending_of, hand_over, in_memory};
 use rb_lines::{FromBytes, ToBytes};
@@ -20,7 +21,7 @@ pub extern "C" fn rbbank_script(
     written: &mut usize,
     number: &mut u64,
 ) -> i32
-    ensures { AnswersScript input.now out.old out.new written.new number.new result }
+    ensures { AnswersRun ScriptEndsAs IsEndingOf input.now out.old out.new written.new number.new result }
 {
     let mut reader = Explained::new(FromBytes::new(input));
     let mut writer = ToBytes::new(alloc);

@@ -66,14 +66,18 @@ module _ (name : Text) where
   unfolding clap_on_literals
   one_ends file = record { defaults = refl; checks = refl; are = refl }
 
-  -- a file is taken behind the command's name, and read as itself
-  pub file_taken : (files : List Text) → AreValues files → 1 ≤ length files → length files ≤ 1 → TakesFiles (leaf (files_line name 1)) files
-  file_taken [] values some few = absurd (omega (arith, some))
-  file_taken (file ∷ []) values some few =
+  none_taken : TakesFiles one []
+  unfolding clap_on_literals
+  none_taken = record { fault = refl; are = refl }
+
+  -- no file is taken, or one behind the command's name, which is read as itself
+  pub file_taken : (files : List Text) → AreValues files → length files ≤ 1 → TakesFiles (leaf (files_line name 1)) files
+  file_taken [] values few = none_taken
+  file_taken (file ∷ []) values few =
       let end = one_ends file in
       let takes = takes_walked one _ _ (one_leaves file (is_plain file values.0)) end.defaults end.checks in
       record { fault = takes.0; are = ap (texts_at (codes "files")) takes.1 ∙ end.are }
-  file_taken (file ∷ more ∷ files) values some few = absurd (omega (arith, few))
+  file_taken (file ∷ more ∷ files) values few = absurd (omega (arith, few))
 
 -- ---- a command that takes any number of files
 
@@ -162,11 +166,14 @@ module _ (name : Text) where
   unfolding clap_on_literals
   all_ends file files = record { defaults = refl; checks = refl; are = refl }
 
+  no_more_taken : TakesFiles all []
+  unfolding clap_on_literals
+  no_more_taken = record { fault = refl; are = refl }
+
   -- files are taken behind the command's name, and read as themselves
-  pub files_taken : (files : List Text) → AreValues files → 1 ≤ length files → length files ≤ usize_max
-      → TakesFiles (leaf (files_line name usize_max)) files
-  files_taken [] values some few = absurd (omega (arith, some))
-  files_taken (file ∷ files) values some few =
+  pub files_taken : (files : List Text) → AreValues files → length files ≤ usize_max → TakesFiles (leaf (files_line name usize_max)) files
+  files_taken [] values few = no_more_taken
+  files_taken (file ∷ files) values few =
       let end = all_ends file files in
       let takes = takes_walked all _ _ (all_leaves file files values few) end.defaults end.checks in
       record { fault = takes.0; are = ap (texts_at (codes "files")) takes.1 ∙ end.are }

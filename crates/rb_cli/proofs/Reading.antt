@@ -5,7 +5,7 @@ use Rattle.std.specs.Prelude.{IfSome, find, fold, option_map, unwrap_or}
 use Rattle.std.specs.Option.{option_map_or}
 use Rattle.std.specs.Str.{bytes_eq}
 use Rattle.std.proofs.lemmas.Slice.Eq.{bytes_eq-Decides}
-use Rattle.clap.specs.Lexer.{long_of, short_of, without_minus}
+use Rattle.clap.specs.Lexer.{long_of, short_of, usize_max, without_minus}
 use Rattle.clap.specs.Kinds.{or_else}
 use Rattle.clap.specs.Faults.{check_fault, entered_fault, fault_of, level_fault, other_fault, step_fault, walk_fault, word_fault}
 use Rattle.clap.specs.Simple.{App, Shape, built, entered, label_of, names_of, built_leaf, filled, inherited}
@@ -21,14 +21,12 @@ use Rattle.clap.specs.declared.error.kind.ErrorKind.TheVariants.{DisplayHelp, In
 use Rattle.clap.proofs.OnLiterals.{clap_on_literals}
 use Rattle.rb_money.specs.declared.limits.TheConstants.{MOST_HISTORY, MOST_SITES}
 use Rattle.rb_cli.specs.declared.recorded.Record.{Record}
-use Rattle.rb_cli.specs.declared.task.Task.{Task}
-use Rattle.rb_cli.specs.declared.task.Task.TheVariants.{Script, Histories, Audit, Migrate}
 use Rattle.rb_cli.specs.declared.words.TheConstants.{MOST_TELLERS}
 use Rattle.rb_cli.specs.Words.{AreFit, Asked, IsInRange, IsNumberWithin, IsSwitchWord, TextRefs, command_line, option_rule, plain_line}
 use Rattle.rb_cli.specs.Words.{choice_at, close_asked, close_line, number_at, seal, site_line, switch_at}
 use Rattle.rb_cli.specs.Words.{switch_rule, values_rule, with_site_options}
-use Rattle.rb_cli.specs.Words.{threads_line, within, numeral_value, words_of_matches, task_asked, task_line, texts_at, threads}
-use Rattle.rb_cli.specs.Words.{site}
+use Rattle.rb_cli.specs.Words.{threads_line, within, numeral_value, words_of_matches, files_line, texts_at, threads}
+use Rattle.rb_cli.specs.Words.{audit, histories, migrate, script, site}
 use Rattle.rb_cli.proofs.Options.{HasText, at_option, fits, given_text, none_missing, leaf_passes, number_of_text}
 use Rattle.rb_cli.proofs.Passing.{Each, HasOptions, Passes, found_in, never, none_of}
 
@@ -378,37 +376,30 @@ abbrev AsksBy : Text → Shape → Type 0
 AsksBy name s = (words : List Text) → level_fault s [] nothing_held words false [] ≡ [] → answers_to name (label_of s) ≡ true
     → Asks (Some (rows_at s words))
 
--- a task is within its limits, with files or without
-task_in_range : (task : Task) (files : List Text) → IsInRange (task_asked task files)
-task_in_range Script [] = tt
-task_in_range Histories [] = tt
-task_in_range Audit [] = tt
-task_in_range Migrate [] = tt
-task_in_range task (file ∷ files) = omega arith
-
-task_asks : (name : Text) (task : Task)
-    → ((its_rows : List Row) → words_of_matches (Some ((leaf (task_line task)).name, its_rows))
-    ≡ Some (task_asked task (texts_at (codes "files") its_rows)))
-    → bytes_eq (leaf (task_line task)).name (codes "threads") ≡ false
-    → bytes_eq (leaf (task_line task)).name (codes "site") ≡ false
-    → bytes_eq (leaf (task_line task)).name (codes "close") ≡ false → AsksBy name (leaf (task_line task))
-task_asks name task is no_threads no_site no_close words none named =
-    let its_rows = (rows_at (leaf (task_line task)) words).1 in record {
-      asked = task_asked task (texts_at (codes "files") its_rows);
-      is = is its_rows;
-      in_range = task_in_range task (texts_at (codes "files") its_rows);
+lines_ask : (name its_name : Text) (most : ℕ) (task : List Text → Asked)
+    → ((its_rows : List Row) → (words_of_matches (Some ((leaf (files_line its_name most)).name, its_rows))
+    ≡ Some (task (texts_at (codes "files") its_rows)))
+    × IsInRange (task (texts_at (codes "files") its_rows)))
+    → bytes_eq (leaf (files_line its_name most)).name (codes "threads") ≡ false
+    → bytes_eq (leaf (files_line its_name most)).name (codes "site") ≡ false
+    → bytes_eq (leaf (files_line its_name most)).name (codes "close") ≡ false → AsksBy name (leaf (files_line its_name most))
+lines_ask name its_name most task is no_threads no_site no_close words none named =
+    let its_rows = (rows_at (leaf (files_line its_name most)) words).1 in record {
+      asked = task (texts_at (codes "files") its_rows);
+      is = (is its_rows).0;
+      in_range = (is its_rows).1;
       fit = no_options _ _ no_threads no_site no_close;
     }
 
 each_asks : (names : TextRefs) (name : Text) → IsOther name → Each (AsksBy name) (built (command_line names)).subs
 each_asks names name other = (
-  task_asks name Script (λ its_rows. refl) refl refl refl,
+  lines_ask name (codes "script") 1 script (λ its_rows. (refl, tt)) refl refl refl,
   (
-    task_asks name Histories (λ its_rows. refl) refl refl refl,
+    lines_ask name (codes "histories") 1 histories (λ its_rows. (refl, tt)) refl refl refl,
     (
-      task_asks name Audit (λ its_rows. refl) refl refl refl,
+      lines_ask name (codes "audit") usize_max audit (λ its_rows. (refl, tt)) refl refl refl,
       (
-        task_asks name Migrate (λ its_rows. refl) refl refl refl,
+        lines_ask name (codes "migrate") 1 migrate (λ its_rows. (refl, tt)) refl refl refl,
         (
           (λ words none named.
               let done = leaf_passes (leaf threads_line) threads_options words none in

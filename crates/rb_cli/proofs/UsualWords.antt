@@ -28,14 +28,12 @@ use Rattle.rb_cli.specs.Words.{IsBankGiven, IsNewGiven, IsRecordGiven, IsValue, 
 use Rattle.rb_cli.specs.Words.{close, close_line, command_line, numeral_value}
 use Rattle.rb_cli.specs.Words.{conflict_of, kinds_of, option_rule, record_of, record_rule, record_word, seal}
 use Rattle.rb_cli.specs.Words.{seals_bank, sites_words, text_if_any, texts_of}
-use Rattle.rb_cli.specs.Words.{AskForFiles, most_files, over, task_asked, task_line, task_name, texts_at}
+use Rattle.rb_cli.specs.Words.{AskForLines, files_line, texts_at}
 use Rattle.rb_cli.specs.Words.{script, audit, histories, migrate, site, site_line, switch_rule, threads, threads_line, words_of_matches}
 use Rattle.rb_cli.specs.declared.recorded.Record.{Record}
 use Rattle.rb_cli.specs.declared.recorded.Record.TheVariants.{Changes, All}
 use Rattle.rb_cli.specs.declared.words.Words.{Words}
-use Rattle.rb_cli.specs.declared.words.Words.TheVariants.{Script, Histories, Audit, Migrate, Files, Threads, Site, Seal, Close}
-use Rattle.rb_cli.specs.declared.task.Task.{Task}
-use Rattle.rb_cli.specs.declared.task.Task.TheVariants as task
+use Rattle.rb_cli.specs.declared.words.Words.TheVariants.{Script, Histories, Audit, Migrate, Threads, Site, Seal, Close}
 use Rattle.rb_cli.proofs.GivenOptions.{AreGiven, Given, IsNamed, IsPlain, IsSwitch, both_none, rows_with, spelled, switch, takes_given}
 use Rattle.rb_cli.proofs.GivenOptions.{valued}
 use Rattle.rb_cli.proofs.Closing.{closing_taken}
@@ -853,71 +851,50 @@ module _ (names : TextRefs) (are_words : AreRecordWords names) where
       subst (λ ws. TakesAs ws (close sites names files)) (sym ask.words_are)
       (takes_met _ _ _ (its_words.fault takes.fault) its_words.met refl takes.is)
 
-  script_taken : TakesAs (codes "script" ∷ []) script
+  -- a task's command stands behind the others' and seals nothing, and asks for the task with the files that it takes
+  usual_lines : (name : Text) (most : ℕ) (task : List Text → Asked)
+      → ((words : List Text) → AreBehind name (leaf (files_line name most)) words)
+      → ((files : List Text) → AreValues files → length files ≤ most → TakesFiles (leaf (files_line name most)) files)
+      → ((rows : List Row) → (seals_bank (Some (name, rows)) ≡ false)
+      × (words_of_matches (Some (name, rows)) ≡ Some (task (texts_at (codes "files") rows))))
+      → (words files : List Text) → AskForLines words name most files → TakesAs words (task files)
+  usual_lines name most task its_words takes asks words files ask =
+      let its_files = takes files ask.are_files ask.few_files in
+      let its = asks (rows_after (leaf (files_line name most)).rules [] files) in
+      subst (λ ws. TakesAs ws (task files)) (sym ask.words_are)
+      (takes_met _ _ _ ((its_words files).fault its_files.fault) (its_words files).met its.0
+      (its.1 ∙ ap (λ fs. Some (task fs)) its_files.are))
+
+  usual_script : (words files : List Text) → AskForLines words (codes "script") 1 files → TakesAs words (script files)
   unfolding clap_on_literals
-  script_taken = (refl, refl)
+  usual_script = usual_lines (codes "script") 1 script
+      (λ words. behind _ _ words refl refl (λ none. ap (λ k. or_else k []) none) refl)
+      (file_taken (codes "script")) (λ rows. (refl, refl))
 
-  histories_taken : TakesAs (codes "histories" ∷ []) histories
+  usual_histories : (words files : List Text) → AskForLines words (codes "histories") 1 files → TakesAs words (histories files)
   unfolding clap_on_literals
-  histories_taken = (refl, refl)
+  usual_histories = usual_lines (codes "histories") 1 histories
+      (λ words. behind _ _ words refl refl (λ none. ap (λ k. or_else k []) none) refl)
+      (file_taken (codes "histories")) (λ rows. (refl, refl))
 
-  audit_taken : TakesAs (codes "audit" ∷ []) audit
+  usual_audit : (words files : List Text) → AskForLines words (codes "audit") usize_max files → TakesAs words (audit files)
   unfolding clap_on_literals
-  audit_taken = (refl, refl)
+  usual_audit = usual_lines (codes "audit") usize_max audit
+      (λ words. behind _ _ words refl refl (λ none. ap (λ k. or_else k []) none) refl)
+      (files_taken (codes "audit")) (λ rows. (refl, refl))
 
-  migrate_taken : TakesAs (codes "migrate" ∷ []) migrate
+  usual_migrate : (words files : List Text) → AskForLines words (codes "migrate") 1 files → TakesAs words (migrate files)
   unfolding clap_on_literals
-  migrate_taken = (refl, refl)
-
-  behind_task : (t : Task) (words : List Text) → AreBehind (task_name t) (leaf (task_line t)) words
-  unfolding clap_on_literals
-  behind_task task.Script words = behind (codes "script") (leaf (task_line task.Script)) words refl refl
-      (λ none. ap (λ k. or_else k []) none) refl
-  behind_task task.Histories words =
-      behind (codes "histories") (leaf (task_line task.Histories)) words refl refl (λ none. ap (λ k. or_else k []) none) refl
-  behind_task task.Audit words = behind (codes "audit") (leaf (task_line task.Audit)) words refl refl
-      (λ none. ap (λ k. or_else k []) none) refl
-  behind_task task.Migrate words =
-      behind (codes "migrate") (leaf (task_line task.Migrate)) words refl refl (λ none. ap (λ k. or_else k []) none) refl
-
-  task_takes : (t : Task) (files : List Text) → AreValues files → 1 ≤ length files → length files ≤ most_files t
-      → TakesFiles (leaf (task_line t)) files
-  task_takes task.Script files = file_taken (codes "script") files
-  task_takes task.Histories files = file_taken (codes "histories") files
-  task_takes task.Audit files = files_taken (codes "audit") files
-  task_takes task.Migrate files = file_taken (codes "migrate") files
-
-  -- a task's command seals nothing, and asks for the task
-  record IsTask (t : Task) (rows : List Row) : Type 0 where
-    unsealed : seals_bank (Some (task_name t, rows)) ≡ false
-    is : words_of_matches (Some (task_name t, rows)) ≡ Some (task_asked t (texts_at (codes "files") rows))
-
-  is_task : (t : Task) (rows : List Row) → IsTask t rows
-  is_task task.Script rows = record { unsealed = refl; is = refl }
-  is_task task.Histories rows = record { unsealed = refl; is = refl }
-  is_task task.Audit rows = record { unsealed = refl; is = refl }
-  is_task task.Migrate rows = record { unsealed = refl; is = refl }
-
-  over_some : (t : Task) (files : List Text) → 1 ≤ length files → task_asked t files ≡ over t files
-  over_some t [] some = absurd (omega (arith, some))
-  over_some t (file ∷ files) some = refl
-
-  usual_files : (words : List Text) (t : Task) (files : List Text) → AskForFiles words t files → TakesAs words (over t files)
-  usual_files words t files ask =
-      let takes = task_takes t files ask.are_files ask.some_files ask.few_files in
-      let its_words = behind_task t files in
-      let its = is_task t (rows_after (leaf (task_line t)).rules [] files) in
-      subst (λ ws. TakesAs ws (over t files)) (sym ask.words_are)
-      (takes_met _ _ _ (its_words.fault takes.fault) its_words.met its.unsealed
-      (its.is ∙ ap (λ fs. Some (task_asked t fs)) takes.are ∙ ap Some (over_some t files ask.some_files)))
+  usual_migrate = usual_lines (codes "migrate") 1 migrate
+      (λ words. behind _ _ words refl refl (λ none. ap (λ k. or_else k []) none) refl)
+      (file_taken (codes "migrate")) (λ rows. (refl, refl))
 
   -- words that ask for something are taken, and read as that
   pub usual_words : (words : List Text) (asked : Words) → length words ≤ usize_max → Ask words asked → TakesAs words (as_asked asked)
-  usual_words words Script few ask = subst (λ ws. TakesAs ws script) (sym ask) script_taken
-  usual_words words Histories few ask = subst (λ ws. TakesAs ws histories) (sym ask) histories_taken
-  usual_words words Audit few ask = subst (λ ws. TakesAs ws audit) (sym ask) audit_taken
-  usual_words words Migrate few ask = subst (λ ws. TakesAs ws migrate) (sym ask) migrate_taken
-  usual_words words (Files t files) few ask = usual_files words t (texts_of files.items) ask
+  usual_words words (Script files) few ask = usual_script words (texts_of files.items) ask
+  usual_words words (Histories files) few ask = usual_histories words (texts_of files.items) ask
+  usual_words words (Audit files) few ask = usual_audit words (texts_of files.items) ask
+  usual_words words (Migrate files) few ask = usual_migrate words (texts_of files.items) ask
   usual_words words (Threads k m n) few ask = usual_threads words k m n ask
   usual_words words (Site me journal is_new resend recorded bank) few ask =
       usual_site words me journal.now is_new resend recorded (text_if_any bank) ask

@@ -19,12 +19,9 @@ use Rattle.clap.specs.declared.builder.value_parser.ValueParser.TheVariants.{Nam
 use Rattle.rb_money.specs.declared.limits.TheConstants.{MOST_HISTORY, MOST_SITES}
 use Rattle.rb_cli.specs.declared.recorded.Record.{Record}
 use Rattle.rb_cli.specs.declared.recorded.Record.TheVariants.{Changes, All}
-use Rattle.rb_cli.specs.declared.task.Task.{Task}
-use Rattle.rb_cli.specs.declared.task.Task.TheVariants.{Script as ScriptTask, Histories as HistoriesTask, Audit as AuditTask}
-use Rattle.rb_cli.specs.declared.task.Task.TheVariants.{Migrate as MigrateTask}
 use Rattle.rb_cli.specs.declared.words.TheConstants.{MOST_TELLERS}
 use Rattle.rb_cli.specs.declared.words.Words.{Words}
-use Rattle.rb_cli.specs.declared.words.Words.TheVariants.{Script, Histories, Audit, Migrate, Files, Threads, Site, Seal, Close}
+use Rattle.rb_cli.specs.declared.words.Words.TheVariants.{Script, Histories, Audit, Migrate, Threads, Site, Seal, Close}
 
 -- ---- words in their usual spelling: each option's name, and its value behind it, in a word of its own
 
@@ -41,23 +38,10 @@ abbrev pub AreValues : List (List ℕ) → Type 0
 AreValues [] = Unit {0}
 AreValues (text ∷ texts) = IsValue text × AreValues texts
 
--- the command for a task
-abbrev pub task_name : Task → List ℕ
-task_name ScriptTask = codes "script"
-task_name HistoriesTask = codes "histories"
-task_name AuditTask = codes "audit"
-task_name MigrateTask = codes "migrate"
-
--- how many files a task may be given: an audit any number, each other task one
-abbrev pub most_files : Task → ℕ
-most_files AuditTask = usize_max
-most_files _ = 1
-
--- the words ask for a task with the lines of files: they are its command and the files
-pub record AskForFiles (words : List (List ℕ)) (task : Task) (files : List (List ℕ)) : Type 0 where
-  pub words_are : words ≡ task_name task ∷ files
-  pub some_files : 1 ≤ length files
-  pub few_files : length files ≤ most_files task
+-- the words ask for a task with lines: they are its command and its files, of which there may be none, and this many
+pub record AskForLines (words : List (List ℕ)) (name : List ℕ) (most : ℕ) (files : List (List ℕ)) : Type 0 where
+  pub words_are : words ≡ name ∷ files
+  pub few_files : length files ≤ most
   pub are_files : AreValues files
 
 -- the words ask for a run of threads: they are its name and three options, in any order, with numbers in their ranges
@@ -160,11 +144,10 @@ texts_of = map (λ text. text.now)
 
 -- what the words after the program's name ask for
 abbrev pub Ask : List (List ℕ) → Words → Type 0
-Ask words Script = words ≡ codes "script" ∷ []
-Ask words Histories = words ≡ codes "histories" ∷ []
-Ask words Audit = words ≡ codes "audit" ∷ []
-Ask words Migrate = words ≡ codes "migrate" ∷ []
-Ask words (Files task files) = AskForFiles words task (texts_of files.items)
+Ask words (Script files) = AskForLines words (codes "script") 1 (texts_of files.items)
+Ask words (Histories files) = AskForLines words (codes "histories") 1 (texts_of files.items)
+Ask words (Audit files) = AskForLines words (codes "audit") usize_max (texts_of files.items)
+Ask words (Migrate files) = AskForLines words (codes "migrate") 1 (texts_of files.items)
 Ask words (Threads sites tellers seed) = AskForThreads words sites tellers seed
 Ask words (Site me journal is_new resend recorded bank) =
     AskForSite words me journal.now is_new resend recorded (text_if_any bank)
@@ -212,9 +195,6 @@ within least most = Some (Signed (pos least) (pos most))
 abbrev pub files_line : List ℕ → ℕ → App
 files_line name most = with_rule (new_app name) (files_rule most)
 
-abbrev pub task_line : Task → App
-task_line task = files_line (task_name task) (most_files task)
-
 -- a run of threads, with its options
 abbrev pub threads_line : App
 threads_line =
@@ -260,8 +240,9 @@ abbrev pub plain_line : App
 plain_line =
     with_subcommand
     (with_subcommand
-    (with_subcommand (with_subcommand (record { top = top_line; subs = [] }) (task_line ScriptTask).top) (task_line HistoriesTask).top)
-    (task_line AuditTask).top) (task_line MigrateTask).top
+    (with_subcommand (with_subcommand (record { top = top_line; subs = [] }) (files_line (codes "script") 1).top)
+    (files_line (codes "histories") 1).top)
+    (files_line (codes "audit") usize_max).top) (files_line (codes "migrate") 1).top
 
 -- the command line: a subcommand for each thing
 abbrev pub command_line : TextRefs → App
@@ -283,22 +264,20 @@ IsCommandLine app = (names : TextRefs) × AreRecordWords names × (app ≡ comma
 
 -- what is asked for, with the names as texts
 pub data Asked : Type 0 where
-  script : Asked
-  histories : Asked
-  audit : Asked
-  migrate : Asked
-  over : Task → List Text → Asked
+  script : List Text → Asked
+  histories : List Text → Asked
+  audit : List Text → Asked
+  migrate : List Text → Asked
   threads : ℕ → ℕ → ℕ → Asked
   site : ℕ → Text → Bool → Option ℕ → Record → Option Text → Asked
   seal : ℕ → Text → Asked
   close : Option ℕ → List Text → List Text → Asked
 
 abbrev pub as_asked : Words → Asked
-as_asked Script = script
-as_asked Histories = histories
-as_asked Audit = audit
-as_asked Migrate = migrate
-as_asked (Files task files) = over task (texts_of files.items)
+as_asked (Script files) = script (texts_of files.items)
+as_asked (Histories files) = histories (texts_of files.items)
+as_asked (Audit files) = audit (texts_of files.items)
+as_asked (Migrate files) = migrate (texts_of files.items)
 as_asked (Threads sites tellers seed) = threads sites tellers seed
 as_asked (Site me journal is_new resend recorded bank) = site me journal.now is_new resend recorded (text_if_any bank)
 as_asked (Seal me journal) = seal me journal.now
@@ -327,17 +306,6 @@ choice_at rows = option_map_or record_of (first_of (codes "record") rows) Change
 -- all values of an option that may be given again, or of those behind the options
 abbrev pub texts_at : Text → List Row → List Text
 texts_at name rows = unwrap_or (all_of name rows) []
-
--- what a task asks for without files, and with those that are given
-abbrev pub of_input : Task → Asked
-of_input ScriptTask = script
-of_input HistoriesTask = histories
-of_input AuditTask = audit
-of_input MigrateTask = migrate
-
-abbrev pub task_asked : Task → List Text → Asked
-task_asked task [] = of_input task
-task_asked task (file ∷ files) = over task (file ∷ files)
 
 -- a run of threads has all three of its options
 abbrev pub with_run : Option ℕ → Option ℕ → Option ℕ → Option Asked
@@ -368,10 +336,10 @@ close_asked rows = close (number_at (codes "sites") rows) (texts_at (codes "acco
 abbrev pub words_of_command : Text → List Row → Option Asked
 words_of_command name rows =
     let files = texts_at (codes "files") rows in
-    if bytes_eq name (codes "script") then Some (task_asked ScriptTask files)
-    else if bytes_eq name (codes "histories") then Some (task_asked HistoriesTask files)
-    else if bytes_eq name (codes "audit") then Some (task_asked AuditTask files)
-    else if bytes_eq name (codes "migrate") then Some (task_asked MigrateTask files)
+    if bytes_eq name (codes "script") then Some (script files)
+    else if bytes_eq name (codes "histories") then Some (histories files)
+    else if bytes_eq name (codes "audit") then Some (audit files)
+    else if bytes_eq name (codes "migrate") then Some (migrate files)
     else if bytes_eq name (codes "threads") then threads_asked rows else if bytes_eq name (codes "site") then site_asked rows
     else if bytes_eq name (codes "close") then Some (close_asked rows) else None
 
@@ -422,7 +390,6 @@ abbrev pub IsInRange : Asked → Type 0
 IsInRange (threads sites tellers seed) =
     (2 ≤ sites) × (sites ≤ MOST_SITES) × (1 ≤ tellers) × (tellers ≤ MOST_TELLERS) × (seed < 2 ^ 32)
 IsInRange (site me journal is_new resend recorded bank) = (me < MOST_SITES) × IfSome resend (λ n. n ≤ MOST_HISTORY)
-IsInRange (over task files) = 1 ≤ length files
 IsInRange (seal me journal) = me < MOST_SITES
 IsInRange (close sites accounts journals) = IfSome sites (λ n. (2 ≤ n) × (n ≤ MOST_SITES)) × (1 ≤ length journals)
 IsInRange _ = Unit {0}

@@ -2,38 +2,30 @@
 ghost use Rattle.std.specs.Prelude.{◌≡◌, ◌≤◌, ◌++◌, [], ◌∷◌, false, true, IfOk, MatchResult, OnOk, codes};
 ghost use Rattle.clap.specs.Words.{app_of, new_app, rule_of, with_rule, with_subcommand};
 ghost use Rattle.clap.specs.declared.builder.command.Command.TheViews.{out-Command};
-ghost use Rattle.rb_cli.specs.Words.{IsCommandLine, IsSiteLine, close_line, files_line, task_line};
+ghost use Rattle.rb_cli.specs.Words.{IsCommandLine, IsSiteLine, close_line, files_line};
 ghost use Rattle.rb_cli.specs.Words.{threads_line, top_line};
-ghost use Rattle.rb_cli.specs.declared.task.Task.TheVariants.{Audit, Histories, Migrate, Script};
 
+use crate::texts::Texts;
 use crate::{arguments, texts};
 use clap::{Arg, Command};
 use std::alloc::{AllocError, Global};
 
-/// A command of the program: its name, how it is used, what it does in a line, and what its help ends with.
-fn part<'a>(
-    alloc: Global,
-    name: &'a str,
-    usage: &'a str,
-    about: &'a str,
-    help: &'a str,
-) -> Command<'a>
+/// A command of the program, with its texts.
+fn part<'a>(alloc: Global, name: &'a str, texts: Texts) -> Command<'a>
     ensures shape { app_of result ≡ new_app name.entry.now }
     ensures local { (out-Command result).has_globals ≡ false }
 {
     Command::new(alloc, name)
-        .override_usage(usage)
-        .about(about)
-        .after_help(help)
+        .override_usage(texts.usage)
+        .about(texts.about)
+        .after_help(texts.help)
 }
 
 /// A command over the lines of standard input, or of up to this many files.
-fn over_lines<'a>(
+fn task<'a>(
     alloc: Global,
     name: &'a str,
-    usage: &'a str,
-    about: &'a str,
-    help: &'a str,
+    texts: Texts,
     most: usize,
 ) -> Result<Command<'a>, AllocError>
     requires some { 1 ≤ most }
@@ -41,7 +33,7 @@ fn over_lines<'a>(
     ensures local { IfOk result (λ command. (out-Command command).has_globals ≡ false) }
 {
     let options = vec![in alloc; arguments::files(alloc, most)]?;
-    part(alloc, name, usage, about, help).args(options)
+    part(alloc, name, texts).args(options)
 }
 
 /// The command for a run of threads, with its options.
@@ -54,14 +46,7 @@ fn threads<'a>(alloc: Global) -> Result<Command<'a>, AllocError>
         arguments::tellers(alloc),
         arguments::seed(alloc),
     ]?;
-    part(
-        alloc,
-        "threads",
-        texts::THREADS_USAGE,
-        texts::THREADS,
-        texts::THREADS_HELP,
-    )
-    .args(options)
+    part(alloc, "threads", texts::THREADS).args(options)
 }
 
 /// The command for one site, with its options.
@@ -78,14 +63,7 @@ pub fn site<'a>(alloc: Global) -> Result<Command<'a>, AllocError>
         arguments::bank(alloc),
         arguments::sealed(alloc),
     ]?;
-    part(
-        alloc,
-        "site",
-        texts::SITE_USAGE,
-        texts::SITE,
-        texts::SITE_HELP,
-    )
-    .args(options)
+    part(alloc, "site", texts::SITE).args(options)
 }
 
 /// The command that closes the books, with its options and the files after them.
@@ -98,14 +76,7 @@ fn close<'a>(alloc: Global) -> Result<Command<'a>, AllocError>
         arguments::account(alloc),
         arguments::journals(alloc),
     ]?;
-    part(
-        alloc,
-        "close",
-        texts::CLOSE_USAGE,
-        texts::CLOSE,
-        texts::CLOSE_HELP,
-    )
-    .args(options)
+    part(alloc, "close", texts::CLOSE).args(options)
 }
 
 /// The command line before its commands.
@@ -118,66 +89,6 @@ fn top<'a>(alloc: Global) -> Command<'a>
         .version(texts::VERSION)
         .no_binary_name(true)
         .subcommand_required(true)
-}
-
-/// The command `script`.
-fn script<'a>(alloc: Global) -> Result<Command<'a>, AllocError>
-    ensures shape { IfOk result (λ command. app_of command ≡ task_line Script) }
-    ensures local { IfOk result (λ command. (out-Command command).has_globals ≡ false) }
-{
-    over_lines(
-        alloc,
-        "script",
-        texts::SCRIPT_USAGE,
-        texts::SCRIPT,
-        texts::SCRIPT_HELP,
-        1,
-    )
-}
-
-/// The command `histories`.
-fn histories<'a>(alloc: Global) -> Result<Command<'a>, AllocError>
-    ensures shape { IfOk result (λ command. app_of command ≡ task_line Histories) }
-    ensures local { IfOk result (λ command. (out-Command command).has_globals ≡ false) }
-{
-    over_lines(
-        alloc,
-        "histories",
-        texts::HISTORIES_USAGE,
-        texts::HISTORIES,
-        texts::HISTORIES_HELP,
-        1,
-    )
-}
-
-/// The command `audit`.
-fn audit<'a>(alloc: Global) -> Result<Command<'a>, AllocError>
-    ensures shape { IfOk result (λ command. app_of command ≡ task_line Audit) }
-    ensures local { IfOk result (λ command. (out-Command command).has_globals ≡ false) }
-{
-    over_lines(
-        alloc,
-        "audit",
-        texts::AUDIT_USAGE,
-        texts::AUDIT,
-        texts::AUDIT_HELP,
-        usize::MAX,
-    )
-}
-
-/// The command `migrate`.
-fn migrate<'a>(alloc: Global) -> Result<Command<'a>, AllocError>
-    ensures shape { IfOk result (λ command. app_of command ≡ task_line Migrate) }
-    ensures local { IfOk result (λ command. (out-Command command).has_globals ≡ false) }
-{
-    over_lines(
-        alloc,
-        "migrate",
-        texts::MIGRATE_USAGE,
-        texts::MIGRATE,
-        texts::MIGRATE_HELP,
-        1,
-    )
 }
 
 /// Adds a command to the others, unless there was no memory for it.
@@ -196,10 +107,10 @@ pub fn command_line<'a>(alloc: Global) -> Result<Command<'a>, AllocError>
     ensures { IfOk result (λ command. IsCommandLine (app_of command)) }
 {
     let mut parts = Vec::new(alloc);
-    add(&mut parts, script(alloc))?;
-    add(&mut parts, histories(alloc))?;
-    add(&mut parts, audit(alloc))?;
-    add(&mut parts, migrate(alloc))?;
+    add(&mut parts, task(alloc, "script", texts::SCRIPT, 1))?;
+    add(&mut parts, task(alloc, "histories", texts::HISTORIES, 1))?;
+    add(&mut parts, task(alloc, "audit", texts::AUDIT, usize::MAX))?;
+    add(&mut parts, task(alloc, "migrate", texts::MIGRATE, 1))?;
     add(&mut parts, threads(alloc))?;
     add(&mut parts, site(alloc))?;
     add(&mut parts, close(alloc))?;

@@ -5,10 +5,8 @@
 mod arguments;
 mod command_line;
 mod recorded;
-mod task;
 mod texts;
 mod words;
 
 pub use recorded::Record;
-pub use task::Task;
 pub use words::{MOST_TELLERS, Words, read_words};

@@ -8,54 +8,66 @@ pub const VERSION: &str = "2.0.0";
 pub const ABOUT: &str =
     "A replicated bank of two to sixteen sites, whose operations can be undone exactly";
 
-/// How `script` is used.
-pub const SCRIPT_USAGE: &str = "rbbank script [FILE]";
+/// The texts of a command: how it is used, what it does in a line, and what its help ends with.
+#[derive(Clone, Copy)]
+pub struct Texts {
+    pub usage: &'static str,
+    pub about: &'static str,
+    pub help: &'static str,
+}
 
-/// How `histories` is used.
-pub const HISTORIES_USAGE: &str = "rbbank histories [FILE]";
+/// The texts of `script`.
+pub const SCRIPT: Texts = Texts {
+    usage: "rbbank script [FILE]",
+    about: "Answers the commands on standard input, a line of JSON each",
+    help: SCRIPT_HELP,
+};
 
-/// How `audit` is used.
-pub const AUDIT_USAGE: &str = "rbbank audit [FILE]..";
+/// The texts of `histories`.
+pub const HISTORIES: Texts = Texts {
+    usage: "rbbank histories [FILE]",
+    about: "Runs the commands on standard input as script does, and writes the sites' histories",
+    help: HISTORIES_HELP,
+};
 
-/// How `migrate` is used.
-pub const MIGRATE_USAGE: &str = "rbbank migrate [FILE]";
+/// The texts of `audit`.
+pub const AUDIT: Texts = Texts {
+    usage: "rbbank audit [FILE]..",
+    about: "Says whether one world can have recorded the sites' histories on standard input",
+    help: AUDIT_HELP,
+};
+
+/// The texts of `migrate`.
+pub const MIGRATE: Texts = Texts {
+    usage: "rbbank migrate [FILE]",
+    about: "Writes the sites' histories on standard input again, in the newest version of their lines",
+    help: MIGRATE_HELP,
+};
 
 /// How `site` is used.
-pub const SITE_USAGE: &str =
+const SITE_USAGE: &str =
     "rbbank site --me S --journal FILE [--new] [--resend N] [--record changes|all] [--bank NAME] [--seal] < EVENTS";
 
-/// How `close` is used.
-pub const CLOSE_USAGE: &str = "rbbank close [--sites N] [--account NAME].. JOURNAL..";
+/// The texts of `site`.
+pub const SITE: Texts = Texts {
+    usage: SITE_USAGE,
+    about: "Runs one site, which keeps its history in a file: answers the events on standard input",
+    help: SITE_HELP,
+};
 
-/// How `threads` is used.
-pub const THREADS_USAGE: &str = "rbbank threads --sites K --tellers T --seed S";
+/// The texts of `close`.
+pub const CLOSE: Texts = Texts {
+    usage: "rbbank close [--sites N] [--account NAME].. JOURNAL..",
+    about: "Closes the books of the sites' sealed journals, and writes the next bank's configuration",
+    help: CLOSE_HELP,
+};
 
-/// What `script` does.
-pub const SCRIPT: &str = "Answers the commands on standard input, a line of JSON each";
-
-/// What `histories` does.
-pub const HISTORIES: &str =
-    "Runs the commands on standard input as script does, and writes the sites' histories";
-
-/// What `audit` does.
-pub const AUDIT: &str =
-    "Says whether one world can have recorded the sites' histories on standard input";
-
-/// What `migrate` does.
-pub const MIGRATE: &str =
-    "Writes the sites' histories on standard input again, in the newest version of their lines";
-
-/// What `site` does.
-pub const SITE: &str =
-    "Runs one site, which keeps its history in a file: answers the events on standard input";
-
-/// What `close` does.
-pub const CLOSE: &str =
-    "Closes the books of the sites' sealed journals, and writes the next bank's configuration";
-
-/// What `threads` does.
-pub const THREADS: &str =
-    "Runs tellers in threads at the sites of a bank, and writes the sites' histories";
+/// The texts of `threads`.
+pub const THREADS: Texts = Texts {
+    usage: "rbbank threads --sites K --tellers T --seed S",
+    about: "Runs tellers in threads at the sites of a bank, and writes the sites' histories",
+    help: THREADS_HELP,
+};
 
 /// The help of the files of `script`, `histories`, `audit` and `migrate`.
 pub const FILES: &str = "What to read in place of standard input";

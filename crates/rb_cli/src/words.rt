@@ -4,12 +4,12 @@ ghost use Rattle.clap.specs.Words.{FailsBy, found_of, kind_of, rows_of, subcomma
 ghost use Rattle.clap.specs.declared.error.kind.ErrorKind.TheVariants.{ArgumentConflict, OutOfMemory};
 ghost use Rattle.rb_cli.specs.Words.{AreFit, AreReadAs, Ask, FailsByWords, FitsWithin, HasSwitchWord, IsAsUsual};
 ghost use Rattle.rb_cli.specs.Words.{IsInRange, IsMatch, as_asked, choice_at, close_asked, conflict_of};
-ghost use Rattle.rb_cli.specs.Words.{names_bank_to_seal, number_at, of_input, record_of, seals_bank, site_asked};
-ghost use Rattle.rb_cli.specs.Words.{switch_at, task_asked, texts_at, threads_asked, words_of_command};
+ghost use Rattle.rb_cli.specs.Words.{names_bank_to_seal, number_at, record_of, seals_bank, site_asked};
+ghost use Rattle.rb_cli.specs.Words.{switch_at, texts_at, threads_asked, words_of_command};
 ghost use Rattle.rb_cli.specs.Words.{words_of_matches};
 
 use crate::command_line::{command_line, site as site_line};
-use crate::{Record, Task, texts};
+use crate::{Record, texts};
 use clap::error::ErrorKind;
 use clap::{ArgMatches, Error};
 use std::alloc::{AllocError, Global};
@@ -17,22 +17,18 @@ use std::alloc::{AllocError, Global};
 /// The most tellers of a run.
 pub const MOST_TELLERS: u32 = 64;
 
-/// A request to the program.
+/// A request to the program. The first four are done with the lines of these files, or of standard input if there is
+/// none.
 #[derive(Debug, Drop, PartialEq, Eq)]
 pub enum Words<'a> {
-    /// To answer the script on standard input.
-    Script,
-    /// To run the script on standard input, and write the histories of its sites.
-    Histories,
-    /// To audit the histories on standard input.
-    Audit,
-    /// To write the histories on standard input again, in the newest version of their lines.
-    Migrate,
-    /// To do this with the lines of these files, one or more, in place of standard input.
-    Files {
-        task: Task,
-        files: Vec<&'a str>,
-    },
+    /// To answer the script.
+    Script(Vec<&'a str>),
+    /// To run the script, and write the histories of its sites.
+    Histories(Vec<&'a str>),
+    /// To audit the histories.
+    Audit(Vec<&'a str>),
+    /// To write the histories again, in the newest version of their lines.
+    Migrate(Vec<&'a str>),
     /// To run 1 to `MOST_TELLERS` tellers at 2 to `MOST_SITES` sites. The first numbers of the tellers begin at the
     /// seed.
     Threads {
@@ -110,35 +106,6 @@ fn texts<'a>(alloc: Global, given: &ArgMatches<'a>, name: &str) -> Result<Vec<&'
     match given.get_strs(name) {
         Some(texts) => texts.to_vec(alloc),
         None => Ok(Vec::new(alloc)),
-    }
-}
-
-/// To do this with the lines of standard input.
-fn of_input<'a>(task: Task) -> Words<'a>
-    ensures { as_asked result ≡ of_input task }
-{
-    match task {
-        Task::Script => Words::Script,
-        Task::Histories => Words::Histories,
-        Task::Audit => Words::Audit,
-        Task::Migrate => Words::Migrate,
-    }
-}
-
-/// To do this with the lines of the files after the command, or of standard input if no file is given.
-fn over_lines<'a>(
-    alloc: Global,
-    given: &ArgMatches<'a>,
-    task: Task,
-) -> Result<Option<Words<'a>>, AllocError>
-    ensures { IfOk result (λ words. option_map as_asked words
-        ≡ Some (task_asked task (texts_at (codes "files") (rows_of (found_of given.now))))) }
-{
-    let files = texts(alloc, given, "files")?;
-    if files.is_empty() {
-        Ok(Some(of_input(task)))
-    } else {
-        Ok(Some(Words::Files { task, files }))
     }
 }
 
@@ -241,10 +208,10 @@ fn asked_of<'a>(
         (λ asked. option_map as_asked asked ≡ words_of_command name.now (rows_of (found_of given.now))) }
 {
     match name {
-        "script" => over_lines(alloc, given, Task::Script),
-        "histories" => over_lines(alloc, given, Task::Histories),
-        "audit" => over_lines(alloc, given, Task::Audit),
-        "migrate" => over_lines(alloc, given, Task::Migrate),
+        "script" => Ok(Some(Words::Script(texts(alloc, given, "files")?))),
+        "histories" => Ok(Some(Words::Histories(texts(alloc, given, "files")?))),
+        "audit" => Ok(Some(Words::Audit(texts(alloc, given, "files")?))),
+        "migrate" => Ok(Some(Words::Migrate(texts(alloc, given, "files")?))),
         "threads" => Ok(threads(given)),
         "site" => Ok(site(given)),
         "close" => close(alloc, given),

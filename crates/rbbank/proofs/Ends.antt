@@ -14,12 +14,9 @@ use Rattle.rbbank.specs.declared.done.Done.{Done}
 use Rattle.rbbank.specs.declared.done.Done.TheVariants.{Lines, Files, Threads, Site, BadBank, Closed}
 use Rattle.rbbank.specs.declared.joined.FilesFault.{FilesFault}
 use Rattle.rbbank.specs.declared.joined.FilesFault.TheVariants.{Unread, AnotherBank, Same, OutOfMemory as NoFilesMemory}
-use Rattle.rbbank.specs.declared.task.TaskRan.{TaskRan}
-use Rattle.rbbank.specs.declared.task.TaskRan.TheVariants.{Script as ScriptRan, Histories as HistoriesRan, Audit as AuditRan}
-use Rattle.rbbank.specs.declared.task.TaskRan.TheVariants.{Migrate as MigrationRan}
-use Rattle.rbbank.specs.Statuses.{EndsIn, IsEnd, IsEndOf, IsEndOfClosing, IsEndOfFiles, IsEndOfSite, IsEndOfThreads}
+use Rattle.rbbank.specs.Statuses.{IsEnd, IsEndOf, IsEndOfClosing, IsEndOfFiles, IsEndOfSite, IsEndOfTask}
 use Rattle.rbbank.specs.Statuses.{IsEndOfWords, IsReportedStatus, status_of_unread}
-use Rattle.rbbank.specs.Tasks.{task_status}
+use Rattle.rbbank.specs.Tasks.{well_of}
 
 -- memory ran out
 pub no_memory : (n : ℕ) → n ≡ 4 → IsEnd n
@@ -29,20 +26,10 @@ fault_end : (n : ℕ) (fault : ScriptFault) → IsReportedStatus (status_of faul
 fault_end n fault (inl e) = inr (inr (inl (fault, e)))
 fault_end n fault (inr e) = no_memory n e
 
-task_end : (n : ℕ) (ran : TaskRan) → EndsIn (task_status ran) n → IsEnd n
-task_end n (ScriptRan (Ok count)) e = inl e
-task_end n (ScriptRan (Err fault)) e = fault_end n fault e
-task_end n (HistoriesRan (Ok u)) e = inl e
-task_end n (HistoriesRan (Err fault)) e = fault_end n fault e
-task_end n (AuditRan (Ok true)) e = inl e
-task_end n (AuditRan (Ok false)) e = inr (inl e)
-task_end n (AuditRan (Err fault)) e = fault_end n fault e
-task_end n (MigrationRan (Ok count)) e = inl e
-task_end n (MigrationRan (Err fault)) e = fault_end n fault e
-
-threads_end : (n : ℕ) (ran : Result Unit ScriptFault) → IsEndOfThreads ran n → IsEnd n
-threads_end n (Ok u) e = inl e
-threads_end n (Err fault) e = fault_end n fault e
+task_end : (n : ℕ) (ran : Result Bool ScriptFault) → IsEndOfTask ran n → IsEnd n
+task_end n (Ok true) e = inl e
+task_end n (Ok false) e = inr (inl e)
+task_end n (Err fault) e = fault_end n fault e
 
 site_end : (n : ℕ) (ran : Result ℕ SiteFault) → IsEndOfSite ran n → IsEnd n
 site_end n (Ok count) e = inl e
@@ -56,7 +43,7 @@ closing_end n (Err (SameJournal same)) e = fault_end n NoConfig e
 closing_end n (Err (Books fault)) (inl e) = inr (inr (inr (inr (fault, e))))
 closing_end n (Err (Books fault)) (inr e) = no_memory n e
 
-files_end : (n : ℕ) (ran : Result TaskRan FilesFault) → IsEndOfFiles ran n → IsEnd n
+files_end : (n : ℕ) (ran : Result (Result Bool ScriptFault) FilesFault) → IsEndOfFiles ran n → IsEnd n
 files_end n (Ok ran) e = task_end n ran e
 files_end n (Err (Unread file)) e = fault_end n Read e
 files_end n (Err (AnotherBank file)) e = fault_end n NoConfig e
@@ -67,7 +54,7 @@ files_end n (Err NoFilesMemory) e = fault_end n OutOfMemory e
 pub any_end : (n : ℕ) (done : Done) → IsEndOf done n → IsEnd n
 any_end n (Lines ran) e = task_end n ran e
 any_end n (Files ran) e = files_end n ran.ended e
-any_end n (Threads ran) e = threads_end n ran e
+any_end n (Threads ran) e = task_end n (well_of ran) e
 any_end n (Site ran) e = site_end n ran.ended e
 any_end n BadBank e = fault_end n NoConfig e
 any_end n (Closed ran) e = closing_end n ran.ended e

@@ -1,7 +1,6 @@
 -- Tasks with the lines of files.
 use Rattle.std.specs.Prelude.{◌≡◌, ◌≢◌, ◌<◌, ◌+◌, ◌-◌, ℕ, List, [], ◌∷◌, ◌++◌, length, drop, map, flat_map, codes}
 use Rattle.std.specs.Prelude.{Option, None, Some, slice_get, Result, Ok, Err, Bool}
-use Rattle.rb_cli.specs.declared.task.Task.{Task}
 use Rattle.rb_lines.specs.Lines.{lines_of}
 use Rattle.rb_lines.specs.Messages.{reason_of}
 use Rattle.rb_lines.specs.declared.fault.ScriptFault.{ScriptFault}
@@ -15,7 +14,7 @@ use Rattle.rb_runs.specs.Books.{NextBank}
 use Rattle.rb_runs.specs.Closes.{ClosesAs}
 use Rattle.rb_runs.specs.declared.books.close_fault.CloseFault.TheVariants.{OutOfMemory as NoMemory}
 use Rattle.rbbank.specs.declared.joined.Joined.{Joined}
-use Rattle.rbbank.specs.declared.task.TaskRan.{TaskRan}
+use Rattle.rbbank.specs.declared.task.Task.{Task}
 use Rattle.rbbank.specs.Tasks.{DoesTask}
 
 -- ---- files as one input
@@ -92,7 +91,7 @@ IsNotBegun count ids files file before text = (length ids ≡ count) × IsSameFi
 
 -- the result of a task with this number of files of these ids, of which these were read, if this text was written: that
 -- with all of them as one input; or they are none, or one of them is one before it, and nothing was written
-abbrev pub FilesEndAs : Task → ℕ → List (Option FileId) → List (List ℕ) → Result TaskRan FilesFault → List ℕ → Type 0
+abbrev pub FilesEndAs : Task → ℕ → List (Option FileId) → List (List ℕ) → Result (Result Bool ScriptFault) FilesFault → List ℕ → Type 0
 FilesEndAs task count ids files (Ok ran) text = AreFiles count ids × (length files ≡ count)
     × (input : List ℕ) × AreInput files input × (left : Option (List ℕ)) × DoesTask task ran (Some input) left text
 FilesEndAs task count ids files (Err (Same same)) text = IsNotBegun count ids files same.file same.before text

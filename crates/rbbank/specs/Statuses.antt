@@ -14,11 +14,10 @@ use Rattle.rb_runs.specs.declared.books.close_fault.CloseFault.{CloseFault}
 use Rattle.rbbank.specs.declared.closing.ClosingFault.{ClosingFault}
 use Rattle.rbbank.specs.declared.closing.ClosingFault.TheVariants.{Same, Books}
 use Rattle.rbbank.specs.declared.joined.FilesFault.{FilesFault}
-use Rattle.rbbank.specs.declared.task.TaskRan.{TaskRan}
 use Rattle.rbbank.specs.declared.done.Done.{Done}
 use Rattle.rbbank.specs.declared.done.Done.TheVariants.{Lines, Files, Threads, Site, BadBank, Closed}
 use Rattle.rbbank.specs.Files.{files_status_of}
-use Rattle.rbbank.specs.Tasks.{task_status}
+use Rattle.rbbank.specs.Tasks.{well_of}
 
 -- the status if the words can't be read
 abbrev pub status_of_unread : IoErrorKind → ℕ
@@ -38,15 +37,11 @@ IsEndOfWords DisplayHelp n = (n ≡ 0) ⊎ IsReportedStatus (status_of Write) n
 IsEndOfWords DisplayVersion n = (n ≡ 0) ⊎ IsReportedStatus (status_of Write) n
 IsEndOfWords _ n = n ≡ 2
 
--- a run ends in its status, or in its fault's or 4
-abbrev pub EndsIn : Result ℕ ScriptFault → ℕ → Type 0
-EndsIn (Ok status) n = n ≡ status
-EndsIn (Err fault) n = IsReportedStatus (status_of fault) n
-
--- a run of threads ends in 0 if its histories were written, else in its fault's status or 4
-abbrev pub IsEndOfThreads : Result Unit ScriptFault → ℕ → Type 0
-IsEndOfThreads (Ok u) n = n ≡ 0
-IsEndOfThreads (Err fault) n = IsReportedStatus (status_of fault) n
+-- a task ends in 0, in 1 if no world has the audited histories, or in its fault's status or 4
+abbrev pub IsEndOfTask : Result Bool ScriptFault → ℕ → Type 0
+IsEndOfTask (Ok true) n = n ≡ 0
+IsEndOfTask (Ok false) n = n ≡ 1
+IsEndOfTask (Err fault) n = IsReportedStatus (status_of fault) n
 
 -- a site ends in 0 if its lines were all answered, else in its fault's status or 4
 abbrev pub IsEndOfSite : Result ℕ SiteFault → ℕ → Type 0
@@ -62,15 +57,15 @@ IsEndOfClosing (Err (Books fault)) n = IsReportedStatus (close_status_of fault) 
 
 -- a task with the lines of files ends as it does with those of standard input, or in the status of why they are no
 -- input
-abbrev pub IsEndOfFiles : Result TaskRan FilesFault → ℕ → Type 0
-IsEndOfFiles (Ok ran) n = EndsIn (task_status ran) n
+abbrev pub IsEndOfFiles : Result (Result Bool ScriptFault) FilesFault → ℕ → Type 0
+IsEndOfFiles (Ok ran) n = IsEndOfTask ran n
 IsEndOfFiles (Err fault) n = IsReportedStatus (files_status_of fault) n
 
 -- what was done ends the program by what it came to
 abbrev pub IsEndOf : Done → ℕ → Type 0
-IsEndOf (Lines ran) n = EndsIn (task_status ran) n
+IsEndOf (Lines ran) n = IsEndOfTask ran n
 IsEndOf (Files ran) n = IsEndOfFiles ran.ended n
-IsEndOf (Threads ran) n = IsEndOfThreads ran n
+IsEndOf (Threads ran) n = IsEndOfTask (well_of ran) n
 IsEndOf (Site ran) n = IsEndOfSite ran.ended n
 IsEndOf BadBank n = IsReportedStatus 2 n
 IsEndOf (Closed ran) n = IsEndOfClosing ran.ended n

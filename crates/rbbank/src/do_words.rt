@@ -1,5 +1,5 @@
 //! What the program's words ask for, done.
-ghost use Rattle.std.specs.Prelude.{◌≡◌, ◌+◌, ◌≤◌, ℕ, List, false, map, IfOk, IfErr, OnErr};
+ghost use Rattle.std.specs.Prelude.{◌≡◌, ◌+◌, ◌≤◌, ℕ, List, false, length, map, IfOk, IfErr, OnErr};
 ghost use Rattle.std.specs.Io.KnownBytes.{Appends};
 ghost use Rattle.std.specs.Process.{exit_status};
 ghost use Rattle.clap.specs.Words.{kind_of};
@@ -14,10 +14,10 @@ use crate::closing::close_books;
 use crate::done::Done;
 use crate::files_task::run_over_files;
 use crate::on_disk::{RanOnDisk, run_on_disk, seal_on_disk};
-use crate::task::run_task;
-use crate::{end_of_task, end_of_threads, report_bank, report_why};
+use crate::task::{Task, run_task, well};
+use crate::{end_of_task, report_bank, report_why};
 use rb_branch::NoGate;
-use rb_cli::{Task, Words, read_words};
+use rb_cli::{Words, read_words};
 use rb_history::is_id;
 use rb_lines::{Sink, Source};
 use rb_run_threads::run_threads;
@@ -33,24 +33,32 @@ pub struct Ended {
     pub code: ExitCode,
 }
 
-/// A task with the lines of the reader.
-fn do_task<S: Source, W: Sink>(
+/// A task with the lines of these files, or of the reader if there is none.
+fn do_lines<S: Source, W: Sink>(
     rt: &HostRuntime,
     task: Task,
+    files: &[&str],
     reader: &mut Explained<S>,
     writer: &mut W,
 ) -> Ended
     requires unread { S.calls reader.old.source ≡ 0 }
     requires fresh { W.failed writer.old ≡ false }
     ensures done { (text : List ℕ) × Appends (W.contents writer.old) (W.contents writer.new) text
-        × DoesLines task (S.remaining reader.old.source) (S.remaining reader.new.source) result.done text }
+        × DoesLines task (length files.now) (S.remaining reader.old.source) (S.remaining reader.new.source)
+        result.done text }
     ensures status { IsEndOf result.done (exit_status result.code) }
     ensures calls { S.calls reader.new.source ≤ S.calls reader.old.source + MOST_READS }
 {
-    let ran = run_task(rt.alloc(), task, reader, writer);
-    let code = end_of_task(rt, ran);
-    report_why(rt, reader.why.take());
-    let done = Done::Lines(ran);
+    if files.is_empty() {
+        let ran = run_task(rt.alloc(), task, reader, writer);
+        let code = end_of_task(rt, ran);
+        report_why(rt, reader.why.take());
+        let done = Done::Lines(ran);
+        return Ended { done, code };
+    }
+    let ran = run_over_files(rt, task, files, writer);
+    let code = ran.code;
+    let done = Done::Files(ran);
     Ended { done, code }
 }
 
@@ -81,23 +89,17 @@ fn do_asked<H: Threads + Wait + Sync, S: Source, W: Sink>(
     ensures calls { S.calls reader.new.source ≤ S.calls reader.old.source + MOST_READS }
 {
     match asked {
-        Words::Script => do_task(rt, Task::Script, reader, writer),
-        Words::Histories => do_task(rt, Task::Histories, reader, writer),
-        Words::Audit => do_task(rt, Task::Audit, reader, writer),
-        Words::Migrate => do_task(rt, Task::Migrate, reader, writer),
-        Words::Files { task, files } => {
-            let ran = run_over_files(rt, task, &files, writer);
-            let code = ran.code;
-            let done = Done::Files(ran);
-            Ended { done, code }
-        }
+        Words::Script(files) => do_lines(rt, Task::Script, &files, reader, writer),
+        Words::Histories(files) => do_lines(rt, Task::Histories, &files, reader, writer),
+        Words::Audit(files) => do_lines(rt, Task::Audit, &files, reader, writer),
+        Words::Migrate(files) => do_lines(rt, Task::Migrate, &files, reader, writer),
         Words::Threads {
             sites,
             tellers,
             seed,
         } => {
             let ran = run_threads(handle, rt.alloc(), sites, tellers, seed, NoGate, writer);
-            let code = end_of_threads(rt, ran);
+            let code = end_of_task(rt, well(ran));
             let done = Done::Threads(ran);
             Ended { done, code }
         }

@@ -2,14 +2,13 @@
 use crate::closing::RanClosing;
 use crate::files_task::RanOverFiles;
 use crate::on_disk::RanOnDisk;
-use crate::task::TaskRan;
 use rb_lines::ScriptFault;
 
 /// What was done as the words ask for, and its outcome.
 #[derive(Drop)]
 pub enum Done {
     /// A task with the lines of the reader.
-    Lines(TaskRan),
+    Lines(Result<bool, ScriptFault>),
     /// A task with the lines of files.
     Files(RanOverFiles),
     /// Tellers ran.

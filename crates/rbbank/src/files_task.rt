@@ -6,16 +6,14 @@ ghost use Rattle.rb_journal.specs.Calls.{files_read};
 ghost use Rattle.rbbank.specs.Files.{FilesEndAs, files_status_of, lines_message_of};
 ghost use Rattle.rbbank.specs.SameFiles.{AreFiles};
 ghost use Rattle.rb_lines.specs.Messages.{status_of};
-ghost use Rattle.rbbank.specs.Statuses.{EndsIn, IsEndOfFiles, IsReportedStatus};
-ghost use Rattle.rbbank.specs.Tasks.{task_status};
+ghost use Rattle.rbbank.specs.Statuses.{IsEndOfFiles, IsEndOfTask, IsReportedStatus};
 
 use crate::files_on_disk::{FilesOnDisk, name_of, report_unread};
 use crate::joined::{FilesFault, Joined, join_files};
 use crate::same_file::{FileId, first_same, ids_of, report_same};
-use crate::task::{TaskRan, run_task, status_of};
+use crate::task::{Task, run_task};
 use crate::why::reason_of_file;
-use crate::{out_of_memory, print_line, report_fault, report_why};
-use rb_cli::Task;
+use crate::{end_of_task, out_of_memory, print_line, report_fault, report_why};
 use rb_journal::CallLog;
 use rb_lines::{FromBytes, ScriptFault, Sink, status};
 use rb_runs::{Explained, JournalFault, journal_message, journal_status};
@@ -29,7 +27,7 @@ use std::process::ExitCode;
 pub struct RanOverFiles {
     pub ids: Vec<Option<FileId>>,
     pub read: CallLog,
-    pub ended: Result<TaskRan, FilesFault>,
+    pub ended: Result<Result<bool, ScriptFault>, FilesFault>,
     pub code: ExitCode,
 }
 
@@ -74,13 +72,18 @@ fn report_stop(rt: &HostRuntime, names: &[&str], joined: &Joined, fault: ScriptF
     }
 }
 
-/// How a task ends the program.
-fn end_of_task(rt: &HostRuntime, names: &[&str], joined: &Joined, ran: TaskRan) -> ExitCode
-    ensures { EndsIn (task_status ran) (exit_status result) }
+/// How a task with the lines of files ends the program.
+fn end_over_files(
+    rt: &HostRuntime,
+    names: &[&str],
+    joined: &Joined,
+    ran: Result<bool, ScriptFault>,
+) -> ExitCode
+    ensures { IsEndOfTask ran (exit_status result) }
 {
-    match status_of(ran) {
-        Ok(status) => ExitCode::from(status),
+    match ran {
         Err(fault) => report_stop(rt, names, joined, fault),
+        Ok(_) => end_of_task(rt, ran),
     }
 }
 
@@ -149,7 +152,7 @@ fn run_over<W: Sink>(
         Ok(joined) => {
             let mut reader = Explained::new(FromBytes::new(&joined.bytes));
             let ran = run_task(rt.alloc(), task, &mut reader, writer);
-            let code = end_of_task(rt, names, &joined, ran);
+            let code = end_over_files(rt, names, &joined, ran);
             report_why(rt, reader.why.take());
             let ended = Ok(ran);
             RanOverFiles {

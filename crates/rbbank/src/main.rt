@@ -9,9 +9,8 @@ ghost use Rattle.std.specs.Process.{exit_status};
 ghost use Rattle.clap.specs.Words.{kind_of};
 ghost use Rattle.rb_lines.specs.Messages.{status_of};
 ghost use Rattle.rb_lines.specs.declared.fault.ScriptFault.TheVariants.{Write as NotWritten};
-ghost use Rattle.rbbank.specs.Statuses.{EndsIn, IsEnd, IsEndOfThreads, IsEndOfWords};
+ghost use Rattle.rbbank.specs.Statuses.{IsEnd, IsEndOfTask, IsEndOfWords};
 ghost use Rattle.rbbank.specs.Statuses.{IsReportedStatus, bank_message_of, status_of_unread};
-ghost use Rattle.rbbank.specs.Tasks.{task_status};
 
 mod closing;
 mod do_words;
@@ -35,7 +34,6 @@ use std::process::ExitCode;
 use std::sync::Wait;
 use std::thread::Threads;
 use std::{env, io};
-use task::{TaskRan, status_of};
 
 /// The status if no world has the histories, or the books can't be closed.
 pub(crate) const FAULT_FOUND: u8 = 1;
@@ -119,22 +117,13 @@ fn report_unread(rt: &HostRuntime, error: io::Error) -> ExitCode
     }
 }
 
-/// How a task with the lines of standard input ends the program.
-pub(crate) fn end_of_task(rt: &HostRuntime, ran: TaskRan) -> ExitCode
-    ensures { EndsIn (task_status ran) (exit_status result) }
-{
-    match status_of(ran) {
-        Ok(status) => ExitCode::from(status),
-        Err(fault) => report_fault(rt, fault),
-    }
-}
-
-/// How a run of threads ends the program.
-pub(crate) fn end_of_threads(rt: &HostRuntime, ran: Result<(), ScriptFault>) -> ExitCode
-    ensures { IsEndOfThreads ran (exit_status result) }
+/// How a task with the lines of standard input, or a run of threads, ends the program.
+pub(crate) fn end_of_task(rt: &HostRuntime, ran: Result<bool, ScriptFault>) -> ExitCode
+    ensures { IsEndOfTask ran (exit_status result) }
 {
     match ran {
-        Ok(()) => ExitCode::SUCCESS,
+        Ok(true) => ExitCode::SUCCESS,
+        Ok(false) => ExitCode::from(FAULT_FOUND),
         Err(fault) => report_fault(rt, fault),
     }
 }

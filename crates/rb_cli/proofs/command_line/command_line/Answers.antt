@@ -25,12 +25,10 @@ added old part new app of_part old_is part_is local adds = adds.shape local
 pub returns : goal.returns
 returns c =
     let Adds = AddsInTurn AddsSubcommand c.top.result in
-    let script = behind c.script.result _ _ _ [] _ c.new-parts.ensures.items
-    c.in_ok-add.ensures c.script.ensures.shape c.script.ensures.local in
-    let histories = behind c.histories.result _ _ _ _ _ script.1
-    c.in_ok-add-2.ensures c.histories.ensures.shape c.histories.ensures.local in
-    let audit = behind c.audit.result _ _ _ _ _ histories.1 c.in_ok-add-3.ensures c.audit.ensures.shape c.audit.ensures.local in
-    let migrate = behind c.migrate.result _ _ _ _ _ audit.1 c.in_ok-add-4.ensures c.migrate.ensures.shape c.migrate.ensures.local in
+    let script = behind c.task.result _ _ _ [] _ c.new-parts.ensures.items c.in_ok-add.ensures c.task.ensures.shape c.task.ensures.local in
+    let histories = behind c.task-2.result _ _ _ _ _ script.1 c.in_ok-add-2.ensures c.task-2.ensures.shape c.task-2.ensures.local in
+    let audit = behind c.task-3.result _ _ _ _ _ histories.1 c.in_ok-add-3.ensures c.task-3.ensures.shape c.task-3.ensures.local in
+    let migrate = behind c.task-4.result _ _ _ _ _ audit.1 c.in_ok-add-4.ensures c.task-4.ensures.shape c.task-4.ensures.local in
     let threads = behind c.threads.result _ _ _ _ _ migrate.1 c.in_ok-add-5.ensures c.threads.ensures.shape c.threads.ensures.local in
     let site = behind c.site.result _ _ _ _ _ threads.1 c.in_ok-add-6.ensures c.site.ensures.shape c.site.ensures.local in
     let close = behind c.close.result _ _ _ _ _ site.1 c.in_ok-add-7.ensures c.close.ensures.shape c.close.ensures.local in

@@ -4,7 +4,7 @@ use Rattle.std.specs.Prelude.{IfOk}
 use Rattle.std.proofs.lemmas.Result.{IfOk-weaker}
 use Rattle.rb_cli.specs.Words.{files_line, files_rule}
 use Rattle.rb_cli.proofs.Added.{Is, with_options}
-use Rattle.rb_cli.proofs.command_line.over_lines.Goals as goal
+use Rattle.rb_cli.proofs.command_line.task.Goals as goal
 
 pub vec-requires : goal.vec-requires
 vec-requires c = omega arith
