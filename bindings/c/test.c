@@ -215,7 +215,7 @@ static void a_journal(void) {
     WANTED(is_file(&file, HEAD " ") && keeps(journal_reply, &journal, ""));
     file.writes = file.syncs = 0;
     WANTED(rbbank_journal_answer(&journal, 2, TEXT(EVENT)) == RBBANK_OK && make_calls(&journal, &file, -1));
-    WANTED(is_file(&file, HEAD ENTRY "\n ") && file.writes == 3 && file.syncs == 2);
+    WANTED(is_file(&file, HEAD ENTRY "\n ") && file.writes == 2 && file.syncs == 2);
     WANTED(keeps(journal_reply, &journal, answer));
     size_t length;
     uint8_t to;
@@ -240,7 +240,7 @@ static void a_journal(void) {
 
 /* Each call fails in turn: no answer is given, and a start over what is there goes on with all of the entry or none. */
 static void calls_that_fail(void) {
-    for (int nth = 0; nth < 5; nth++) {
+    for (int nth = 0; nth < 4; nth++) {
         struct rbbank_journal journal = {0};
         struct memory_file file = {.length = 0};
         uint64_t number;
@@ -250,7 +250,7 @@ static void calls_that_fail(void) {
         file.bytes[file.length] = '\0';
         WANTED(opens(&journal, file.bytes, 0, &number) == RBBANK_OK && make_calls(&journal, &file, -1));
         WANTED(rbbank_journal_answer(&journal, 2, TEXT("{\"about\":\"site\"}")) == RBBANK_OK);
-        WANTED(is_file(&file, nth < 4 ? HEAD " " : HEAD ENTRY "\n "));
+        WANTED(is_file(&file, nth < 3 ? HEAD " " : HEAD ENTRY "\n "));
         rbbank_journal_close(&journal);
     }
 }
