@@ -63,7 +63,9 @@ enum {
                             nothing has changed */
 };
 
-/* Why something was refused: the number of a reply {"refused":N}. What is in backticks are keys of the reply. */
+/* Why something was refused: the number of a reply {"refused":N}. What is in backticks are keys of the reply; the keys
+ * stand by their names, so other ones may come first, as in {"cause":8,"index":1,"refused":13}. In a site's answer the
+ * reply is the value of "reply"; a `refused` in "then" is that of an application. */
 enum {
     RBBANK_REFUSAL_UNKNOWN_ACCOUNT = 1,   /* unknown account */
     RBBANK_REFUSAL_BAD_AMOUNT = 2,        /* amount out of range: 1 to 100,000,000,000 cents */

@@ -30,6 +30,8 @@ A `Journal` is a site that keeps its own journal, in a file.
 refusal is a reply, and no exception.
 
 A bank or a site may go to another thread, and is used by one at a time: calls of several threads wait for each other.
+An answer and what is read after it (`sends`, `entries`, `reply`) are calls of their own: threads that share one need a
+lock of their own round them.
 
 The library is librbbank.so: in the folder that the environment's RBBANK_LIB names, else beside this module, as a wheel
 has it, else in bindings/out (`make bindings` makes it), else where the system finds libraries. Without one the first
@@ -581,7 +583,8 @@ class _File:
 
 class Journal(_Sending):
     """Site `me`, 0 to 15, of a configuration, whose journal is in a file: what was answered is on the disk before its
-    reply can be seen. The file is the one that `rbbank site` has, and either goes on from it. It is for a Unix system.
+    reply can be seen. The file is the one that `rbbank site` has, and either goes on from it; an empty one is begun,
+    with `new` or without. It is for a Unix system.
 
     A line is answered as a `Site` does, with BadLine if it is no event and no question: `reply` is then the line
     `{"bad":..}` of `rbbank site`, with its number, where the configuration's line is the first. A blank line is

@@ -18,7 +18,8 @@ extern "C" {
 }
 
 /// One site of a configuration, whose journal is in a file: what was answered is on the disk before its reply can be
-/// seen. The file is the one that `rbbank site` has, and either goes on from it. Dropping it ends it.
+/// seen. The file is the one that `rbbank site` has, and either goes on from it; an empty one is begun, as a new one or
+/// not. Dropping it ends it.
 ///
 /// ```
 /// use rbbank::Journal;
