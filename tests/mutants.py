@@ -39,7 +39,7 @@ TRIED_IN_PART = {"rb_branch": 57, "rb_journal": 26, "rb_run_site": 17, "rb_run_t
 RUN = re.compile(r"Last tried as a whole: (\d{4}-\d\d-\d\d) at ([0-9a-f]{8}), (\d+) refused\n")
 NEVER = "Last tried as a whole: never\n"
 # what the prover says of a function
-SAID = re.compile(r"^fn (\S+): (proved|not proved|no proof.*)$", re.M)
+SAID = re.compile(r"^fn (\S+): (proved(?:, may wait)?|not proved|no proof.*)$", re.M)
 # a line that a commit adds or takes away, and that is neither empty nor a comment
 CODE = re.compile(r"[+-](?!--|\+\+|\s*(?://|--|$))")
 # an error that only says that a proof names what the mutant took away
@@ -152,14 +152,18 @@ def module_of(crate, path):
     return crate if inside in ("lib", "main") else f"{crate}::{inside}"
 
 
+def states_of(crate, function, said):
+    """What the prover says of the functions of this name in this file, or, where an impl isn't in the file of its type,
+    of the only one of this name."""
+    named = {name: state for name, state in said.items() if name.rpartition("::")[2] == function.name}
+    own = [state for name, state in named.items() if name.startswith(module_of(crate, function.path) + "::")]
+    return own or (list(named.values()) if len(named) == 1 else [])
+
+
 def verdict_of(crate, functions, said, errors):
     """What a check says of a mutant's functions: refused, name (only by a name), missed or unclear."""
-    states = []
-    for it in functions:
-        module = module_of(crate, it.path)
-        states += [state for name, state in said.items()
-                   if name.startswith(module + "::") and name.rpartition("::")[2] == it.name]
-    failed = [it for it in states if it != "proved"]
+    states = [state for it in functions for state in states_of(crate, it, said)]
+    failed = [it for it in states if not it.startswith("proved")]
     if not states or failed and all("it calls" in it for it in failed):
         return "unclear"
     if not failed:
