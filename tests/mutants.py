@@ -33,9 +33,6 @@ CRATES = os.path.join(ROOT, "crates")
 MUTANTS_IN_ALL = 903
 # a file has to be tried again when the last change of its crate's code or contracts is this many commits after its run
 MOST_COMMITS = 10
-# of these crates' mutants only so many were tried since the last change, each refused: all are to be tried next, and
-# the line goes
-TRIED_IN_PART = {"rb_branch": 57, "rb_journal": 26, "rb_run_site": 17, "rb_run_threads": 14, "rb_runs": 33}
 RUN = re.compile(r"Last tried as a whole: (\d{4}-\d\d-\d\d) at ([0-9a-f]{8}), (\d+) refused\n")
 NEVER = "Last tried as a whole: never\n"
 # what the prover says of a function
@@ -288,7 +285,7 @@ def age_of(crate):
     if git("rev-parse", "--verify", run[2]) is None:
         return f"its commit {run[2]} isn't in the history"
     count = git("rev-list", "--count", f"{run[2]}..{changed(crate, run[2])}")
-    if int(count) >= MOST_COMMITS and crate not in TRIED_IN_PART:
+    if int(count) >= MOST_COMMITS:
         return f"its crate changed {count} commits after {run[2]}, where it was last tried"
     return None
 
