@@ -1,6 +1,6 @@
 -- A desk with one event more, and a seat with its receipt.
 use Rattle.std.proofs.Common.{◌≡◌, ◌∙◌, ◌<◌, ◌≤◌, ◌+◌, ◌-◌, ℕ, List, All, length, length-append, sym, ap, subst, arith, [], ◌∷◌, ◌++◌}
-use Rattle.std.proofs.Common.{get_or, set}
+use Rattle.std.proofs.Common.{get_or, set, zero, suc, refl, inl, inr}
 use Rattle.std.proofs.lemmas.List.{length-set}
 use Rattle.std.proofs.lemmas.List.Elements.{All-append, All-cons, All-nil, All-set}
 use Rattle.rb_money.specs.Settings.{Settings}
@@ -8,7 +8,8 @@ use Rattle.rb_site.specs.declared.event.Event.{Event}
 use Rattle.rb_site.specs.declared.message.Message.{Message}
 use Rattle.rb_site.specs.Events.{first_site, reply_to, sent_at}
 use Rattle.rb_site.specs.Seen.{SeenSite, Replays, state_of, stepped}
-use Rattle.rb_branch.specs.Seats.{HasOneMore, IsCall, IsDesk, IsSeat, IsSiteReply, Records, SeenSeat, SetsUnsent, receipt}
+use Rattle.rb_branch.specs.Seats.{HasOneMore, IsCall, IsDesk, IsOneOf, IsSeat, IsSiteMessage, IsSiteReply, Records, SeenSeat, SetsUnsent}
+use Rattle.rb_branch.specs.Seats.{receipt}
 use Rattle.rb_branch.specs.declared.limits.TheConstants.{MOST_RECEIPTS}
 use Rattle.rb_branch.specs.declared.receipt.Receipt.{Receipt}
 
@@ -107,7 +108,29 @@ records_one x y e a b n posted P h p = record {
 -- an event that is recorded at some site of the configuration is one receipt more
 pub call_one : (s : Settings) (e : Event) (a b : SeenSeat) (n : ℕ) (sent : List Message) (P : Event → Type 0)
     → IsCall s e a b n sent → P e → HasOneMore a b P n
-call_one s e a b n sent P h p = records_one h.desk (stepped h.desk e) e a b n sent P h.records p
+call_one s e a b n sent P h p = records_one h.desk (stepped h.desk e) e a b n sent P h.holds p
+
+-- an item of a list is one of it
+one_of : (xs : List Message) (k : ℕ) (d : Message) → k < length xs → IsOneOf (get_or xs k d) xs
+one_of [] k d h = absurd (omega (arith, h))
+one_of (x ∷ xs) zero d h = inl refl
+one_of (x ∷ xs) (suc k) d h = inr (one_of xs k d (omega (arith, h)))
+
+-- what a call gives to be sent is what a site sends
+pub call_sends : (s : Settings) (e : Event) (a b : SeenSeat) (n : ℕ) (sent : List Message) → IsCall s e a b n sent
+    → All (IsSiteMessage s) sent
+call_sends s e a b n sent h k d within = record {
+  desk = h.desk;
+  settings = h.settings;
+  within = h.within;
+  replays = h.replays;
+  room = h.room;
+  holds = (
+    e,
+    subst (λ (t : Settings). IsOneOf (get_or sent k d) (sent_at t (state_of h.desk) e)) h.settings
+        (subst (IsOneOf (get_or sent k d)) h.holds.posted_is (one_of sent k d within)),
+  );
+}
 
 -- the receipt more, with another count of messages that were not sent
 pub one_with_unsent : (a b c : SeenSeat) (P : Event → Type 0) (n count : ℕ) → HasOneMore a b P n → SetsUnsent b c count

@@ -4,13 +4,15 @@ use Rattle.std.proofs.Common.{length-append, append_assoc, append-nil, get_or, s
 use Rattle.std.proofs.Common.{None, inr}
 use Rattle.std.specs.Prelude.{All, OnErr, IfNone, MatchBool, MatchOption, Option, Result, Ok, Err, slice_get, drop}
 use Rattle.std.proofs.lemmas.List.{drop-append-le}
-use Rattle.std.proofs.lemmas.List.Elements.{All-append}
+use Rattle.std.proofs.lemmas.List.Elements.{All-append, All-cons, All-nil}
 use Rattle.std.proofs.Math.Seq.{set-append_seam, get_or-append_seam}
+use Rattle.rb_money.specs.Settings.{Settings}
 use Rattle.rb_site.specs.declared.event.Event.{Event}
 use Rattle.rb_site.specs.declared.event.Event.TheVariants as ev
 use Rattle.rb_site.specs.declared.message.Message.{Message}
 use Rattle.rb_branch.specs.declared.receipt.Receipt.{Receipt}
-use Rattle.rb_branch.specs.Seats.{AreRefused, HasOneMore, HasServed, IsApply, IsOneOf, IsServed, WasReceived, NoneLost, SeenSeat, Any}
+use Rattle.rb_branch.specs.Seats.{Any, AreRefused, HasOneMore, HasServed, IsApply, IsOfSiteMessage, IsOneOf, IsServed, IsSiteMessage}
+use Rattle.rb_branch.specs.Seats.{NoneLost, SeenSeat, WasReceived}
 use Rattle.rb_branch.specs.Seats.{RefusesOn, is_full_inbox, receipts_since}
 
 abbrev Refuses : Message → Receipt → Type 0
@@ -31,6 +33,9 @@ served_nothing k d h = absurd (omega arith)
 served_single : (r : Receipt) → Served r → All Served (r ∷ [])
 served_single r s zero d h = s
 served_single r s (suc k) d h = absurd (omega arith)
+
+sent_single : {s : Settings} (r : Receipt) → IsOfSiteMessage s r → All (IsOfSiteMessage s) (r ∷ [])
+sent_single {s} r h = All-cons (IsOfSiteMessage s) r [] h (All-nil (IsOfSiteMessage s))
 
 -- an item of one of two lists
 some_left : {X : Type 0} (P : X → Type 0) (xs ys : List X) → Any P xs → Any P (xs ++ ys)
@@ -112,59 +117,62 @@ lost_received kept k m r at is not = record {
 }
 
 -- more receipts after the first ones
-served_more : (a b c : SeenSeat) (k l m : List Message) (n p : ℕ) → HasServed a b k l n → HasServed b c l m p
-    → HasServed a c k m (n + p)
-served_more a b c k l m n p h t = record {
+served_more : {s : Settings} (a b c : SeenSeat) (k l m : List Message) (n p : ℕ) → HasServed s a b k l n → HasServed s b c l m p
+    → HasServed s a c k m (n + p)
+served_more {s} a b c k l m n p h t = record {
   more = h.more ++ t.more;
   seat =
       t.seat ∙ (λ i. record (h.seat i) { receipts = (h.seat i).receipts ++ t.more })
       ∙ ap (λ (xs : List Receipt). record a { receipts = xs }) (append_assoc a.receipts h.more t.more);
   served = All-append Served h.more t.more h.served t.served;
+  sent = All-append (IsOfSiteMessage s) h.more t.more h.sent t.sent;
   count_is = omega (arith, h.count_is, t.count_is, length-append h.more t.more);
   none_lost = lost_more k l m h.more t.more h.none_lost t.none_lost;
 }
 
 -- some number of receipts more
-abbrev pub Serves : SeenSeat → SeenSeat → List Message → List Message → Type 0
-Serves a b k l = (n : ℕ) × HasServed a b k l n
+abbrev pub Serves : Settings → SeenSeat → SeenSeat → List Message → List Message → Type 0
+Serves s a b k l = (n : ℕ) × HasServed s a b k l n
 
 -- more receipts after the first ones
-pub serves_more : (a b c : SeenSeat) (k l m : List Message) → Serves a b k l → Serves b c l m → Serves a c k m
+pub serves_more : {s : Settings} (a b c : SeenSeat) (k l m : List Message) → Serves s a b k l → Serves s b c l m → Serves s a c k m
 serves_more a b c k l m h t = (h.0 + t.0, served_more a b c k l m h.0 t.0 h.1 t.1)
 
 -- no receipt more
-none_more : (a : SeenSeat) (k l : List Message) → NoneLost k l [] → HasServed a a k l 0
-none_more a k l lost = record {
+none_more : {s : Settings} (a : SeenSeat) (k l : List Message) → NoneLost k l [] → HasServed s a a k l 0
+none_more {s} a k l lost = record {
   more = [];
   seat = ap (λ (xs : List Receipt). record a { receipts = xs }) (sym (append-nil a.receipts));
   served = served_nothing;
+  sent = All-nil (IsOfSiteMessage s);
   count_is = refl;
   none_lost = lost;
 }
 
 -- no receipt yet
-pub serves_none : (a : SeenSeat) (k : List Message) → Serves a a k k
+pub serves_none : {s : Settings} (a : SeenSeat) (k : List Message) → Serves s a a k k
 serves_none a k = (0, none_more a k k (record { kept = λ m i. inl i; refused = λ m i. absurd i }))
 
 -- the same, of equal ends
-pub serves_same : (a b c : SeenSeat) (k l m : List Message) → Serves a b k l → c ≡ b → m ≡ l → Serves a c k m
-serves_same a b c k l m h seat inlet =
-    let P : SeenSeat → Type 0 = λ s. Serves a s k m in
-    let Q : List Message → Type 0 = λ i. Serves a b k i in
+pub serves_same : {s : Settings} (a b c : SeenSeat) (k l m : List Message) → Serves s a b k l → c ≡ b → m ≡ l → Serves s a c k m
+serves_same {s} a b c k l m h seat inlet =
+    let P : SeenSeat → Type 0 = λ x. Serves s a x k m in
+    let Q : List Message → Type 0 = λ i. Serves s a b k i in
     subst P (sym seat) (subst Q (sym inlet) h)
 
 -- and then what was taken from a link, if anything was
-pub serves_taken : (a b : SeenSeat) (k l m : List Message) (t : Bool) → Serves a b k l
-    → MatchBool t ((x : Message) × (m ≡ l ++ x ∷ [])) (m ≡ l) → Serves a b k m
+pub serves_taken : {s : Settings} (a b : SeenSeat) (k l m : List Message) (t : Bool) → Serves s a b k l
+    → MatchBool t ((x : Message) × (m ≡ l ++ x ∷ [])) (m ≡ l) → Serves s a b k m
 serves_taken a b k l m true h taken = serves_more a b b k l m h (0, none_more b l m (lost_taken l m taken.0 taken.1))
 serves_taken a b k l m false h taken = serves_same a b b k l m h refl taken
 
 -- the receipt of an application
-served_apply : (b c : SeenSeat) (kept : List Message) (n : ℕ) → HasOneMore b c IsApply n → HasServed b c kept kept 1
+served_apply : {s : Settings} (b c : SeenSeat) (kept : List Message) (n : ℕ) → HasOneMore b c IsApply n → HasServed s b c kept kept 1
 served_apply b c kept n h = record {
   more = h.last ∷ [];
   seat = h.seat;
   served = served_single h.last (applied h.last.event h.event_is);
+  sent = sent_single h.last (λ m same. absurd (apart h.last.event m h.event_is same));
   count_is = refl;
   none_lost = record {
     kept = λ m i. inl i;
@@ -185,30 +193,33 @@ last_reply : (b c : SeenSeat) (P : Event → Type 0) (n : ℕ) (full : Bool) (h 
     → ((xs : List Receipt) (r : Receipt) → c.receipts ≡ xs ++ r ∷ [] → full ≡ is_full_inbox r.reply) → full ≡ is_full_inbox h.last.reply
 last_reply b c P n full h found = found b.receipts h.last (ap (λ (s : SeenSeat). s.receipts) h.seat)
 
-served_message : (b c : SeenSeat) (old new : List Message) (m : Message) (n : ℕ) (h : HasOneMore b c (λ e. e ≡ ev.Receive m) n)
-    → NoneLost old new (h.last ∷ []) → HasServed b c old new 1
-served_message b c old new m n h lost = record {
+-- the receipt of a message that was sent
+served_message : {s : Settings} (b c : SeenSeat) (old new : List Message) (m : Message) (n : ℕ)
+    (h : HasOneMore b c (λ e. e ≡ ev.Receive m) n) → IsSiteMessage s m → NoneLost old new (h.last ∷ []) → HasServed s b c old new 1
+served_message {s} b c old new m n h sent lost = record {
   more = h.last ∷ [];
   seat = h.seat;
   served = served_single h.last (subst IsServed (sym h.event_is) tt);
+  sent = sent_single h.last (λ x same. subst (IsSiteMessage s) (same_message m x (sym h.event_is ∙ same)) sent);
   count_is = refl;
   none_lost = lost;
 }
 
 -- a kept message is received, and stays
-pub served_refused : (b c : SeenSeat) (kept : List Message) (k n : ℕ) (m : Message) → slice_get kept k ≡ Some m
-    → HasOneMore b c (λ e. e ≡ ev.Receive m) n → HasServed b c kept kept 1
-served_refused b c kept k n m at h = served_message b c kept kept m n h (lost_refused kept k m h.last at h.event_is)
+pub served_refused : {s : Settings} (b c : SeenSeat) (kept : List Message) (k n : ℕ) (m : Message) → slice_get kept k ≡ Some m
+    → IsSiteMessage s m → HasOneMore b c (λ e. e ≡ ev.Receive m) n → HasServed s b c kept kept 1
+served_refused b c kept k n m at sent h =
+    served_message b c kept kept m n h sent (lost_refused kept k m h.last at h.event_is)
 
 -- a kept message is received, and goes
-pub served_received : (b c : SeenSeat) (old new : List Message) (k n : ℕ) (m : Message) (full : Bool) → slice_get old k ≡ Some m
-    → HasOneMore b c (λ e. e ≡ ev.Receive m) n
+pub served_received : {s : Settings} (b c : SeenSeat) (old new : List Message) (k n : ℕ) (m : Message) (full : Bool)
+    → slice_get old k ≡ Some m → IsSiteMessage s m → HasOneMore b c (λ e. e ≡ ev.Receive m) n
     → ((xs : List Receipt) (r : Receipt) → c.receipts ≡ xs ++ r ∷ [] → full ≡ is_full_inbox r.reply) → full ≡ false
-    → new ≡ remove old k → HasServed b c old new 1
-served_received b c old new k n m full at h found not is =
+    → new ≡ remove old k → HasServed s b c old new 1
+served_received b c old new k n m full at sent h found not is =
     let P : List Message → Type 0 = λ l. NoneLost old l (h.last ∷ []) in
     let reply : is_full_inbox h.last.reply ≡ false = sym (last_reply b c (λ e. e ≡ ev.Receive m) n full h found) ∙ not in
-    served_message b c old new m n h (subst P (sym is) (lost_received old k m h.last at h.event_is reply))
+    served_message b c old new m n h sent (subst P (sym is) (lost_received old k m h.last at h.event_is reply))
 
 -- the last receipt with another count of messages that were not sent
 pub set_last : (items items' xs : List Receipt) (r now : Receipt) (n count : ℕ)
@@ -221,8 +232,8 @@ set_last items items' xs r now n count is len at left =
     left ∙ (λ i. set (is i) (here i) (record (found i) { unsent = count })) ∙ set-append_seam xs r [] (record r { unsent = count })
 
 -- and then an application, if there was one
-pub serves_ready : (a b c : SeenSeat) (k l : List Message) (o : Option ℕ) → Serves a b k l
-    → MatchOption o (c ≡ b) (λ n. HasOneMore b c IsApply n) → Serves a c k l
+pub serves_ready : {s : Settings} (a b c : SeenSeat) (k l : List Message) (o : Option ℕ) → Serves s a b k l
+    → MatchOption o (c ≡ b) (λ n. HasOneMore b c IsApply n) → Serves s a c k l
 serves_ready a b c k l None h ready = serves_same a b c k l l h ready refl
 serves_ready a b c k l (Some n) h ready = serves_more a b c k l l h (1, served_apply b c l n ready)
 
@@ -340,28 +351,30 @@ pub refuses_all : (k n : ℕ) (old kept : List Message) (a b : SeenSeat) → Ref
 refuses_all k n old kept a b all most from few first i m within at = all from few first i m (omega (arith, within, most)) at
 
 -- there are no fewer receipts
-serves_longer : (a b : SeenSeat) (k l : List Message) → Serves a b k l → length a.receipts ≤ length b.receipts
+serves_longer : {s : Settings} (a b : SeenSeat) (k l : List Message) → Serves s a b k l → length a.receipts ≤ length b.receipts
 serves_longer a b k l h =
     omega (arith, ap (λ (c : SeenSeat). length c.receipts) h.1.seat, length-append a.receipts h.1.more)
 
 -- one after the other
-pub refuses_then : (n m p : ℕ) (k l o : List Message) (a b c : SeenSeat) → Serves a b k l → RefusesOn n k a m l b
+pub refuses_then : {s : Settings} (n m p : ℕ) (k l o : List Message) (a b c : SeenSeat) → Serves s a b k l → RefusesOn n k a m l b
     → RefusesOn m l b p o c → RefusesOn n k a p o c
 refuses_then n m p k l o a b c served first next from few all =
     next from (omega (arith, few, serves_longer a b k l served)) (first from few all)
 
 -- the same of the receipts since some seat
-pub refused_since : (n m : ℕ) (k l o : List Message) (a b c : SeenSeat) → Serves a b k l → AreRefused n l (receipts_since a b)
+pub refused_since : {s : Settings} (n m : ℕ) (k l o : List Message) (a b c : SeenSeat) → Serves s a b k l
+    → AreRefused n l (receipts_since a b)
     → RefusesOn n l b m o c → AreRefused m o (receipts_since a c)
 refused_since n m k l o a b c served all next = next (length a.receipts) (serves_longer a b k l served) all
 
 -- how many receipts more there are
-pub served_since : (a b : SeenSeat) (k l : List Message) (xs ys : List Receipt) → Serves a b k l → xs ≡ a.receipts → ys ≡ b.receipts
-    → HasServed a b k l (length ys - length xs)
-served_since a b k l xs ys h before now =
+pub served_since : {s : Settings} (a b : SeenSeat) (k l : List Message) (xs ys : List Receipt) → Serves s a b k l
+    → xs ≡ a.receipts → ys ≡ b.receipts
+    → HasServed s a b k l (length ys - length xs)
+served_since {s} a b k l xs ys h before now =
     let more = ap (λ (c : SeenSeat). length c.receipts) h.1.seat ∙ length-append a.receipts h.1.more in
     let same : h.0 ≡ length ys - length xs = omega (arith, h.1.count_is, more, ap length before, ap length now) in
-    subst (λ (n : ℕ). HasServed a b k l n) same h.1
+    subst (λ (n : ℕ). HasServed s a b k l n) same h.1
 
 -- what holds of any error
 pub on_err : {T E : Type 0} (P : Type 0) (r : Result T E) → P → OnErr r P

@@ -91,14 +91,6 @@ pub record Records (old new : SeenSite) (event : Event) (before now : SeenSeat) 
   pub number_is : number ≡ length now.receipts
   pub posted_is : posted ≡ sent_at old.settings (state_of old) event
 
--- the event was recorded at a site of the configuration, whose history replays: the seat has its receipt, at this
--- number, and the messages are those that this site sends
-pub record IsCall (s : Settings) (event : Event) (before now : SeenSeat) (number : ℕ) (messages : List Message) : Type 0 where
-  pub desk : SeenSite
-  pub settings : desk.settings ≡ s
-  pub replays : Replays s (first_site desk.me) desk.entries
-  pub records : Records desk (stepped desk event) event before now number messages
-
 -- why nothing is recorded, but for running out of memory: the seat is of another site, the history is full, or the seat
 -- is
 abbrev pub CannotRecord : SeenSite → SeenSeat → Type 0
@@ -112,6 +104,25 @@ pub record AtDesk (s : Settings) (P : SeenSite → Type 0) : Type 0 where
   pub replays : Replays s (first_site desk.me) desk.entries
   pub room : length desk.entries ≤ s.limits.history
   pub holds : P desk
+
+-- the event was recorded at a site of the configuration, whose history replays: the seat has its receipt, at this
+-- number, and the messages are those that this site sends
+abbrev pub IsCall : Settings → Event → SeenSeat → SeenSeat → ℕ → List Message → Type 0
+IsCall s event before now number messages =
+    AtDesk s (λ desk. Records desk (stepped desk event) event before now number messages)
+
+-- some item of the list has the property
+abbrev pub Any : {X : Type 0} → (X → Type 0) → List X → Type 0
+Any P [] = ⊥
+Any P (x ∷ xs) = P x ⊎ Any P xs
+
+-- the message is one of these
+abbrev pub IsOneOf : Message → List Message → Type 0
+IsOneOf m kept = Any (λ k. m ≡ k) kept
+
+-- a site of the configuration, whose history replays, sends the message with some event
+abbrev pub IsSiteMessage : Settings → Message → Type 0
+IsSiteMessage s m = AtDesk s (λ desk. (event : Event) × IsOneOf m (sent_at s (state_of desk) event))
 
 -- a site of the configuration, whose history replays, can't record for the seat
 abbrev pub CannotCall : Settings → SeenSeat → Type 0
@@ -156,19 +167,10 @@ IsServed _ = ⊥
 
 -- ---- messages that are kept
 
--- some item of the list has the property
-abbrev pub Any : {X : Type 0} → (X → Type 0) → List X → Type 0
-Any P [] = ⊥
-Any P (x ∷ xs) = P x ⊎ Any P xs
-
 -- whether the reply is that the inbox is full
 abbrev pub is_full_inbox : Reply → Bool
 is_full_inbox (Refused InboxFull) = true
 is_full_inbox _ = false
-
--- the message is one of these
-abbrev pub IsOneOf : Message → List Message → Type 0
-IsOneOf m kept = Any (λ k. m ≡ k) kept
 
 -- one of these receipts says that the message came and was refused, as the inbox was full
 abbrev pub WasRefused : Message → List Receipt → Type 0
@@ -198,12 +200,17 @@ pub record NoneLost (old new : List Message) (receipts : List Receipt) : Type 0 
   pub kept : (m : Message) → IsOneOf m old → IsOneOf m new ⊎ WasReceived m receipts
   pub refused : (m : Message) → WasRefused m receipts → IsOneOf m new ⊎ WasReceived m receipts
 
--- the seat has this number of receipts more, at its end, all of events that serve its site; and no message is lost
--- between these receipts and what the inlet kept before and keeps now
-pub record HasServed (old new : SeenSeat) (before now : List Message) (count : ℕ) : Type 0 where
+-- a message that came, if the receipt is of one, is what a site of the configuration sends
+abbrev pub IsOfSiteMessage : Settings → Receipt → Type 0
+IsOfSiteMessage s r = (m : Message) → r.event ≡ Receive m → IsSiteMessage s m
+
+-- the seat has this number of receipts more, at its end, all of events that serve its site, by messages that sites
+-- send; and no message is lost between these receipts and what the inlet kept before and keeps now
+pub record HasServed (s : Settings) (old new : SeenSeat) (before now : List Message) (count : ℕ) : Type 0 where
   pub more : List Receipt
   pub seat : new ≡ record old { receipts = old.receipts ++ more }
   pub served : All (λ (r : Receipt). IsServed r.event) more
+  pub sent : All (IsOfSiteMessage s) more
   pub count_is : count ≡ length more
   pub none_lost : NoneLost before now more
 

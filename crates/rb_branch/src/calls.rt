@@ -20,14 +20,14 @@ impl<E: Entries, R: Ledger, G: Gate + Drop> Branch<E, R, G> {
         &self,
         rt: &W,
         seat: &mut Seat<E, R>,
-        outbox: &Outbox,
+        outbox: &Outbox<E>,
         request: Request,
     ) -> Result<u32, CallFault>
         ensures ok { IfOk result (λ n. HasOneMore seat.old seat.new (λ e. e ≡ Event.Submit request) n) }
         ensures err { OnErr result (seat.new ≡ seat.old) }
         ensures full { result ≡ Err HistoryFull → CannotCall E.settings seat.old }
     {
-        self.make(rt, seat, Some(outbox), Event::Submit(request))
+        self.send(rt, seat, outbox, Event::Submit(request))
     }
 
     /// A request to cancel an operation.
@@ -35,19 +35,14 @@ impl<E: Entries, R: Ledger, G: Gate + Drop> Branch<E, R, G> {
         &self,
         rt: &W,
         seat: &mut Seat<E, R>,
-        outbox: &Outbox,
+        outbox: &Outbox<E>,
         target: OpName,
     ) -> Result<u32, CallFault>
         ensures ok { IfOk result (λ n. HasOneMore seat.old seat.new (λ e. e ≡ Event.Submit (Request.Cancel target)) n) }
         ensures err { OnErr result (seat.new ≡ seat.old) }
         ensures full { result ≡ Err HistoryFull → CannotCall E.settings seat.old }
     {
-        self.make(
-            rt,
-            seat,
-            Some(outbox),
-            Event::Submit(Request::Cancel { target }),
-        )
+        self.send(rt, seat, outbox, Event::Submit(Request::Cancel { target }))
     }
 
     /// 1 to `MOST_REQUESTS` requests, of which all are made or none.
@@ -55,14 +50,14 @@ impl<E: Entries, R: Ledger, G: Gate + Drop> Branch<E, R, G> {
         &self,
         rt: &W,
         seat: &mut Seat<E, R>,
-        outbox: &Outbox,
+        outbox: &Outbox<E>,
         requests: List<Request>,
     ) -> Result<u32, CallFault>
         ensures ok { IfOk result (λ n. HasOneMore seat.old seat.new (λ e. e ≡ Event.Batch requests) n) }
         ensures err { OnErr result (seat.new ≡ seat.old) }
         ensures full { result ≡ Err HistoryFull → CannotCall E.settings seat.old }
     {
-        self.make(rt, seat, Some(outbox), Event::Batch(requests))
+        self.send(rt, seat, outbox, Event::Batch(requests))
     }
 
     /// The token is to go to the site of this number.
@@ -70,14 +65,14 @@ impl<E: Entries, R: Ledger, G: Gate + Drop> Branch<E, R, G> {
         &self,
         rt: &W,
         seat: &mut Seat<E, R>,
-        outbox: &Outbox,
+        outbox: &Outbox<E>,
         to: u8,
     ) -> Result<u32, CallFault>
         ensures ok { IfOk result (λ n. HasOneMore seat.old seat.new (λ e. e ≡ Event.Pass to) n) }
         ensures err { OnErr result (seat.new ≡ seat.old) }
         ensures full { result ≡ Err HistoryFull → CannotCall E.settings seat.old }
     {
-        self.make(rt, seat, Some(outbox), Event::Pass(to))
+        self.send(rt, seat, outbox, Event::Pass(to))
     }
 
     /// One event. Its messages go out by the outbox once the site's lock is released.
@@ -85,22 +80,7 @@ impl<E: Entries, R: Ledger, G: Gate + Drop> Branch<E, R, G> {
         &self,
         rt: &W,
         seat: &mut Seat<E, R>,
-        outbox: &Outbox,
-        event: Event,
-    ) -> Result<u32, CallFault>
-        ensures ok { IfOk result (λ n. HasOneMore seat.old seat.new (λ e. e ≡ event) n) }
-        ensures err { OnErr result (seat.new ≡ seat.old) }
-        ensures full { result ≡ Err HistoryFull → CannotCall E.settings seat.old }
-    {
-        self.make(rt, seat, Some(outbox), event)
-    }
-
-    /// One event. Its messages go out by the outbox, if there is one, once the site's lock is released.
-    fn make<W: Wait>(
-        &self,
-        rt: &W,
-        seat: &mut Seat<E, R>,
-        outbox: Option<&Outbox>,
+        outbox: &Outbox<E>,
         event: Event,
     ) -> Result<u32, CallFault>
         ensures ok { IfOk result (λ n. HasOneMore seat.old seat.new (λ e. e ≡ event) n) }
@@ -108,11 +88,18 @@ impl<E: Entries, R: Ledger, G: Gate + Drop> Branch<E, R, G> {
         ensures full { result ≡ Err HistoryFull → CannotCall E.settings seat.old }
     {
         let (number, posted) = self.call(rt, seat, event)?;
-        let Some(outbox) = outbox else {
-            return Ok(number);
-        };
         let unsent = outbox.post(rt, seat.site(), self.sites(), posted.as_slice());
         seat.set_unsent(unsent);
+        Ok(number)
+    }
+
+    /// One event that sends nothing.
+    fn ask<W: Wait>(&self, rt: &W, seat: &mut Seat<E, R>, event: Event) -> Result<u32, CallFault>
+        ensures ok { IfOk result (λ n. HasOneMore seat.old seat.new (λ e. e ≡ event) n) }
+        ensures err { OnErr result (seat.new ≡ seat.old) }
+        ensures full { result ≡ Err HistoryFull → CannotCall E.settings seat.old }
+    {
+        let (number, _posted) = self.call(rt, seat, event)?;
         Ok(number)
     }
 
@@ -127,7 +114,7 @@ impl<E: Entries, R: Ledger, G: Gate + Drop> Branch<E, R, G> {
         ensures err { OnErr result (seat.new ≡ seat.old) }
         ensures full { result ≡ Err HistoryFull → CannotCall E.settings seat.old }
     {
-        self.make(rt, seat, None, Event::Receive(message))
+        self.ask(rt, seat, Event::Receive(message))
     }
 
     /// A question for an account's balance.
@@ -141,7 +128,7 @@ impl<E: Entries, R: Ledger, G: Gate + Drop> Branch<E, R, G> {
         ensures err { OnErr result (seat.new ≡ seat.old) }
         ensures full { result ≡ Err HistoryFull → CannotCall E.settings seat.old }
     {
-        self.make(rt, seat, None, Event::Balance(place))
+        self.ask(rt, seat, Event::Balance(place))
     }
 
     /// A question for an account's balance after this number of the site's operations.
@@ -156,7 +143,7 @@ impl<E: Entries, R: Ledger, G: Gate + Drop> Branch<E, R, G> {
         ensures err { OnErr result (seat.new ≡ seat.old) }
         ensures full { result ≡ Err HistoryFull → CannotCall E.settings seat.old }
     {
-        self.make(rt, seat, None, Event::AsOf(place, position))
+        self.ask(rt, seat, Event::AsOf(place, position))
     }
 
     /// A question for an account's statement.
@@ -170,6 +157,6 @@ impl<E: Entries, R: Ledger, G: Gate + Drop> Branch<E, R, G> {
         ensures err { OnErr result (seat.new ≡ seat.old) }
         ensures full { result ≡ Err HistoryFull → CannotCall E.settings seat.old }
     {
-        self.make(rt, seat, None, Event::Statement(place))
+        self.ask(rt, seat, Event::Statement(place))
     }
 }

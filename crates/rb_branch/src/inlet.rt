@@ -2,10 +2,12 @@
 //!
 //! Memory for a message is taken before it leaves its link, so that running out of memory loses none. The inlet keeps
 //! what finds the inbox full. All of it is received again after each application, as a later one may be ready first.
-ghost use Rattle.std.specs.Prelude.{◌≡◌, ◌<◌, ◌++◌, ◌∷◌, [], IfOk, MatchBool, OnErr, Some, length, slice_get};
+ghost use Rattle.std.specs.Prelude.{◌≡◌, ◌<◌, ◌++◌, ◌∷◌, [], IfOk, IfSome, MatchBool, OnErr, Some, length, slice_get};
 ghost use Rattle.std.specs.List.{remove};
+ghost use Rattle.rb_branch.specs.Seats.{IsSiteMessage};
 ghost use Rattle.rb_site.specs.declared.message.Message.{Message as MessageOf};
 
+use crate::{Entries, Letter};
 use crossbeam_channel::Receiver;
 use rb_site::Message;
 use std::alloc::{AllocError, Global};
@@ -15,12 +17,12 @@ use std::sync::Wait;
 /// The receiving end of a site's link. It keeps what was taken from the link until its site has received it; what
 /// finds the inbox full stays. Clients see what it keeps, in the order in which it was taken.
 #[derive(Drop)]
-pub struct Inlet {
-    link: Receiver<Message>,
-    kept: Vec<Message>,
+pub struct Inlet<E: Entries> {
+    link: Receiver<Letter<E>>,
+    kept: Vec<Letter<E>>,
 }
 
-impl Model for Inlet {
+impl<E: Entries> Model for Inlet<E> {
     ghost use Rattle.std.specs.Prelude.{List};
     ghost use Rattle.rb_site.specs.declared.message.Message.{Message};
 
@@ -29,9 +31,9 @@ impl Model for Inlet {
     ghost view = { λ inlet. inlet.kept.items };
 }
 
-impl Inlet {
+impl<E: Entries> Inlet<E> {
     /// The end of this link, which keeps nothing.
-    pub(crate) fn new(alloc: Global, link: Receiver<Message>) -> Inlet
+    pub(crate) fn new(alloc: Global, link: Receiver<Letter<E>>) -> Inlet<E>
         ensures { result ≡ [] }
     {
         Inlet {
@@ -43,13 +45,17 @@ impl Inlet {
     /// The next message of the link, once there is one, which isn't kept. `None` once every outbox is dropped
     /// and nothing is left in the link.
     pub fn next<W: Wait>(&mut self, rt: &W) -> Option<Message>
-        ensures { self.new ≡ self.old }
+        ensures same { self.new ≡ self.old }
+        ensures sent { IfSome result (IsSiteMessage E.settings) }
     {
-        self.link.recv(rt).ok()
+        match self.link.recv(rt) {
+            Ok(letter) => Some(letter.message()),
+            Err(_) => None,
+        }
     }
 
-    /// The messages that it keeps.
-    pub fn kept(&self) -> &[Message]
+    /// The letters that it keeps.
+    pub fn kept(&self) -> &[Letter<E>]
         ensures { result.now ≡ self.now }
     {
         self.kept.as_slice()
@@ -63,10 +69,10 @@ impl Inlet {
         ensures err { OnErr result (self.new ≡ self.old) }
     {
         self.kept.reserve(1)?;
-        let Ok(message) = self.link.recv(rt) else {
+        let Ok(letter) = self.link.recv(rt) else {
             return Ok(false);
         };
-        self.kept.push_reserved(message);
+        self.kept.push_reserved(letter);
         Ok(true)
     }
 
@@ -88,9 +94,10 @@ impl Inlet {
     /// The kept message at this index, from 0.
     pub(crate) fn message(&self, index: usize) -> Message
         requires { index < length self.now }
-        ensures { slice_get self.now index ≡ Some result }
+        ensures at { slice_get self.now index ≡ Some result }
+        ensures sent { IsSiteMessage E.settings result }
     {
-        self.kept[index]
+        self.kept[index].message()
     }
 
     /// Keeps the message at this index, from 0, no longer.

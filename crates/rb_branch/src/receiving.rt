@@ -19,10 +19,10 @@ pub(crate) fn serve_step<E: Entries, R: Ledger, W: Wait>(
     desk: &mut Desk<E>,
     seat: &mut Seat<E, R>,
     books: &Mutex<Books<E, R>>,
-    inlet: &mut Inlet,
+    inlet: &mut Inlet<E>,
     first: usize,
 ) -> Result<Option<usize>, CallFault>
-    ensures served { (n : ℕ) × HasServed seat.old seat.new inlet.old inlet.new n }
+    ensures served { (n : ℕ) × HasServed E.settings seat.old seat.new inlet.old inlet.new n }
     ensures some { IfOk result (λ o. IfSome o (λ next. RefusesOn first inlet.old seat.old next inlet.new seat.new)) }
     ensures none { IfOk result
         (λ o. IfNone o (RefusesOn first inlet.old seat.old (length inlet.new) inlet.new seat.new)) }
@@ -45,10 +45,10 @@ fn receive_from<E: Entries, R: Ledger, W: Wait>(
     desk: &mut Desk<E>,
     seat: &mut Seat<E, R>,
     books: &Mutex<Books<E, R>>,
-    inlet: &mut Inlet,
+    inlet: &mut Inlet<E>,
     first: usize,
 ) -> Result<(), CallFault>
-    ensures served { (n : ℕ) × HasServed seat.old seat.new inlet.old inlet.new n }
+    ensures served { (n : ℕ) × HasServed E.settings seat.old seat.new inlet.old inlet.new n }
     ensures refused { OnOk result (RefusesOn first inlet.old seat.old (length inlet.new) inlet.new seat.new) }
 {
     let mut index = first;
@@ -65,12 +65,12 @@ fn receive_at<E: Entries, R: Ledger, W: Wait>(
     desk: &mut Desk<E>,
     seat: &mut Seat<E, R>,
     books: &Mutex<Books<E, R>>,
-    inlet: &mut Inlet,
+    inlet: &mut Inlet<E>,
     index: usize,
 ) -> Result<usize, CallFault>
     requires within { index < length inlet.old }
     requires fits { index + 1 < 2 ^ 64 }
-    ensures served { (n : ℕ) × HasServed seat.old seat.new inlet.old inlet.new n }
+    ensures served { (n : ℕ) × HasServed E.settings seat.old seat.new inlet.old inlet.new n }
     ensures refused { IfOk result (λ next. RefusesOn index inlet.old seat.old next inlet.new seat.new) }
     ensures fewer { IfOk result (λ next. length inlet.new + index < length inlet.old + next) }
 {

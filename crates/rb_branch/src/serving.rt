@@ -25,11 +25,12 @@ impl<E: Entries, R: Ledger, G: Gate + Drop> Branch<E, R, G> {
         &self,
         rt: &W,
         seat: &mut Seat<E, R>,
-        inlet: Inlet,
+        inlet: Inlet<E>,
     ) -> Result<u64, CallFault>
-        ensures ok { IfOk result (λ n. (left : List MessageOf) × HasServed seat.old seat.new inlet left n
+        ensures ok { IfOk result (λ n. (left : List MessageOf) × HasServed E.settings seat.old seat.new inlet left n
             × AreRefused (length left) left (receipts_since seat.old seat.new)) }
-        ensures err { OnErr result ((left : List MessageOf) × (n : ℕ) × HasServed seat.old seat.new inlet left n) }
+        ensures err { OnErr result
+            ((left : List MessageOf) × (n : ℕ) × HasServed E.settings seat.old seat.new inlet left n) }
     {
         let mut inlet = inlet;
         self.serve_from(rt, seat, &mut inlet)
@@ -43,11 +44,11 @@ impl<E: Entries, R: Ledger, G: Gate + Drop> Branch<E, R, G> {
         &self,
         rt: &W,
         seat: &mut Seat<E, R>,
-        inlet: &mut Inlet,
+        inlet: &mut Inlet<E>,
     ) -> Result<u64, CallFault>
-        ensures ok { IfOk result (λ n. HasServed seat.old seat.new inlet.old inlet.new n) }
+        ensures ok { IfOk result (λ n. HasServed E.settings seat.old seat.new inlet.old inlet.new n) }
         ensures refused { OnOk result (AreRefused (length inlet.new) inlet.new (receipts_since seat.old seat.new)) }
-        ensures err { OnErr result ((n : ℕ) × HasServed seat.old seat.new inlet.old inlet.new n) }
+        ensures err { OnErr result ((n : ℕ) × HasServed E.settings seat.old seat.new inlet.old inlet.new n) }
     {
         let before = seat.receipts().len();
         self.serve_all(rt, seat, inlet)?;
@@ -59,9 +60,9 @@ impl<E: Entries, R: Ledger, G: Gate + Drop> Branch<E, R, G> {
         &self,
         rt: &W,
         seat: &mut Seat<E, R>,
-        inlet: &mut Inlet,
+        inlet: &mut Inlet<E>,
     ) -> Result<(), CallFault>
-        ensures served { (n : ℕ) × HasServed seat.old seat.new inlet.old inlet.new n }
+        ensures served { (n : ℕ) × HasServed E.settings seat.old seat.new inlet.old inlet.new n }
         ensures refused { OnOk result (AreRefused (length inlet.new) inlet.new (receipts_since seat.old seat.new)) }
     {
         let mut first: usize = 0;
@@ -81,10 +82,10 @@ impl<E: Entries, R: Ledger, G: Gate + Drop> Branch<E, R, G> {
         &self,
         rt: &W,
         seat: &mut Seat<E, R>,
-        inlet: &mut Inlet,
+        inlet: &mut Inlet<E>,
         first: usize,
     ) -> Result<Option<usize>, CallFault>
-        ensures served { (n : ℕ) × HasServed seat.old seat.new inlet.old inlet.new n }
+        ensures served { (n : ℕ) × HasServed E.settings seat.old seat.new inlet.old inlet.new n }
         ensures some { IfOk result
             (λ o. IfSome o (λ next. RefusesOn first inlet.old seat.old next inlet.new seat.new)) }
         ensures none { IfOk result
@@ -112,11 +113,11 @@ impl<E: Entries, R: Ledger, G: Gate + Drop> Branch<E, R, G> {
         rt: &W,
         site: u8,
         seat: &mut Seat<E, R>,
-        inlet: &mut Inlet,
+        inlet: &mut Inlet<E>,
         first: usize,
     ) -> Result<Option<usize>, CallFault>
         requires { site < E.settings.sites }
-        ensures served { (n : ℕ) × HasServed seat.old seat.new inlet.old inlet.new n }
+        ensures served { (n : ℕ) × HasServed E.settings seat.old seat.new inlet.old inlet.new n }
         ensures some { IfOk result
             (λ o. IfSome o (λ next. RefusesOn first inlet.old seat.old next inlet.new seat.new)) }
         ensures none { IfOk result

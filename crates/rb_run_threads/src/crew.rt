@@ -58,7 +58,7 @@ impl<
     /// A thread for each teller, counted from 0: each at the next site, with the next first number.
     fn hire_tellers(
         &self,
-        outbox: &Outbox,
+        outbox: &Outbox<E>,
         tellers: u8,
         seed: u32,
     ) -> Result<Vec<TellerHandle<E, R>>, TellersFault>
@@ -78,7 +78,7 @@ impl<
     /// The thread of the teller of this number, with a seat and an outbox of its own.
     fn hire_teller(
         &self,
-        outbox: &Outbox,
+        outbox: &Outbox<E>,
         t: u8,
         seed: u32,
     ) -> Result<TellerHandle<E, R>, TellersFault>
@@ -94,7 +94,10 @@ impl<
     }
 
     /// A serving thread for each site, in order.
-    fn hire_servers(&self, mut inlets: Vec<Inlet>) -> Result<Vec<ServerHandle<E, R>>, TellersFault>
+    fn hire_servers(
+        &self,
+        mut inlets: Vec<Inlet<E>>,
+    ) -> Result<Vec<ServerHandle<E, R>>, TellersFault>
         requires { vec_len inlets ≡ self.now.sites }
         ensures len { IfOk result (λ v. vec_len v ≡ self.now.sites) }
         ensures each { IfOk result (λ v. (k : ℕ) (h : _) → slice_get v.items k ≡ Some h
@@ -110,7 +113,7 @@ impl<
     }
 
     /// The serving thread of a site, with a seat of its own.
-    fn hire_server(&self, site: u8, inlet: Inlet) -> Result<ServerHandle<E, R>, TellersFault>
+    fn hire_server(&self, site: u8, inlet: Inlet<E>) -> Result<ServerHandle<E, R>, TellersFault>
         requires { site < self.now.sites }
         ensures { IfOk result (λ h. h.promise ≡ record { site = site }) }
     {
@@ -124,7 +127,7 @@ impl<
     fn start_teller(
         &self,
         seat: Seat<E, R>,
-        outbox: Outbox,
+        outbox: Outbox<E>,
         first: u64,
     ) -> Result<TellerHandle<E, R>, TellersFault>
         requires fresh { seat.receipts ≡ [] }
@@ -147,7 +150,7 @@ impl<
     fn start_server(
         &self,
         seat: Seat<E, R>,
-        inlet: Inlet,
+        inlet: Inlet<E>,
     ) -> Result<ServerHandle<E, R>, TellersFault>
         requires { seat.receipts ≡ [] }
         ensures { IfOk result (λ h. h.promise ≡ record { site = seat.site }) }

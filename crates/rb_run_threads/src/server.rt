@@ -13,7 +13,7 @@ pub(crate) fn attend<E: Entries, R: Ledger, G: Gate + Drop, W: Wait>(
     rt: &W,
     branch: &Branch<E, R, G>,
     mut seat: Seat<E, R>,
-    inlet: Inlet,
+    inlet: Inlet<E>,
 ) -> Result<Seat<E, R>, CallFault>
     requires { seat.receipts ≡ [] }
     ensures { IfOk result (IsServer seat.site) }

@@ -29,7 +29,7 @@ pub(crate) fn make_calls<E: Entries, R: Ledger, G: Gate + Drop, W: Wait>(
     rt: &W,
     branch: &Branch<E, R, G>,
     mut seat: Seat<E, R>,
-    outbox: Outbox,
+    outbox: Outbox<E>,
     first: u64,
     sites: u8,
 ) -> Result<Seat<E, R>, CallFault>

@@ -105,7 +105,7 @@ pub fn deposited<E: Entries, R: Ledger, G: Gate + Drop, W: Wait>(
     rt: &W,
     branch: &Branch<E, R, G>,
     seat: &mut Seat<E, R>,
-    outbox: &Outbox,
+    outbox: &Outbox<E>,
     cents: u64,
 ) -> Result<u32, CallFault> {
     branch.submit(rt, seat, outbox, deposit(cents))
@@ -139,7 +139,7 @@ pub fn balance_is<E: Entries, R: Ledger, G: Gate + Drop, W: Wait + Abort>(
 }
 
 /// Links of two sites, of which site 1's is read.
-pub fn to_the_second(alloc: Global) -> Result<(Outbox, Inlet), Fail> {
+pub fn to_the_second<E: Entries>(alloc: Global) -> Result<(Outbox<E>, Inlet<E>), Fail> {
     let (outbox, mut inlets) = links(alloc, 2)?;
     let inlet = inlets.pop().ok_or("no inlet")?;
     Ok((outbox, inlet))
@@ -150,7 +150,7 @@ pub fn served_by<E: Entries, R: Ledger, G: Gate + Drop, W: Wait>(
     rt: &W,
     branch: &Branch<E, R, G>,
     seat: &mut Seat<E, R>,
-    inlet: Inlet,
+    inlet: Inlet<E>,
 ) -> Result<u64, CallFault> {
     branch.serve(rt, seat, inlet)
 }

@@ -1,16 +1,18 @@
 //! Copies of what can be copied, and a site that is made from its history.
 ghost use Rattle.std.specs.Prelude.{◌<◌};
 
+use crate::branch::{Case, alone, gathered, some_sites, to_the_second};
 use crate::checks::{equal, holds};
-use rb_branch::links;
+use rb_branch::{Branch, Entries, Gate, NoGate, Seat};
 use rb_history::{read_command, read_config, read_line};
-use rb_money::Config;
+use rb_money::{Config, Limits};
 use rb_site::{Entry, Message, Site};
 use rb_tests::rows::row_named;
 use rb_token::TokenMessage;
 use std::alloc::{AllocError, Global};
 use std::process::Abort;
 use std::sync::Wait;
+use std::sync::ledger::Ledger;
 use std::test::Fail;
 
 /// The entries of site 0 as it makes a deposit.
@@ -53,19 +55,36 @@ fn is_command_copied(alloc: Global, config: &Config, line: &str) -> Result<bool,
     Ok(command.same(&command.try_copy(alloc)?))
 }
 
-/// A message that is sent by a copy of an outbox comes to the site that it is for.
-fn outbox_copied<W: Wait + Abort>(rt: &W, alloc: Global) -> Result<(), Fail> {
-    let (outbox, mut inlets) = links(alloc, 2)?;
-    let copy = outbox.try_copy(alloc)?;
-    drop(outbox);
-    let token = Message::Token(TokenMessage {
-        epoch: 1,
-        to: 1,
-        red: 0,
-    });
-    equal(rt, copy.post(rt, 0, 2, [token].as_slice()), 0);
-    let mut inlet = inlets.pop().ok_or("no inlet")?;
-    holds(rt, "it came", inlet.next(rt) == Some(token));
+/// The token, which goes by a copy of an outbox.
+struct ByCopy;
+
+impl Case for ByCopy {
+    fn calls<E: Entries, R: Ledger, G: Gate + Drop, W: Wait + Abort + Print>(
+        &self,
+        rt: &W,
+        alloc: Global,
+        branch: &Branch<E, R, G>,
+    ) -> Result<Vec<Seat<E, R>>, Fail> {
+        let (outbox, mut inlet) = to_the_second(alloc)?;
+        let copy = outbox.try_copy(alloc)?;
+        drop(outbox);
+        let mut seat = branch.seat(rt, 0)?;
+        let _number = branch.pass(rt, &mut seat, &copy, 1)?;
+        let token = Message::Token(TokenMessage {
+            epoch: 1,
+            to: 1,
+            red: 0,
+        });
+        holds(rt, "it came", inlet.next(rt) == Some(token));
+        alone(alloc, seat)
+    }
+}
+
+#[test]
+fn outbox_copied(rt: HostRuntime) -> Result<(), Fail> {
+    let config = some_sites(rt.alloc(), 2, Limits::largest())?;
+    let reports = gathered(&rt, rt.alloc(), config, NoGate, &ByCopy)??;
+    equal(&rt, reports.len(), 2);
     Ok(())
 }
 
@@ -101,5 +120,5 @@ fn copies(rt: HostRuntime) -> Result<(), Fail> {
     }
     let away = entries_of(alloc, &config, AWAY)?;
     holds(&rt, AWAY, is_replayed(alloc, &config, away.as_slice())?);
-    outbox_copied(&rt, alloc)
+    Ok(())
 }

@@ -114,7 +114,7 @@ fn asked_and_deposited<E: Entries, R: Ledger, G: Gate + Drop, W: Wait>(
     rt: &W,
     branch: &Branch<E, R, G>,
     mut seat: Seat<E, R>,
-    outbox: &Outbox,
+    outbox: &Outbox<E>,
 ) -> Result<Seat<E, R>, CallFault> {
     let _number = asked(rt, branch, &mut seat)?;
     many_deposits(rt, branch, seat, outbox)
@@ -127,7 +127,7 @@ fn asked_meanwhile<E: Entries, R: Ledger, G: Gate + Drop, W: Wait + Clock>(
     branch: &Branch<E, R, G>,
     mut other: Seat<E, R>,
     mut second: Seat<E, R>,
-    outbox: &Outbox,
+    outbox: &Outbox<E>,
     signs: &Signs,
 ) -> Result<(Seat<E, R>, Seat<E, R>), CallFault> {
     signs.wants(rt, &signs.held);

@@ -72,7 +72,7 @@ fn number_of(message: &Message) -> u32 {
 }
 
 /// Whether a link brings these to its end, and no more.
-fn brings<W: Wait>(rt: &W, inlet: &mut Inlet, wanted: &[u32]) -> bool {
+fn brings<E: Entries, W: Wait>(rt: &W, inlet: &mut Inlet<E>, wanted: &[u32]) -> bool {
     for number in wanted {
         match inlet.next(rt) {
             Some(message) if number_of(&message) == *number => {}
@@ -87,7 +87,7 @@ fn three_calls<E: Entries, R: Ledger, G: Gate + Drop, W: Wait>(
     rt: &W,
     branch: &Branch<E, R, G>,
     seat: &mut Seat<E, R>,
-    outbox: &Outbox,
+    outbox: &Outbox<E>,
     two: Vec<Request>,
 ) -> Result<u32, CallFault> {
     let _first = deposited(rt, branch, seat, outbox, 1)?;
@@ -97,7 +97,12 @@ fn three_calls<E: Entries, R: Ledger, G: Gate + Drop, W: Wait>(
 
 impl SentCase {
     /// The receipts and the links are as they should be.
-    fn shows<W: Wait + Abort>(&self, rt: &W, receipts: &[Receipt], inlets: &mut [Inlet]) {
+    fn shows<E: Entries, W: Wait + Abort>(
+        &self,
+        rt: &W,
+        receipts: &[Receipt],
+        inlets: &mut [Inlet<E>],
+    ) {
         for (receipt, unsent) in receipts.iter().zip(self.unsent) {
             equal(rt, receipt.unsent, unsent);
         }

@@ -34,8 +34,8 @@ macro_rules! twice {
 #[derive(Drop)]
 struct Desks<E: Entries, R: Ledger> {
     seats: Vec<Seat<E, R>>,
-    outbox: Outbox,
-    inlets: Vec<Inlet>,
+    outbox: Outbox<E>,
+    inlets: Vec<Inlet<E>>,
     sent: Vec<Message>,
     /// A link refused a message, which it does only if memory is refused. Those after it have other numbers.
     lost: bool,
@@ -47,7 +47,7 @@ fn called<E: Entries, R: Ledger, G: Gate + Drop, W: Wait>(
     rt: &W,
     branch: &Branch<E, R, G>,
     seat: &mut Seat<E, R>,
-    outbox: &Outbox,
+    outbox: &Outbox<E>,
     event: Event,
 ) -> Result<Option<u32>, CallFault> {
     let number = match event {
@@ -74,7 +74,12 @@ fn sent_with(reply: &Reply) -> usize {
 }
 
 /// Takes in what a link brought with a reply. Whether all came.
-fn take_in<W: Wait>(rt: &W, inlet: &mut Inlet, sent: &mut Vec<Message>, reply: &Reply) -> bool {
+fn take_in<E: Entries, W: Wait>(
+    rt: &W,
+    inlet: &mut Inlet<E>,
+    sent: &mut Vec<Message>,
+    reply: &Reply,
+) -> bool {
     for _i in 0..sent_with(reply) {
         let Some(message) = inlet.next(rt) else {
             return false;

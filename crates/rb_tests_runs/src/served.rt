@@ -1,9 +1,9 @@
 //! A server for which many messages wait, and the gate of its site; and one to which they come in turned order.
 use crate::branch::{Case, balance_is, deposited, gathered, served_by, some_sites, to_the_second};
-use crate::checks::{equal, holds};
+use crate::checks::equal;
 use crate::flags::Count;
 use crate::threads::{DEPOSITS, many_deposits};
-use rb_branch::{Branch, Entries, Gate, Inlet, NoGate, Outbox, Seat};
+use rb_branch::{Branch, Entries, Gate, Inlet, NoGate, Seat};
 use rb_money::Limits;
 use std::alloc::Global;
 use std::process::Abort;
@@ -40,7 +40,7 @@ fn served_from<E: Entries, R: Ledger, G: Gate + Drop, W: Wait + Abort>(
     alloc: Global,
     branch: &Branch<E, R, G>,
     teller: Seat<E, R>,
-    inlet: Inlet,
+    inlet: Inlet<E>,
     wanted: (u64, u64),
 ) -> Result<Vec<Seat<E, R>>, Fail> {
     let mut server = branch.seat(rt, 1)?;
@@ -90,16 +90,8 @@ fn served(rt: HostRuntime) -> Result<(), Fail> {
     Ok(())
 }
 
-/// Two messages of a link are sent again in turned order. Whether they are.
-fn turn<W: Wait>(rt: &W, outbox: &Outbox, inlet: &mut Inlet) -> bool {
-    match (inlet.next(rt), inlet.next(rt)) {
-        (Some(first), Some(second)) => outbox.post(rt, 0, 2, [second, first].as_slice()) == 0,
-        _ => false,
-    }
-}
-
-/// Two deposits at site 0, which come to site 1 in turned order: none is ready after the first, and both are after the
-/// second.
+/// Two deposits at site 0, each by a link of its own, which come to site 1 in turned order: none is ready after the
+/// first, and both are after the second.
 struct Turned;
 
 impl Case for Turned {
@@ -109,13 +101,17 @@ impl Case for Turned {
         alloc: Global,
         branch: &Branch<E, R, G>,
     ) -> Result<Vec<Seat<E, R>>, Fail> {
-        let (outbox, mut inlet) = to_the_second(alloc)?;
+        let (first, late) = to_the_second(alloc)?;
+        let (second, early) = to_the_second(alloc)?;
         let mut teller = branch.seat(rt, 0)?;
-        let _first = deposited(rt, branch, &mut teller, &outbox, 1)?;
-        let _second = deposited(rt, branch, &mut teller, &outbox, 2)?;
-        holds(rt, "turned", turn(rt, &outbox, &mut inlet));
-        drop(outbox);
-        served_from(rt, alloc, branch, teller, inlet, (4, 3))
+        let _first = deposited(rt, branch, &mut teller, &first, 1)?;
+        let _second = deposited(rt, branch, &mut teller, &second, 2)?;
+        drop((first, second));
+        let mut server = branch.seat(rt, 1)?;
+        equal(rt, served_by(rt, branch, &mut server, early).ok(), Some(1));
+        let mut seats = served_from(rt, alloc, branch, teller, late, (3, 3))?;
+        seats.push(server)?;
+        Ok(seats)
     }
 }
 

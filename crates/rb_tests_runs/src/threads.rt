@@ -73,7 +73,7 @@ pub fn many_deposits<E: Entries, R: Ledger, G: Gate + Drop, W: Wait>(
     rt: &W,
     branch: &Branch<E, R, G>,
     mut seat: Seat<E, R>,
-    outbox: &Outbox,
+    outbox: &Outbox<E>,
 ) -> Result<Seat<E, R>, CallFault> {
     for _i in 0..DEPOSITS {
         let _number = deposited(rt, branch, &mut seat, outbox, 1)?;

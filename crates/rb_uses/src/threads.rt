@@ -111,7 +111,7 @@ fn serve<E: Entries, R: Ledger, W: Wait>(
     rt: &W,
     branch: &Branch<E, R, NoGate>,
     mut seat: Seat<E, R>,
-    inlet: Inlet,
+    inlet: Inlet<E>,
 ) -> Result<Seat<E, R>, CallFault>
     requires { seat ≡ record { site = 1; receipts = [] } }
     ensures { IfOk result IsAttendant }
@@ -125,7 +125,7 @@ fn deposit<E: Entries, R: Ledger, W: Wait>(
     rt: &W,
     branch: &Branch<E, R, NoGate>,
     mut seat: Seat<E, R>,
-    outbox: Outbox,
+    outbox: Outbox<E>,
     amount: u64,
 ) -> Result<Seat<E, R>, CallFault>
     requires { seat ≡ record { site = 0; receipts = [] } }

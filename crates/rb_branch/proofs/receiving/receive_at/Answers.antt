@@ -12,14 +12,14 @@ pub returns-then-found_full-clause-served : goal.returns-then-found_full-clause-
 returns-then-found_full-clause-served g c =
     let one =
     records_one _ _ _ c.args.seat.now c.record.new.seat _ _ (λ e. e ≡ Receive c.message-message.result) c.in_ok-_made.ensures.ok refl in
-    (1, served_refused _ _ _ c.args.index _ c.message-message.result c.message-message.ensures one)
+    (1, served_refused _ _ _ c.args.index _ c.message-message.result c.message-message.ensures.at c.message-message.ensures.sent one)
 
 pub returns-then-found_full-clause-refused : goal.returns-then-found_full-clause-refused
 returns-then-found_full-clause-refused g c =
     let one =
     records_one _ _ _ c.args.seat.now c.record.new.seat _ _ (λ e. e ≡ Receive c.message-message.result) c.in_ok-_made.ensures.ok refl in
     refuses_next c.args.index _ c.args.inlet.now c.args.seat.now c.record.new.seat c.message-message.result c.found_full.result
-    c.message-message.ensures one c.found_full.ensures c.if-found_full.true
+    c.message-message.ensures.at one c.found_full.ensures c.if-found_full.true
 
 pub returns-clause-refused : goal.returns-clause-refused
 returns-clause-refused g c =
@@ -33,8 +33,8 @@ returns-clause-served g c =
     let one =
     records_one _ _ _ c.args.seat.now c.record.new.seat _ _ (λ e. e ≡ Receive c.message-message.result) c.in_ok-_made.ensures.ok refl in (
       1,
-      served_received _ _ _ _ c.args.index _ c.message-message.result c.found_full.result c.message-message.ensures one
-          c.found_full.ensures c.if-found_full.false c.let_go.ensures,
+      served_received _ _ _ _ c.args.index _ c.message-message.result c.found_full.result c.message-message.ensures.at
+          c.message-message.ensures.sent one c.found_full.ensures c.if-found_full.false c.let_go.ensures,
     )
 
 pub returns-clause-fewer : goal.returns-clause-fewer

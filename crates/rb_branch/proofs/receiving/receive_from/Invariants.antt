@@ -5,7 +5,7 @@ use Rattle.rb_branch.proofs.receiving.receive_from.Given as goal
 
 abbrev pub invariant-loop-index : goal.invariant-loop-index
 invariant-loop-index g l = record {
-  served : Serves l.initial.seat l.seat l.initial.inlet l.inlet;
+  served : Serves g.E.Entries.settings l.initial.seat l.seat l.initial.inlet l.inlet;
   front : RefusesOn l.initial.index l.initial.inlet l.initial.seat l.index l.inlet l.seat;
 }
 

@@ -6,6 +6,6 @@ abbrev pub invariant-loop : goal.invariant-loop
 invariant-loop g l = record {
   next : (goal.iterator-loop g).can_next l.iterator';
   finite : (goal.iterator-loop g).is_finite l.iterator';
-  served : Serves l.initial.seat l.seat l.initial.inlet l.inlet;
+  served : Serves g.E.Entries.settings l.initial.seat l.seat l.initial.inlet l.inlet;
   front : AreRefused l.first l.inlet (receipts_since l.initial.seat l.seat);
 }
