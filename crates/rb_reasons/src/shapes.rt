@@ -4,8 +4,8 @@ use crate::Expected;
 use crate::shapes::Role::{Elsewhere, Free, If, Named, Needed, One, Other, Stray};
 use rb_history::BankName;
 use rb_money::{
-    Config, MOST_BLUE, MOST_CENTS, MOST_EPOCH, MOST_HISTORY, MOST_INBOX, MOST_RED, MOST_SITES,
-    MOST_SITES_OF_VERSION_1, Refusal,
+    Config, MOST_BLUE, MOST_CENTS, MOST_EPOCH, MOST_HISTORY, MOST_INBOX, MOST_RATE, MOST_RED,
+    MOST_SITES, MOST_SITES_OF_VERSION_1, Refusal,
 };
 
 /// What a value has to be, with its name: a number of the first range, of which a line may have the second, and a bank
@@ -91,7 +91,7 @@ macro_rules! shape {
     (MOVED) => { shape!("what a row moved", i64::MIN, i64::MAX as u64) };
     (PASSED_TO) => { Shape::Site("the site that the token is passed to") };
     (POSITION) => { shape!("a position", 0, WORD) };
-    (RATE) => { shape!("a rate in basis points", 0, WORD) };
+    (RATE) => { Shape::Number("a rate in basis points", (0, MOST_RATE as u64), (0, WORD)) };
     (RED) => { shape!("the number of red operations", 0, WORD) };
     (REDS) => { shape!("the limit red", 1, MOST_RED as u64) };
     (SENT) => { Shape::Number("an amount in cents", (0, MOST_CENTS), (0, u64::MAX)) };
@@ -176,6 +176,7 @@ const COMMAND: Shape = object!["a command";
         [shadow SHADOW],
     Stray("\"token\" is in histories alone; in a script \"deliver\" brings a message, by its number") => [token TOKEN],
     Stray("ids are for `rbbank site`") => [id ID],
+    Stray("questions are for `rbbank site`") => [about ABOUT, resend LAST],
     One => REQUESTS, One => ASKED, One => [deliver MESSAGE], Needed => [site SITE]];
 
 const ENTRY: Shape = object!["an entry"; Needed => [event EVENT], other!(ENTRY) => REQUESTS,
