@@ -45,8 +45,8 @@ enum {
  * counts characters, from 1; the words may change. Call it after RBBANK_BAD_LINE, with the same line and what it
  * should have been. `config` is the bank's configuration; for RBBANK_CONFIG it isn't read.
  *
- * 0 if memory ran out, or if the line is an entry, which is another site's then, or has the id of an entry before. "no
- * such kind of line" or "no configuration" if `kind` or `config` isn't one. */
+ * An entry isn't taken if it is another site's, if its id is there, or if a journal has it not as a site writes it, as
+ * the text says. "no such kind of line" or "no configuration" if `kind` or `config` isn't one; "out of memory". */
 size_t rbbank_error(uint8_t kind, const char *config, size_t config_length, const char *line, size_t length, char *out,
                     size_t capacity);
 

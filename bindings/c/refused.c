@@ -90,7 +90,7 @@ static int an_error(void) {
     char out[100];
     static const char line[] = "{\"deposit\":[\"ann\",}";
     size_t length = rbbank_error(RBBANK_EVENT, TEXT(CONFIG), TEXT(line), out, sizeof out);
-    return length > 0 ? memcmp(out, "column 19: ", 11) == 0 : refused;
+    return length >= 13 && (memcmp(out, "column 19: ", 11) == 0 || (refused && memcmp(out, "out of memory", 13) == 0));
 }
 
 static int a_site(void) {

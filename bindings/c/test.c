@@ -347,7 +347,8 @@ static void errors(void) {
                     "column 19: 1.0 has a point, and an amount in cents is a whole number"));
     WANTED(is_fault(RBBANK_COMMAND, CONFIG, TEXT("{\"balance\":\"\xff\"}"), "column 13: the byte 0xff isn't UTF-8"));
     WANTED(is_fault(RBBANK_COMMAND, CONFIG, NULL, 0, "column 1: the line ends here, and a value is missing"));
-    WANTED(is_fault(RBBANK_ENTRY, CONFIG, TEXT(other), ""));
+    WANTED(is_fault(RBBANK_ENTRY, CONFIG, TEXT(other),
+                    "it is an entry: another site's, of an id that is there, or not as a site writes it"));
     WANTED(is_fault(RBBANK_COMMAND, "{}", TEXT(DEPOSIT), "no configuration"));
     WANTED(is_fault(RBBANK_ENTRY + 1, CONFIG, TEXT(DEPOSIT), "no such kind of line"));
 }

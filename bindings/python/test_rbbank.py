@@ -119,9 +119,9 @@ class Banks(unittest.TestCase):
                                    site.replay, entry)
             self.assertRaisesRegex(rbbank.BadLine, "^column 1: a line is an object, and this is a list$",
                                    site.answer, "[]")
-            # An entry of another site has nothing wrong with it.
+            # An entry of another site has nothing wrong with it but that.
             entry = '{"event":{"balance":"ann"},"reply":{"balance":0},"site":1}'
-            self.assertRaisesRegex(rbbank.BadLine, "^$", site.replay, entry)
+            self.assertRaisesRegex(rbbank.BadLine, "^it is an entry: another site's, ", site.replay, entry)
 
     def test_the_programs_words(self):
         """The column and the reason of each bad line of examples/ are those that the program says."""

@@ -64,9 +64,9 @@ class BadLine(ValueError):
     """The line is no configuration, command, event or entry of this site. Nothing has changed.
 
     Its text says why, in words that may change, as "column 47: 25 is out of range: a refusal is 1 to 24"; `column` is
-    which character of the line that is, from 1, and `why` the text without it. The text is empty and the column None if
-    there was no memory, or if nothing is wrong with the line itself: an entry is another site's, or has the id of an
-    entry before. Of a dict the line is its JSON with no spaces.
+    which character of the line that is, from 1, and `why` the text without it. The column is None if there was no
+    memory, or if nothing is wrong with the line itself: an entry is another site's, has an id that is there, or isn't
+    as a site writes it. Of a dict the line is its JSON with no spaces.
     """
 
     def __init__(self, text: str = "") -> None:
@@ -77,7 +77,7 @@ class BadLine(ValueError):
 
 def _with_why(text: str, fault: BadLine | None) -> str:
     """A text, and after it why, if that is known."""
-    return f"{text}: {fault}" if fault and str(fault) else text
+    return f"{text}: {fault}" if fault else text
 
 
 class NoSuchSite(ValueError):

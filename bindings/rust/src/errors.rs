@@ -135,11 +135,11 @@ impl From<AnswerError> for JournalError {
 impl fmt::Display for JournalError {
     fn fmt(&self, f: &mut fmt::Formatter<'_>) -> fmt::Result {
         match self {
-            JournalError::BadConfiguration(why) => write(f, "bad configuration", why),
+            JournalError::BadConfiguration(why) => write!(f, "bad configuration: {why}"),
             JournalError::NoSuchSite => f.write_str("no such site"),
             JournalError::AnotherJournal => f.write_str("another bank's journal"),
             JournalError::BadEntry { line, why } => {
-                write(f, format_args!("journal line {line}: bad line"), why)
+                write!(f, "journal line {line}: bad line: {why}")
             }
             JournalError::WrongReply { line } => write!(f, "journal line {line}: wrong reply"),
             JournalError::Damaged { line } => write!(f, "journal line {line}: damaged"),
@@ -147,7 +147,7 @@ impl fmt::Display for JournalError {
             JournalError::NoJournal => f.write_str("no journal"),
             JournalError::JournalThere => f.write_str("there is a journal"),
             JournalError::InUse => f.write_str("journal is in use"),
-            JournalError::BadLine(why) => write(f, "bad line", why),
+            JournalError::BadLine(why) => write!(f, "bad line: {why}"),
             JournalError::File(why) => write!(f, "journal failed: {why}"),
             JournalError::OutOfMemory => f.write_str("out of memory"),
             JournalError::Ended => f.write_str("ended before"),
@@ -279,19 +279,10 @@ impl CloseError {
     }
 }
 
-/// A fault, and after it why, if that is known.
-fn write(f: &mut fmt::Formatter<'_>, fault: impl fmt::Display, why: &LineFault) -> fmt::Result {
-    write!(f, "{fault}")?;
-    if why.why.is_empty() {
-        return Ok(());
-    }
-    write!(f, ": {why}")
-}
-
 impl fmt::Display for OpenError {
     fn fmt(&self, f: &mut fmt::Formatter<'_>) -> fmt::Result {
         match self {
-            OpenError::BadConfiguration(why) => write(f, "bad configuration", why),
+            OpenError::BadConfiguration(why) => write!(f, "bad configuration: {why}"),
             OpenError::NoSuchSite => f.write_str("no such site"),
             OpenError::OutOfMemory => f.write_str("out of memory"),
         }
@@ -301,7 +292,7 @@ impl fmt::Display for OpenError {
 impl fmt::Display for AnswerError {
     fn fmt(&self, f: &mut fmt::Formatter<'_>) -> fmt::Result {
         match self {
-            AnswerError::BadLine(why) => write(f, "bad line", why),
+            AnswerError::BadLine(why) => write!(f, "bad line: {why}"),
             AnswerError::OutOfMemory => f.write_str("out of memory"),
             AnswerError::Ended => f.write_str("ended before"),
         }
@@ -311,7 +302,7 @@ impl fmt::Display for AnswerError {
 impl fmt::Display for ReplayError {
     fn fmt(&self, f: &mut fmt::Formatter<'_>) -> fmt::Result {
         match self {
-            ReplayError::BadLine(why) => write(f, "bad line", why),
+            ReplayError::BadLine(why) => write!(f, "bad line: {why}"),
             ReplayError::WrongReply => f.write_str("wrong reply"),
             ReplayError::OutOfMemory => f.write_str("out of memory"),
             ReplayError::Ended => f.write_str("ended before"),
@@ -324,7 +315,7 @@ impl fmt::Display for RunError {
         match self {
             RunError::NoConfiguration => f.write_str("no configuration"),
             RunError::BadLine { line, why, .. } => {
-                write(f, format_args!("line {line}: bad line"), why)
+                write!(f, "line {line}: bad line: {why}")
             }
             RunError::OutOfMemory => f.write_str("out of memory"),
         }

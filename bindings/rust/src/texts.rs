@@ -42,10 +42,10 @@ pub enum LineKind {
 /// Why a line isn't taken, as the program says it.
 #[derive(Clone, Debug, PartialEq, Eq)]
 pub struct LineFault {
-    /// In words, which may change. Empty if there was no memory, or if nothing is wrong with the line itself: an entry
-    /// is another site's, or has the id of an entry before.
+    /// In words, which may change.
     pub why: String,
-    /// Which character of the line it is about, from 1.
+    /// Which character of the line it is about, from 1. None if there was no memory, or if nothing is wrong with the
+    /// line itself: an entry is another site's, has an id that is there, or isn't as a site writes it.
     pub column: Option<usize>,
 }
 

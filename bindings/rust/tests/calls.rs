@@ -163,10 +163,13 @@ fn why_a_line_is_not_taken() {
         panic!("it is no entry");
     };
     assert_eq!((why.column, why.to_string()), (Some(47), said.to_owned()));
-    // An entry of another site has nothing wrong with it.
+    // An entry of another site has nothing wrong with it but that.
     let entry = r#"{"event":{"balance":"ann"},"reply":{"balance":0},"site":1}"#;
     let why = site.replay(entry).unwrap_err();
-    assert_eq!(why.to_string(), "bad line");
+    assert_eq!(
+        why.to_string(),
+        "bad line: it is an entry: another site's, of an id that is there, or not as a site writes it"
+    );
     let why = site.answer(r#"{"deposit":["ann",1.0]}"#).unwrap_err();
     assert_eq!(
         why.to_string(),

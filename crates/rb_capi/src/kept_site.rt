@@ -3,6 +3,7 @@
 //! An answer is written beside the last one and takes its place only once it is whole: after a bad line the last one
 //! stays, so that nothing has changed.
 ghost use Rattle.std.specs.Prelude.{◌≡◌, ◌<◌, ◌≤◌, [], Some, None, false, IfOk, Err, MatchResult, OnOk};
+ghost use Rattle.std.specs.Str.{is_utf8};
 ghost use Rattle.rb_money.specs.Settings.{Settings};
 ghost use Rattle.rb_history.specs.Configurations.{config_on};
 ghost use Rattle.rb_node.specs.Answers.{asked_event_on, other_bank_on};
@@ -86,6 +87,7 @@ impl KeptSite {
             → (asked_event_on self.old.site.settings self.old.site.bank line.now ≡ None)
             × (other_bank_on self.old.site.settings self.old.site.bank line.now ≡ false)
             × (question_on self.old.site.bank line.now ≡ None) × (self.new ≡ self.old) }
+        ensures not_text { is_utf8 line.now ≡ false → result ≡ Err LineFault.Bad }
     {
         self.node
             .answer(line, &mut self.next_answer, &mut self.next_entries)?;

@@ -1,5 +1,6 @@
 //! One site of a bank.
 ghost use Rattle.std.specs.Prelude.{◌≡◌, ◌≢◌, ◌<◌, ◌≤◌, ◌⊎◌, ◌↔◌, None, Some, false, pos};
+ghost use Rattle.std.specs.Str.{is_utf8};
 ghost use Rattle.rb_money.specs.Settings.{Settings};
 ghost use Rattle.rb_history.specs.Configurations.{config_on};
 ghost use Rattle.rb_node.specs.Answers.{asked_event_on, other_bank_on};
@@ -62,7 +63,7 @@ pub extern "C" fn rbbank_site_open(
 /// once more, `{"again":true,"id":..}`, and another one of the id by refusal 25. Neither changes or records anything.
 ///
 /// Statuses: 0; 1 if there is no site; 2 if the line is no event and no question, and then nothing has changed, the
-/// kept texts included; 4 for want of memory, which ends the site.
+/// kept texts included; 4 for want of memory, which ends the site, and which a line that isn't UTF-8 never takes.
 #[unsafe(no_mangle)]
 pub extern "C" fn rbbank_site_answer(alloc: Global, site: &mut SiteHandle, line: &[u8]) -> i32
     ensures answered { result ≡ pos 0 → (old : SeenKept) × (new : SeenKept) × (site.old.value ≡ Some old)
@@ -73,6 +74,7 @@ pub extern "C" fn rbbank_site_answer(alloc: Global, site: &mut SiteHandle, line:
         × (other_bank_on old.site.settings old.site.bank line.now ≡ false)
         × (question_on old.site.bank line.now ≡ None) × (site.new.value ≡ site.old.value) }
     ensures ended { result ≡ pos 4 → site.new.value ≡ None }
+    ensures text { is_utf8 line.now ≡ false → result ≢ pos 4 }
     ensures still_none { site.old.value ≡ None → site.new.value ≡ None }
     ensures statuses { (result ≡ pos 0) ⊎ ((result ≡ pos 1) ⊎ ((result ≡ pos 2) ⊎ (result ≡ pos 4))) }
 {

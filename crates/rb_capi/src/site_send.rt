@@ -17,7 +17,7 @@ use std::alloc::Global;
 /// that to a `resend`, are counted through all lines.
 ///
 /// Statuses: 0; 1 if there is no site; 3 if the answer has no such message; 4 for want of memory. The site stays as it
-/// was. After 1, 3 and 4 `out` does too, and `length` is 0.
+/// was. After 1, 3 and 4 `out` and `to` do too, and `length` is 0.
 #[unsafe(no_mangle)]
 pub extern "C" fn rbbank_site_send(
     alloc: Global,
@@ -31,7 +31,7 @@ pub extern "C" fn rbbank_site_send(
         × IsHandedMessage m out.old out.new length.new to.new }
     ensures none { (result ≡ pos 1) ↔ (site.old.value ≡ None) }
     ensures no_message { result ≡ pos 3 → slice_get (kept_messages (kept_text site.old.value)) index ≡ None }
-    ensures nothing { result ≢ pos 0 → (out.new ≡ out.old) × (length.new ≡ 0) }
+    ensures nothing { result ≢ pos 0 → (out.new ≡ out.old) × (length.new ≡ 0) × (to.new ≡ to.old) }
     ensures same { site.new.value ≡ site.old.value }
     ensures statuses { (result ≡ pos 0) ⊎ ((result ≡ pos 1) ⊎ ((result ≡ pos 3) ⊎ (result ≡ pos 4))) }
 {

@@ -1,5 +1,5 @@
 //! Why a line isn't taken, in the program's words.
-ghost use Rattle.std.specs.Prelude.{◌≡◌, ◌≢◌, ◌⊎◌, ◌<◌, ◌≤◌, codes, length, None, []};
+ghost use Rattle.std.specs.Prelude.{◌≡◌, ◌≢◌, ◌⊎◌, ◌<◌, ◌≤◌, codes, length, None};
 ghost use Rattle.rb_history.specs.Configurations.{config_on};
 ghost use Rattle.rb_capi.specs.Copies.{Copies};
 ghost use Rattle.rb_capi.specs.Why.{TellsWhy, reason_line};
@@ -23,6 +23,10 @@ pub const EVENT: u8 = 2;
 
 /// A line that should have been an entry of a history.
 pub const ENTRY: u8 = 3;
+
+/// What is said of a line that is an entry.
+pub const OF_ENTRY: &[u8] =
+    b"it is an entry: another site's, of an id that is there, or not as a site writes it";
 
 /// Whether a line is an entry, of whichever site.
 fn is_entry(alloc: Global, config: &Config, line: &[u8]) -> bool {
@@ -53,7 +57,7 @@ fn copy_reason(
 {
     match reason_of(alloc, expected, config, line) {
         Some(reason) => copy_text(reason_line(reason.as_bytes()), out),
-        None => copy_text(&[], out),
+        None => copy_text(b"out of memory", out),
     }
 }
 
@@ -63,7 +67,7 @@ fn copy_reason_at_site(alloc: Global, config: &Config, line: &[u8], out: &mut [u
 {
     match reason_at_site(alloc, config, &BankName::none(alloc), line) {
         Some(reason) => copy_text(reason.as_bytes(), out),
-        None => copy_text(&[], out),
+        None => copy_text(b"out of memory", out),
     }
 }
 
@@ -71,8 +75,8 @@ fn copy_reason_at_site(alloc: Global, config: &Config, line: &[u8], out: &mut [u
 /// line, as `column 47: 25 is out of range: ..`; the column counts characters, from 1. `kind` says what the line should
 /// have been, and `config` is the line of the bank's configuration, which isn't read if the line should be one.
 ///
-/// The text is `no such kind of line` or `no configuration` if that is so. It has 0 bytes if memory ran out, and if it
-/// is an entry, which is another site's then, or has the id of an entry before.
+/// The text is `no such kind of line`, `no configuration` or `out of memory` if that is so; of an entry it says why it
+/// may be that it isn't taken.
 #[unsafe(no_mangle)]
 pub extern "C" fn rbbank_error(
     alloc: Global,
@@ -83,7 +87,8 @@ pub extern "C" fn rbbank_error(
 ) -> usize
     ensures no_kind { ENTRY < kind → Copies (codes "no such kind of line") out.old out.new result }
     ensures no_config { CONFIG < kind → kind ≤ ENTRY → config_on config.now ≡ None
-        → Copies (codes "no configuration") out.old out.new result ⊎ Copies [] out.old out.new result }
+        → Copies (codes "no configuration") out.old out.new result
+        ⊎ Copies (codes "out of memory") out.old out.new result }
     ensures reason { kind ≤ ENTRY → (kind ≡ CONFIG) ⊎ (config_on config.now ≢ None)
         → TellsWhy (length line.now) out.old out.new result }
 {
@@ -96,12 +101,12 @@ pub extern "C" fn rbbank_error(
     let config = match open_config(alloc, config) {
         Ok(config) => config,
         Err(LineFault::Bad) => return copy_text(b"no configuration", out),
-        Err(LineFault::OutOfMemory) => return copy_text(&[], out),
+        Err(LineFault::OutOfMemory) => return copy_text(b"out of memory", out),
     };
     match kind {
         COMMAND => copy_reason(alloc, Expected::Command, Some(&config), line, out),
         EVENT => copy_reason_at_site(alloc, &config, line, out),
-        _ if is_entry(alloc, &config, line) => copy_text(&[], out),
+        _ if is_entry(alloc, &config, line) => copy_text(OF_ENTRY, out),
         _ => copy_reason(alloc, Expected::Entry, Some(&config), line, out),
     }
 }
