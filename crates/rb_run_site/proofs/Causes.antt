@@ -1,9 +1,9 @@
 -- Why a site isn't opened.
-use Rattle.std.proofs.Common.{◌≡◌, ◌<◌, ◌≤◌, ◌+◌, ◌⊎◌, ℕ, Bool, true, List, ◌∷◌, ◌++◌, length, take, drop, Option, Some, None}
+use Rattle.std.proofs.Common.{◌≡◌, ◌<◌, ◌≤◌, ◌+◌, ◌⊎◌, ℕ, Bool, true, false, List, ◌∷◌, ◌++◌, length, take, drop, Option, Some, None}
 use Rattle.std.proofs.Common.{Err, sym, ap, ◌∙◌, inl, inr}
 use Rattle.std.specs.Prelude.{IfSome}
 use Rattle.std.specs.Io.KnownBytes.{IsAtEnd}
-use Rattle.rb_lines.specs.Lines.{line_len, lines_of}
+use Rattle.rb_lines.specs.Lines.{is_blank, line_len, lines_of}
 use Rattle.rb_run_site.specs.Faults.{IsFirstLineFault}
 use Rattle.rb_run_site.specs.FirstLines.{FindsFirst, IsBehindBlanks, WaitsAt}
 use Rattle.rb_run_site.specs.Openings.{EndsNode, EndsOpening, EndsOver, IsOpeningCause}
@@ -41,20 +41,21 @@ first_cause me bank input left file p OutOfMemory is found = tt
 first_cause me bank input left file p _ is found = absurd is
 
 module _ (me : ℕ) (bank : List ℕ) (input left : Option (List ℕ)) (file : List ℕ) (number : ℕ) (line : List ℕ)
+    (some : is_blank line ≡ false)
     (first : IfSome input (λ all. (later : List (List ℕ)) × IsBehindBlanks number (line ∷ later) all)) where
   -- the line is no configuration, or has no such site
   pub node_cause : (why : SiteFault) → EndsNode line number me why → IsOpeningCause me bank input left file why
-  node_cause (BadConfig n) ends = record { number = number; line = line; first = first; holds = ends }
-  node_cause NoSite ends = record { number = number; line = line; first = first; holds = ends }
+  node_cause (BadConfig n) ends = record { number = number; line = line; some = some; first = first; holds = ends }
+  node_cause NoSite ends = record { number = number; line = line; some = some; first = first; holds = ends }
   node_cause OutOfMemory ends = tt
   node_cause _ ends = absurd ends
 
   -- the file isn't replayed
   pub file_cause : (why : SiteFault) → EndsOpening me bank file why number line → IsOpeningCause me bank input left file why
-  file_cause AnotherJournal ends = record { number = number; line = line; first = first; holds = ends }
-  file_cause (BadEntry n) ends = record { number = number; line = line; first = first; holds = ends }
-  file_cause (WrongReply n) ends = record { number = number; line = line; first = first; holds = ends }
-  file_cause (Damaged n) ends = record { number = number; line = line; first = first; holds = ends }
+  file_cause AnotherJournal ends = record { number = number; line = line; some = some; first = first; holds = ends }
+  file_cause (BadEntry n) ends = record { number = number; line = line; some = some; first = first; holds = ends }
+  file_cause (WrongReply n) ends = record { number = number; line = line; some = some; first = first; holds = ends }
+  file_cause (Damaged n) ends = record { number = number; line = line; some = some; first = first; holds = ends }
   file_cause Sealed ends = ends.3
   file_cause OutOfMemory ends = tt
   file_cause _ ends = absurd ends.3

@@ -1,9 +1,9 @@
 -- A site that is opened over a file, of which nothing is changed yet.
-use Rattle.std.specs.Prelude.{◌≡◌, ◌⊎◌, ◌≤◌, ◌<◌, ◌+◌, ℕ, List, [], ◌∷◌, length, Option, Some, None, IfSome}
+use Rattle.std.specs.Prelude.{◌≡◌, ◌⊎◌, ◌≤◌, ◌<◌, ◌+◌, ℕ, false, List, [], ◌∷◌, length, Option, Some, None, IfSome}
 use Rattle.rb_money.specs.Settings.{Settings}
 use Rattle.rb_history.specs.Configurations.{config_on}
 use Rattle.rb_journal.specs.Lines.{IsDamaged, IsSealed, recovered}
-use Rattle.rb_lines.specs.Lines.{lines_of}
+use Rattle.rb_lines.specs.Lines.{is_blank, lines_of}
 use Rattle.rb_site.specs.Seen.{IsReplayed}
 use Rattle.rb_history.specs.Ids.{AskedEntry}
 use Rattle.rb_node.specs.Asked.{AreIdsOnce, SeenAsked, first_asked, without_ids}
@@ -83,6 +83,7 @@ EndsOnLine me bank file line fault = ((fault ≡ Sealed) × IsSealed file) ⊎ E
 pub record HasFirstLine (input : Option (List ℕ)) (P : ℕ → List ℕ → Type 0) : Type 0 where
   pub number : ℕ
   pub line : List ℕ
+  pub some : is_blank line ≡ false
   pub first : IfSome input (λ all. (later : List (List ℕ)) × IsBehindBlanks number (line ∷ later) all)
   pub holds : P number line
 

@@ -52,4 +52,4 @@ returns-in_err-opened-clause-cause g c =
     let ends : EndsOver c.args.me c.args.bank file c.in_ok-n.number (take n p) fault =
     subst (λ l. EndsOver c.args.me c.args.bank file c.in_ok-n.number (take n l) fault) c.as_slice.ensures c.in_err-opened.ensures in
     subst (λ r. IfErr r (IsOpeningCause c.args.me c.args.bank input left file)) (sym passed)
-    (over_cause c.args.me c.args.bank input left file c.in_ok-n.number (take n p) first fault ends)
+    (over_cause c.args.me c.args.bank input left file c.in_ok-n.number (take n p) found.line.1 first fault ends)
