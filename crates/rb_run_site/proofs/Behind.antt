@@ -19,12 +19,13 @@ use Rattle.rb_run_site.specs.declared.fault.SiteFault.TheVariants.{Read, Write, 
 
 -- the bytes behind the configuration's line are what waits and what is still to be read
 pub behind_known : (input : Option (List ℕ)) (config : List ℕ) (number : ℕ) (pending : List ℕ) (left : Option (List ℕ))
-    → IfSome input (WaitsBehind config number pending left) → IfSome input (AreBytesBehind number (served_input pending left))
+    → IfSome input (WaitsBehind config number pending left) → IfSome input (AreBytesBehind config number (served_input pending left))
 behind_known None config number pending left w = tt
 behind_known (Some all) config number pending left w =
-    (pending ++ w.rest, ap (λ l. served_input pending l) w.left_is, config, w.behind)
+    (pending ++ w.rest, ap (λ l. served_input pending l) w.left_is, w.behind)
 
-first_known : (input : Option (List ℕ)) (config : List ℕ) (number : ℕ) (pending : List ℕ) (left : Option (List ℕ))
+-- so the configuration's line is the input's first
+pub first_known : (input : Option (List ℕ)) (config : List ℕ) (number : ℕ) (pending : List ℕ) (left : Option (List ℕ))
     → IfSome input (WaitsBehind config number pending left)
     → IfSome input (λ all. (n : ℕ) × (later : List (List ℕ)) × IsBehind config n later all)
 first_known None config number pending left w = tt
@@ -35,7 +36,7 @@ module _ (run : SiteRun) (old : Found) (number : ℕ) (left : Option (List ℕ))
     (opens : OpensSite config run.me run.bank run.most old.file x first sends)
     (waits : IfSome run.input (WaitsBehind config number pending left)) where
   -- the site that was opened is the one that the input and the journal say
-  pub starts : Starts run.me run.bank run.input (recovered old.file) x
+  abbrev pub starts : Starts run.me run.bank run.input (recovered old.file) x
   starts = record {
     config = config;
     is_of = opens.is_of;

@@ -34,7 +34,7 @@ pub record AnswersBehind (run : SiteRun) (left : Option (List ℕ)) (old : Found
   pub starts : Starts run.me run.bank run.input (recovered old.file) start
   pub number : ℕ
   pub behind : Option (List ℕ)
-  pub behind_is : IfSome run.input (AreBytesBehind number behind)
+  pub behind_is : IfSome run.input (AreBytesBehind starts.config number behind)
   pub answered : AnswersAll run.all start (sent_again start.bank run.most (without_ids start)) number behind left old.output now said
       ended
 
@@ -45,7 +45,7 @@ pub record IsFullBehind (run : SiteRun) (lines : List (List ℕ)) : Type 0 where
   pub starts : Starts run.me run.bank run.input lines start
   pub number : ℕ
   pub behind : Option (List ℕ)
-  pub behind_is : IfSome run.input (AreBytesBehind number behind)
+  pub behind_is : IfSome run.input (AreBytesBehind starts.config number behind)
   pub full : IsFull (SiteAnswers run.all) number behind start (journal_of start)
 
 -- the file is whole lines and a closed gate, all of it on the disk

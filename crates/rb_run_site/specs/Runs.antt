@@ -25,10 +25,9 @@ pub record Found : Type 0 where
   pub file : List ℕ
   pub output : List ℕ
 
--- these bytes are what is behind the configuration's line of the input, and their first line has this number
-abbrev pub AreBytesBehind : ℕ → Option (List ℕ) → List ℕ → Type 0
-AreBytesBehind number behind input = (bytes : List ℕ) × (behind ≡ Some bytes)
-    × (config : List ℕ) × IsBehind config number (lines_of bytes) input
+-- these bytes are what comes after this configuration's line in the input, and their first line has this number
+abbrev pub AreBytesBehind : List ℕ → ℕ → Option (List ℕ) → List ℕ → Type 0
+AreBytesBehind config number behind input = (bytes : List ℕ) × (behind ≡ Some bytes) × IsBehind config number (lines_of bytes) input
 
 -- the file is the journal of a site with the entries of some turns, in which all events are recorded or those that
 -- change the site. They answer the first lines of these bytes, in order, and skip none that has an answer; the first
@@ -62,7 +61,7 @@ pub record HasRun (run : SiteRun) (lines : List (List ℕ)) (output c d : List �
   pub starts : Starts run.me run.bank run.input lines start
   pub number : ℕ
   pub behind : Option (List ℕ)
-  pub behind_is : IfSome run.input (AreBytesBehind number behind)
+  pub behind_is : IfSome run.input (AreBytesBehind starts.config number behind)
   pub answered : HasAnswered run.all start (sent_again start.bank run.most (without_ids start)) number behind output c d
 
 -- the journal of the site that the input's first line says had no lines, and is still a new one
