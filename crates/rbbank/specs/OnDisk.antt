@@ -1,12 +1,12 @@
 -- A run of a site over a file of the operating system.
-use Rattle.std.specs.Prelude.{◌≡◌, ◌⊎◌, ◌<◌, ◌-◌, ◌^◌, ◌++◌, ℕ, Bool, true, false, List, [], ◌∷◌, length, codes, string_bytes}
+use Rattle.std.specs.Prelude.{◌≡◌, ◌≢◌, ◌⊎◌, ◌<◌, ◌-◌, ◌^◌, ◌++◌, ℕ, Bool, true, false, List, [], ◌∷◌, length, codes, string_bytes}
 use Rattle.std.specs.Prelude.{Option, Some, None, Result, Err}
 use Rattle.std.specs.Borrow.{Bor}
 use Rattle.std.specs.IoError.{error_kind}
 use Rattle.std.specs.declared.io.ErrorKind.{ErrorKind}
 use Rattle.std.specs.declared.io.ErrorKind.TheVariants.{WouldBlock, OutOfMemory as NoMemory}
 use Rattle.rb_journal.specs.Calls.{content_of, faults_of, leaves, left_since, output_of}
-use Rattle.rb_journal.specs.Disk.{disk_log}
+use Rattle.rb_journal.specs.Disk.{IsAskedFor, disk_log}
 use Rattle.rb_journal.specs.Host.{LeavesOnly}
 use Rattle.rb_journal.specs.Lines.{recovered}
 use Rattle.rb_journal.specs.Planned.{opened_event}
@@ -57,15 +57,12 @@ fault_of_open NotEmpty = JournalThere
 fault_of_open IsErrors = Journal
 fault_of_open (Failed error) = fault_of_system (error_kind error)
 
--- a run that never began, since its file wasn't opened: it wasn't there and no new one was asked for, or it was there
--- and a new one was, or the system says why
-abbrev pub IsUnopened : Bool → Result ℕ SiteFault → Type 0
-IsUnopened is_new (Err NoJournal) = is_new ≡ false
-IsUnopened is_new (Err JournalThere) = is_new ≡ true
-IsUnopened is_new (Err InUse) = Unit {0}
-IsUnopened is_new (Err Journal) = Unit {0}
-IsUnopened is_new (Err OutOfMemory) = Unit {0}
-IsUnopened is_new _ = ⊥
+-- a run that never began, since its file wasn't opened: it ended in the fault of this error, which says that there is
+-- no file only if no new one was asked for, and that there is one only if a new one was
+pub record IsUnopened (is_new : Bool) (ended : Result ℕ SiteFault) : Type 0 where
+  pub error : OpenError
+  pub asked : IsAskedFor is_new error
+  pub fault : ended ≡ Err (fault_of_open error)
 
 module _ {R P : Type 0} where
   -- the file that the disk has
@@ -104,9 +101,10 @@ module _ {R P : Type 0} where
     pub journal : ended ≡ Err Journal → (faults_of (disk_log start) < faults_of (disk_log disk))
         ⊎ IsFullBehind run (recovered (file_of start))
 
-  -- the file wasn't opened, and nothing was read; or the site ran over it
+  -- the file wasn't opened, or there was no memory for the bank's name, and nothing was read; or the site ran over it
   abbrev pub IsRunOn : SiteRun → List ℕ → Bool → Option (List ℕ) → Option (Disk R P) → Result ℕ SiteFault → Type 0
-  IsRunOn run name is_new left None ended = (left ≡ run.input) × IsUnopened is_new ended
+  IsRunOn run name is_new left None ended =
+      (left ≡ run.input) × (IsUnopened is_new ended ⊎ ((ended ≡ Err OutOfMemory) × (run.bank ≢ [])))
   IsRunOn run name is_new left (Some disk) ended = HasRunOn run name is_new left disk ended
 
   -- the file of this name was sealed as site `me`'s journal, or it stopped, as the promises of a seal have it

@@ -1,5 +1,5 @@
 //! A site over a file of the operating system.
-ghost use Rattle.std.specs.Prelude.{◌≡◌, ◌⊎◌, ◌≤◌, Err, IfOk, IfSome, None, string_bytes, true};
+ghost use Rattle.std.specs.Prelude.{◌≡◌, ◌≢◌, ◌⊎◌, ◌≤◌, [], Err, IfErr, IfOk, IfSome, None, string_bytes, true};
 ghost use Rattle.std.specs.Process.{exit_status};
 ghost use Rattle.rb_lines.specs.declared.limits.TheConstants.{MOST_READS};
 ghost use Rattle.rb_run_site.specs.declared.fault.SiteFault.TheVariants.{Read as NotRead};
@@ -125,10 +125,11 @@ fn most_resent(resend: Option<u32>) -> usize
     }
 }
 
-/// The bank of this name, or one without a name.
+/// The bank of this name, or one without a name, which needs no memory.
 fn bank_named(alloc: Global, name: Option<&str>) -> Result<BankName, AllocError>
     requires { IfSome name (λ name. is_id name.now ≡ true) }
-    ensures { IfOk result (λ bank. bank ≡ bank_name_of name.entry) }
+    ensures bank { IfOk result (λ bank. bank ≡ bank_name_of name.entry) }
+    ensures named { IfErr result (λ _. bank_name_of name.entry ≢ []) }
 {
     let mut bank = BankName::none(alloc);
     if let Some(name) = name {
