@@ -1,4 +1,5 @@
 mod Ends
+mod JournalInputs
 mod LinesOfFiles
 mod OnDisk
 mod PlacesInFiles

@@ -1,5 +1,6 @@
 pub mod Asked
 pub mod Files
+pub mod JournalInputs
 pub mod OnDisk
 pub mod SameFiles
 pub mod Statuses

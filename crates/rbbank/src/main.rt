@@ -18,6 +18,7 @@ mod done;
 mod files_on_disk;
 mod files_task;
 mod joined;
+mod journal_inputs;
 mod on_disk;
 mod patient;
 mod same_file;
