@@ -4,9 +4,9 @@
 usage: from_format.py PREFIX     writes them below PREFIX: share/man
 
 It reads the Markdown that the page is written in: headings, paragraphs, tables, lines that are indented as they are,
-`code` and **what matters**. A row of a table becomes a paragraph: its first cell, and the others below it, each behind
-the name of its column if there are several or it is a number. A table of two halves that have the same columns is read
-half by half. A page that is named here has the name of its manual page.
+`code`, *words* and **what matters**. A row of a table becomes a paragraph: its first cell, and the others below it,
+each behind the name of its column if there are several or it is a number. A table of two halves that have the same
+columns is read half by half. A page that is named here has the name of its manual page.
 """
 import os
 import re
@@ -18,7 +18,7 @@ PAGES = {"docs/FORMAT.md": ("rbbank", 5), "docs/RUNNING.md": ("rbbank-running", 
          "docs/PERIODS.md": ("rbbank-periods", 7)}
 # in brackets: a file that only the sources have
 ELSEWHERE = re.compile(r"\(([\w/]+\.(?:md|py))\)")
-PIECE = re.compile(r"`([^`]+)`|\*\*([^*]+)\*\*")
+PIECE = re.compile(r"`([^`]+)`|\*\*?([^*]+)\*\*?")
 CELLS = re.compile(r"(?<!\\)\|")
 
 

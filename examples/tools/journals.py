@@ -39,12 +39,16 @@ def whole_lines(data: bytes) -> list[bytes]:
 
 
 class Journal:
-    """A journal as it is on the disk: its first line, the lines of its entries, and whether it is sealed."""
+    """A journal as it is on the disk: its first line, the lines of its entries, and whether it is sealed. One that is
+    damaged stops its reader, as it does a site."""
 
     def __init__(self, path: str) -> None:
         data = bank.read(path)
         self.path, self.is_sealed = path, data.endswith(SEALED)
         lines = whole_lines(data)
+        rest = data[sum(len(line) + 1 for line in lines):]
+        if lines and rest != b"\t" and rest[:1] not in (b"", b" ", b"\0", b"{"):
+            raise bank.Stop(f"{path}: journal line {len(lines) + 1}: damaged")
         try:
             self.config: Json = json.loads(lines[0])
             self.sites, self.version = int(self.config["sites"]), int(self.config["version"])

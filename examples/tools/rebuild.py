@@ -8,8 +8,8 @@ the lost site that comes later is refused by all, or refuses what is made in its
 
 What the lost site sent is in the journals of those that received it. A new site is given the same requests: each once
 it has applied just what it had applied before, so that it makes the same operation; of an interest the rate is found
-that gives the same cents. The token is passed as the others took it. What no other site received is lost, and so are
-the ids of the site's requests.
+that gives the same cents. The token is passed as the others took it. In the end it has all that the others made. What
+no other site received is lost, and so are the ids of the site's requests.
 
 Nothing of this is believed: each message has to be the very one that was received, and `rbbank audit` has to find an
 order of all journals. Else no file is made, the status is 1, and what is missing is said.
@@ -128,6 +128,11 @@ class Rebuilding:
             if unknown is not None:
                 raise bank.Stop("no journal has {1}, which comes before {0}".format(*unknown))
             raise bank.Stop("none can come first: " + "; ".join(f"{who} waits for {what}" for who, what in waits))
+
+    def catches_up(self) -> None:
+        """The lost site gets all operations that the others made: a sealed journal's site never sends again."""
+        made = [message for message in self.messages.values() if "shadow" in message]
+        self.site.ask(sorted(made, key=lambda message: journals.behind(message["shadow"])))
 
     def others_go_on(self) -> bool:
         """The others' entries happen, up to the first receipts of what wasn't sent. Whether any did."""
@@ -262,6 +267,7 @@ def rebuilt(program: str, asked: argparse.Namespace, folder: str) -> str:
     try:
         work = Rebuilding(others, asked.site, site)
         work.run()
+        work.catches_up()
         site.end()
     finally:
         site.close()
