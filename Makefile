@@ -101,6 +101,7 @@ install: program
 	@install -m 644 docs/FORMAT.md examples/tools/commands.json $(MODULES:%=examples/tools/%.py) "$(UNDER)/share/rbbank"
 	@install -m 755 $(TOOLS:%=examples/tools/%.py) "$(UNDER)/share/rbbank"
 	@for tool in $(TOOLS); do ln -sf "../share/rbbank/$$tool.py" "$(UNDER)/bin/rbbank-$$tool" || exit 1; done
+	@echo 'installed below $(UNDER)'
 
 # The library for C, its headers and what pkg-config says of it, below PREFIX. The one version is the library's; the
 # program's is the same.
@@ -133,7 +134,8 @@ PARTS ?= install install-libs
 OUT ?= $(CURDIR)/out
 dist:
 	@rm -rf "$(OUT)/$(RELEASE)"
-	@$(MAKE) --no-print-directory $(PARTS) DESTDIR= PREFIX="$(OUT)/$(RELEASE)" FOUND_AT='$$$${pcfiledir}/../..'
+	@$(MAKE) --no-print-directory $(PARTS) DESTDIR= PREFIX="$(OUT)/$(RELEASE)" FOUND_AT='$$$${pcfiledir}/../..' \
+		> /dev/null
 	@install -m 644 LICENSE CHANGELOG.md SECURITY.md "$(OUT)/$(RELEASE)"
 	@tar -C "$(OUT)" --owner=0 --group=0 --sort=name -czf "$(OUT)/$(RELEASE).tar.gz" $(RELEASE)
 	@rm -r "$(OUT)/$(RELEASE)"

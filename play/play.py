@@ -41,9 +41,16 @@ SCRIPTS, HISTORIES, MIGRATIONS, BAD, JOURNALS = GROUPS = (
     "Scripts", "Histories", "Migrations", "Scripts with a bad line", "Journals of tests")
 
 
+def port(text: str) -> int:
+    """A port's number, 0 for a free one."""
+    if not text.isdecimal() or int(text) > 65_535:
+        raise argparse.ArgumentTypeError("a port is 0 to 65535")
+    return int(text)
+
+
 def options() -> argparse.Namespace:
     reader = argparse.ArgumentParser(description=__doc__, formatter_class=argparse.RawDescriptionHelpFormatter)
-    reader.add_argument("--port", metavar="N", type=int, default=PORT, help=f"else {PORT}; if it is taken, a free one")
+    reader.add_argument("--port", metavar="N", type=port, default=PORT, help=f"else {PORT}; if it is taken, a free one")
     reader.add_argument("--no-browser", action="store_true", help="only print the address")
     reader.add_argument("--open", metavar="NAME", default="", help="begin with this example, as stale_token")
     reader.add_argument("--program", metavar="PATH", help="the program to ask; else the one that is built")
@@ -81,7 +88,7 @@ class Server(http.server.ThreadingHTTPServer):
         self.answers = asked
         try:
             super().__init__(("127.0.0.1", port), handler or Handler)
-        except (OSError, OverflowError):
+        except OSError:
             super().__init__(("127.0.0.1", 0), handler or Handler)
 
     @property
