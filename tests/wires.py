@@ -452,8 +452,8 @@ def older_copy(asked, folder):
         words = [sys.executable, asked.wire, "--me", "1", "--sites", str(sites), "--to", "cat"]
         run = subprocess.run(words, input=answered, capture_output=True, text=True, timeout=PATIENCE[0])
         if run.stdout.count('{"refused":18}') != 2 or run.stderr != (
-                f"wire: an older copy of the journal of site {senders} was started: site 1 has another operation of a "
-                "name that came (18)\n"):
+                f"wire: an older copy of the journal of site {senders} was started, or there is a second token: site 1 "
+                "has another operation of a name that came (18)\n"):
             return False
     return True
 

@@ -200,7 +200,7 @@ def said(closed: Period, period: Period, line: str) -> str:
     names = ", ".join(os.path.basename(period.journal(site)) for site in range(sites))
     return (f"{closed.name} is closed, with {cents} cents. {period.name}.bank is the next bank's first line: "
             f"{len(config['accounts'])} accounts, {sites} sites.\n"
-            f"Its journals are {names}; start its sites with --bank {period.name}.")
+            f"Its journals are {names}; start its sites with --new --bank {period.name}.")
 
 
 def main() -> int:

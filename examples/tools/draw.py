@@ -221,7 +221,7 @@ def drawing_of(program, data, first=None, last=None, sites=()):
 
 def main():
     asked = options()
-    data = bank.read_all(asked.files)
+    data = bank.Files(asked.files).data
     drawing = drawing_of(bank.program(asked.program), data, asked.first, asked.last, asked.site)
     if asked.svg:
         bank.write(asked.svg, picture.svg(drawing))

@@ -231,11 +231,11 @@ def explained(program, data, kind=None, me=0):
 
 def main():
     words = options()
-    data = bank.read_all(words.files)
+    files = bank.Files(words.files)
     kind = words.kind or ("site" if bank.word_of(words.files[0]) == "site" else None)
-    lines, status = explained(bank.program(words.program), data, kind, words.me)
-    for line in lines:
-        print(line)
+    lines, status = explained(bank.program(words.program), files.data, kind, words.me)
+    for line in "\n".join(lines).split("\n"):
+        print(files.named(line))
     return status
 
 

@@ -29,7 +29,7 @@ for each that it delivered. What it read and lost is made up for when the site s
 its messages again.
 
 If the site refuses a message with 18, standard error says so once, and which sites may have sent it: an older copy of
-the sender's journal was started.
+the sender's journal was started, or there is a second token.
 
 After the site's last line, what still waits is given on. The status is 1 if a command, or the reader of the replies,
 takes nothing for the seconds of --wait, or ended in another status than 0 after its last line, or if a message was
@@ -530,8 +530,8 @@ class Carrier:
         if reply.get("refused") == ANOTHER and not self.has_told:
             self.has_told = True
             senders = " or ".join(str(way.site) for way in self.ways)
-            say(f"an older copy of the journal of site {senders} was started: site {self.me} has another operation of "
-                f"a name that came ({ANOTHER})")
+            say(f"an older copy of the journal of site {senders} was started, or there is a second token: "
+                f"site {self.me} has another operation of a name that came ({ANOTHER})")
 
     def send(self, answer: Answer) -> None:
         """Has the messages of a line wait."""
