@@ -169,7 +169,7 @@ int32_t rbbank_site_replay(struct rbbank_site *site, const char *line, size_t le
 /* Ends the site, and gives its memory back. The handle is zeroed, and may be opened again. */
 void rbbank_site_close(struct rbbank_site *site);
 
-/* ---- One site with its journal in a file, as `rbbank site` has it, in a program with a loop of its own
+/* ---- One site with its journal in a file, as `rbbank site --record all` has it, in a program with a loop of its own
  *
  * No call here opens a file. After an open and after each answer rbbank_journal_call says which call on the file is to
  * be made next; the caller makes it, says by rbbank_journal_done how it ended, and asks again, until none is left. Only

@@ -286,6 +286,9 @@ class Journals(unittest.TestCase):
             self.assertEqual(site.sends(), [])
             self.assertRaisesRegex(BlockingIOError, "the journal is in use: ", rbbank.Journal, self.path, 0, CONFIG)
         self.assertRaises(rbbank.Closed, site.answer, EVENT)
+        dropped = rbbank.Journal(self.path, 0, CONFIG)
+        del dropped  # its file is given back
+        rbbank.Journal(self.path, 0, CONFIG).close()
         before = self.stored()
         self.store(before[:-1] + b'{"event":')
         with rbbank.Journal(self.path, 0, CONFIG, resend=1) as site:

@@ -57,7 +57,8 @@ _Self = typing.TypeVar("_Self", bound="_Handle")
 
 
 class Closed(RuntimeError):
-    """The bank or the site was closed, or ended before: for want of memory, or with a wrong reply."""
+    """The bank or the site was closed, or ended before: for want of memory, with a wrong reply, or as a call on its
+    journal's file failed."""
 
 
 class BadLine(ValueError):
@@ -362,7 +363,8 @@ class _Handle:
         """Gives it a line, and returns the line that it answers, without a line feed; or a dict, and returns a dict, of
         several lines the last.
 
-        Raises BadLine, after which all is as it was; Closed; MemoryError, after which it is closed.
+        Raises BadLine, after which all is as it was; Closed; MemoryError, and of a Journal OSError if a call on its
+        file fails, after which it is closed: open it again.
         """
         data = _bytes(line)
         with self._lock:
@@ -517,6 +519,7 @@ class _File:
             if new:
                 raise
             raise JournalFault("no journal") from None
+        self._finalizer = weakref.finalize(self, os.close, self.descriptor)
         try:
             self.lock(path)
             if new and os.fstat(self.descriptor).st_size:
@@ -576,9 +579,8 @@ class _File:
 
     def close(self) -> None:
         """Closes it, and gives the lock back. A second time does nothing."""
-        if self.descriptor >= 0:
-            os.close(self.descriptor)
-            self.descriptor = -1
+        self._finalizer()
+        self.descriptor = -1
 
 
 class Journal(_Sending):
@@ -612,7 +614,8 @@ class Journal(_Sending):
         taken. The reply is then what the last `resend` entries sent, a line for each that sent any.
 
         Raises BadLine if the configuration's line isn't one; NoSuchSite; JournalFault; BlockingIOError if another
-        process has the journal, or this one; OSError if the file fails; MemoryError.
+        process has the journal, or this one; OSError if the file fails; MemoryError. With `new` an empty file may have
+        been made then.
         """
         if not 0 <= me <= 255:
             raise NoSuchSite

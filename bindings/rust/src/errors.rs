@@ -325,11 +325,9 @@ impl fmt::Display for RunError {
 impl fmt::Display for CloseError {
     fn fmt(&self, f: &mut fmt::Formatter<'_>) -> fmt::Result {
         match self {
-            CloseError::BadLine { journal, line, why } => write(
-                f,
-                format_args!("journal {journal}: line {line}: bad line"),
-                why,
-            ),
+            CloseError::BadLine { journal, line, why } => {
+                write!(f, "journal {journal}: line {line}: bad line: {why}")
+            }
             CloseError::NotSealed { journal } => write!(f, "journal {journal}: not sealed"),
             CloseError::AnotherBank { journal } => {
                 write!(f, "journal {journal}: another bank's journal")

@@ -108,7 +108,8 @@ impl Journal {
     ///
     /// # Errors
     ///
-    /// Each of `JournalError` but `BadLine` and `Ended`. The file is as it was then, unless it failed.
+    /// Each of `JournalError` but `BadLine` and `Ended`. The file is as it was then, unless it failed; with `new` an
+    /// empty one may have been made.
     pub fn open(
         path: impl AsRef<Path>,
         me: u8,
