@@ -94,10 +94,10 @@ def journals_of(period: Period) -> list[Journal]:
     absent = [os.path.basename(path) for path in paths if not os.path.exists(path)]
     if len(absent) == sites:
         raise bank.Stop(f"{period.name} isn't begun: there is no {', '.join(absent)}; a journal of another name is "
-                        f"given this one (mv), and a bank without journals is started with --bank {period.name}")
+                        f"given this one (mv), and a bank without journals is started with --new --bank {period.name}")
     if absent:
         raise bank.Stop(f"only some sites of {period.name} are started: there is no {', '.join(absent)}; start the "
-                        f"others with --bank {period.name}, or make a lost journal again by rbbank-rebuild")
+                        f"others with --new --bank {period.name}, or make a lost journal again by rbbank-rebuild")
     return [Journal(path) for path in paths]
 
 
