@@ -76,7 +76,7 @@ program:
 
 # A page in the browser over the built program. It builds nothing.
 play:
-	@play/play.py $(if $(OPEN),--open "$(OPEN)")
+	@exec play/play.py $(if $(OPEN),--open "$(OPEN)")
 
 # The same page used in a browser as a person does, and the mutants of page and server. Without a browser it says what
 # to install, and ends in a status.

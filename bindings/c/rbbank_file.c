@@ -73,12 +73,21 @@ static int is_at_its_name(const struct rbbank_file *file) {
     return 0;
 }
 
+/* Whether the file ends here, where a batch is written: nobody else wrote it or cut it. */
+static int is_its_end(const struct rbbank_file *file, uint64_t at) {
+    struct stat all;
+    if (fstat(file->descriptor, &all) != 0)
+        return 0;
+    errno = ESTALE;
+    return (uint64_t)all.st_size == at;
+}
+
 /* Makes a call that was asked for; -1 if it failed. */
 static int make(const struct rbbank_file *file, int32_t kind, uint64_t at, size_t length) {
     switch (kind) {
     case RBBANK_CALL_WRITE:
         /* The byte that makes a batch count is written alone. */
-        if (length == 1 && !is_at_its_name(file))
+        if (length == 1 ? !is_at_its_name(file) : !is_its_end(file, at))
             return -1;
         return write_all(file->descriptor, file->bytes, length, at);
     case RBBANK_CALL_CUT:

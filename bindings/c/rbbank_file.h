@@ -24,7 +24,8 @@ struct rbbank_file {
 
 /* What rbbank_file_open and rbbank_file_answer return, beside the statuses of rbbank_journal_open and _answer. */
 enum {
-    RBBANK_FILE_FAILED = 10,       /* a call on the file failed, and `errno` says why: open the file again */
+    RBBANK_FILE_FAILED = 10,       /* a call on the file failed, and `errno` says why (ESTALE: it was replaced, or
+                                      somebody else changed its length): open the file again */
     RBBANK_FILE_IN_USE = 11,       /* another process has the journal, or this one has it open already */
     RBBANK_FILE_NO_JOURNAL = 12,   /* it isn't there, and no new one was asked for */
     RBBANK_FILE_JOURNAL_THERE = 13 /* a new one was asked for, and it is there with bytes in it */
@@ -34,7 +35,8 @@ enum {
  * `is_new` it begins a new journal, and only then makes the file: a mistyped name, or a disk that isn't mounted, is
  * never a new site, which would make other operations under names that are taken. An empty file is begun either way.
  * The reply is then what the last `resend` entries sent, a line for each that sent any. `*number` is as
- * rbbank_journal_open has it. After another status than 0 nothing is open. */
+ * rbbank_journal_open has it. After another status than 0 nothing is open. A fork shares handle and lock: open it after
+ * the fork, in one process. */
 int32_t rbbank_file_open(struct rbbank_file *file, const char *path, uint8_t me, size_t resend, int is_new,
                          const char *config, size_t length, uint64_t *number);
 

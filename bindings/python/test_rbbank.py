@@ -288,6 +288,13 @@ class Journals(unittest.TestCase):
         self.assertRaises(rbbank.Closed, site.answer, EVENT)
         dropped = rbbank.Journal(self.path, 0, CONFIG)
         del dropped  # its file is given back
+        before = self.stored()
+        cut = rbbank.Journal(self.path, 0, CONFIG)
+        self.store(before[:-9])
+        self.assertRaisesRegex(OSError, "somebody else changed its length", cut.answer, EVENT)
+        self.assertRaises(rbbank.Closed, cut.answer, EVENT)
+        self.assertEqual(self.stored(), before[:-9])
+        self.store(before)
         rbbank.Journal(self.path, 0, CONFIG).close()
         before = self.stored()
         self.store(before[:-1] + b'{"event":')

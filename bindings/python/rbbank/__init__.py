@@ -364,7 +364,7 @@ class _Handle:
         several lines the last.
 
         Raises BadLine, after which all is as it was; Closed; MemoryError, and of a Journal OSError if a call on its
-        file fails, after which it is closed: open it again.
+        file fails, after which it is closed: open it again. So is a Journal by what a signal's handler raises.
         """
         data = _bytes(line)
         with self._lock:
@@ -551,9 +551,13 @@ class _File:
     def make(self, kind: int, at: int, data: bytes) -> None:
         """Makes a call that the library asks for. Raises OSError."""
         if kind == _WRITE:
-            # The byte that makes a batch count is written alone; a start has to open the file that it is in.
-            if len(data) == 1 and not os.path.samestat(os.stat(self.path), os.fstat(self.descriptor)):
+            # The byte that makes a batch count is written alone; a start has to open the file that it is in. The
+            # batch is written at the end.
+            found = os.fstat(self.descriptor)
+            if len(data) == 1 and not os.path.samestat(os.stat(self.path), found):
                 raise OSError(f"{self.path}: the name leads to another file")
+            if len(data) > 1 and at != found.st_size:
+                raise OSError(f"{self.path}: somebody else changed its length")
             _write_all(self.descriptor, data, at)
         elif kind == _CUT:
             os.ftruncate(self.descriptor, at)
@@ -586,7 +590,8 @@ class _File:
 class Journal(_Sending):
     """Site `me`, 0 to 15, of a configuration, whose journal is in a file: what was answered is on the disk before its
     reply can be seen. The file is the one that `rbbank site` has, and either goes on from it; an empty one is begun,
-    with `new` or without. It is for a Unix system.
+    with `new` or without. It is for a Unix system, and for one process: a fork shares handle and lock, so open it after
+    the fork.
 
     A line is answered as a `Site` does, with BadLine if it is no event and no question: `reply` is then the line
     `{"bad":..}` of `rbbank site`, with its number, where the configuration's line is the first. A blank line is
@@ -653,24 +658,24 @@ class Journal(_Sending):
 
         data = _copied(given)
         while kind != 0:
-            try:
-                self._file.make(kind, at.value, data)
-            except OSError:
-                done(self._ref, 0)
-                self._file.close()
-                raise
+            self._file.make(kind, at.value, data)
             done(self._ref, 1)
             data = _copied(given)
 
     def _answered(self, data: bytes) -> bytes:
-        """What it answers to a line; all that was recorded is on the disk then. Raises OSError as well, if the file
-        fails, after which it is closed."""
+        """What it answers to a line; all that was recorded is on the disk then. Whatever ends it in the middle closes
+        it: what is on the disk is known by opening it again."""
         self._number += 1
-        status = self._answer(self._ref, self._number, data, len(data))
-        if status != _OK:
-            self._raise(_NONE if status == _NONE else _NO_MEMORY, self._kind, data)
-        self._make_calls()
-        reply = self._kept(self._reply)
+        try:
+            status = self._answer(self._ref, self._number, data, len(data))
+            if status != _OK:
+                self._raise(_NONE if status == _NONE else _NO_MEMORY, self._kind, data)
+            self._make_calls()
+            reply = self._kept(self._reply)
+        except BaseException:
+            self._finalizer()
+            self._file.close()
+            raise
         if reply.startswith(b'{"bad":'):
             raise _bad_line(self._kind, self._configuration, data)
         return reply

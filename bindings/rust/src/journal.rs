@@ -12,6 +12,7 @@ use std::path::{Path, PathBuf};
 
 /// Of `flock`: alone, and without waiting.
 const LOCK_EX_NB: i32 = 2 | 4;
+const LOCK_UN: i32 = 8;
 
 extern "C" {
     fn flock(descriptor: i32, how: i32) -> i32;
@@ -19,7 +20,7 @@ extern "C" {
 
 /// One site of a configuration, whose journal is in a file: what was answered is on the disk before its reply can be
 /// seen. The file is the one that `rbbank site` has, and either goes on from it; an empty one is begun, as a new one or
-/// not. Dropping it ends it.
+/// not. Dropping it ends it. It is for one process: a fork shares handle and lock, so open it after the fork.
 ///
 /// ```
 /// use rbbank::Journal;
@@ -163,15 +164,22 @@ impl Journal {
             c::rbbank_journal_answer(&mut self.handle, self.number, line.as_ptr(), line.len())
         };
         match status {
-            0 => self.make_calls()?,
+            0 => self.make_calls().map_err(|why| self.ended(why))?,
             1 => return Err(JournalError::Ended),
-            _ => return Err(JournalError::OutOfMemory),
+            _ => return Err(self.ended(JournalError::OutOfMemory)),
         }
         if self.reply().starts_with(r#"{"bad":"#) {
             let why = fault_of(Event, &self.configuration, line);
             return Err(JournalError::BadLine(why));
         }
         Ok(self.reply())
+    }
+
+    /// Gives the lock of a site that this ended back, so that it can be opened again.
+    fn ended(&self, why: JournalError) -> JournalError {
+        // SAFETY: the descriptor is open for the time of the call.
+        unsafe { flock(self.file.as_raw_fd(), LOCK_UN) };
+        why
     }
 
     /// Answers a line as [`answer`](Journal::answer) does, and gives a text of the caller's own.
@@ -238,9 +246,14 @@ impl Journal {
         let bytes = &self.bytes[..length];
         match kind {
             c::CALL_WRITE => {
-                // The byte that makes a batch count is written alone.
+                // The byte that makes a batch count is written alone, and the batch at the end.
                 if length == 1 {
                     self.is_at_its_name()?;
+                } else if at != self.file.metadata()?.len() {
+                    return Err(io::Error::new(
+                        io::ErrorKind::Other,
+                        "somebody else changed its length",
+                    ));
                 }
                 self.file.write_all_at(bytes, at)
             }

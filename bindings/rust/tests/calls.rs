@@ -551,3 +551,22 @@ fn a_journal_whose_name_is_gone_ends() {
     assert_eq!(site.reply(), "");
     fs::remove_dir_all(path.parent().unwrap()).unwrap();
 }
+
+#[test]
+fn a_journal_whose_length_changed_ends_and_is_opened_again() {
+    let path = new_path("length");
+    let mut site = Journal::open(&path, 0, CONFIG, 0, true).unwrap();
+    let before = fs::read(&path).unwrap();
+    fs::write(&path, &before[..9]).unwrap();
+    let event = r#"{"deposit":["ann",500]}"#;
+    let why = site.answer(event).unwrap_err();
+    assert_eq!(
+        why.to_string(),
+        "journal failed: somebody else changed its length"
+    );
+    fs::write(&path, &before).unwrap();
+    let mut again = Journal::open(&path, 0, CONFIG, 0, false).unwrap();
+    again.answer(event).unwrap();
+    assert!(matches!(site.answer(event), Err(JournalError::Ended)));
+    fs::remove_dir_all(path.parent().unwrap()).unwrap();
+}
