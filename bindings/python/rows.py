@@ -32,7 +32,7 @@ class Stop(Exception):
     """A fault of the input, in words, without why."""
 
     def __init__(self, words):
-        super().__init__(re.sub(": column .*", "", str(words)))
+        super().__init__(re.sub(": (column|it is an entry).*", "", str(words)))
 
 
 def write(text):

@@ -194,7 +194,10 @@ fn site(asked: &Asked, input: &str) -> Result<(), Stop> {
 /// A fault without the reason of a bad line.
 fn without_why(fault: &impl ToString) -> String {
     let text = fault.to_string();
-    text.split(": column ").next().unwrap_or("").to_owned()
+    let end = text
+        .find(": column ")
+        .or_else(|| text.find(": it is an entry"));
+    text[..end.unwrap_or(text.len())].to_owned()
 }
 
 /// A site whose journal the library keeps. It counts its lines itself, so that the blank ones are given as well.
