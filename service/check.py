@@ -716,7 +716,7 @@ async def keeps(folder: str) -> None:
     same("an older copy", found, ["an older copy of the journal of site 0 was started: site 1 has another B0.2"])
     import wires as module
     connect = module.aio_pika.connect
-    for fault in (module.PAMQPException, StopAsyncIteration):  # what a connection's end comes to at times
+    for fault in (module.PAMQPException, StopAsyncIteration, Exception):  # what a connection's end comes to at times
         async def fails(*_: Any, fault: type[Exception] = fault, **__: Any) -> None:
             raise fault
         module.aio_pika.connect = fails

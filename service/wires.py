@@ -33,6 +33,11 @@ FAULTS = (aio_pika.exceptions.AMQPError, PAMQPException, OSError, asyncio.Timeou
           StopAsyncIteration)  # (the last, if a connection ends in its handshake)
 
 
+def is_fault(why: Exception) -> bool:
+    """Whether the broker or its client is at fault. The client may end what waits for a channel by plain Exception."""
+    return isinstance(why, FAULTS) or type(why) is Exception
+
+
 async def together(again: float, *parts: Coroutine[Any, Any, Any]) -> None:
     """Runs these until one of them ends, and then ends the others. A cancellation that comes as a call with a timeout
     returns is lost, so they are cancelled again, each time after this number of seconds."""
@@ -45,6 +50,8 @@ async def together(again: float, *parts: Coroutine[Any, Any, Any]) -> None:
             for task in left:
                 task.cancel()
             await asyncio.wait(left, timeout=again)
+        for task in tasks:
+            task.cancelled() or task.exception()  # (else it is logged that nobody looked at it)
 
 
 class Wires:
@@ -81,9 +88,11 @@ class Wires:
                     await together(1, self.talk(connection), *parts)
                 finally:
                     self.is_connected = False
-                    with contextlib.suppress(*FAULTS):
+                    with contextlib.suppress(Exception):
                         await asyncio.wait_for(connection.close(), PATIENCE)
-            except FAULTS as fault:
+            except Exception as fault:
+                if not is_fault(fault):
+                    raise
                 if (why := repr(fault)[:200]) != before:
                     logging.warning("%s: %s", url.rpartition("@")[2], why)
                 before = why
