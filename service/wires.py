@@ -51,7 +51,8 @@ async def together(again: float, *parts: Coroutine[Any, Any, Any]) -> None:
                 task.cancel()
             await asyncio.wait(left, timeout=again)
         for task in tasks:
-            task.cancelled() or task.exception()  # (else it is logged that nobody looked at it)
+            if not task.cancelled():
+                task.exception()  # (else it is logged that nobody looked at it)
 
 
 class Wires:
