@@ -18,6 +18,7 @@ use Rattle.rb_ledger.specs.Valid.{operation_at, find_position, position_from, po
 use Rattle.rb_ledger.specs.Valid.{HasTarget}
 use Rattle.rb_ledger.proofs.CancelFacts
 use Rattle.rb_ledger.proofs.Overdraws
+use Rattle.rb_ledger.proofs.Public.OnAccount.{element}
 use Rattle.rb_ledger.proofs.Public.Pushes.{other_by}
 use Rattle.rb_shadow.proofs.Public.Lookups
 
@@ -34,6 +35,14 @@ entry_there us (suc p) u e = (omega arith, sym (e ∙ ap (λ b. cond b None (sli
   where
     test : (p : ℕ) → (suc p == 0) ≡ false
     test p = grind (arith, nat_tests)
+
+-- at each position but 0 of those there are is an operation
+pub none_there : (us : List Shadow) (p : ℕ) → None ≡ operation_at us p → p ≤ length us → p ≡ 0
+none_there us zero e low = refl
+none_there us (suc p) e low =
+    let (u, there) = element us (suc p - 1) (omega arith) in
+    let same : (suc p == 0) ≡ false = grind (arith, nat_tests) in
+    let both : None ≡ Some u = e ∙ ap (λ b. cond b None (slice_get us (suc p - 1))) same ∙ there in cc
 
 -- what is at the position that was found
 pub found_there : (us : List Shadow) (x : OpName) (p : ℕ) → Some p ≡ find_position us x →

@@ -81,6 +81,16 @@ own_on s us a p u valid e own =
     let (some, there) = entry_there us p u e in
     (some, inr (p - 1, u, omega arith, there, on_whole s us a (p - 1) u valid there ∙ sym own))
 
+-- and the entry is on the account if its position is
+pub entry_on : (s : Settings) (us : List Shadow) (a : Place) (p : ℕ) (u : Shadow) → IsValid s us → Some u ≡ operation_at us p →
+    IsOn us a p → is_on us u a ≡ true
+entry_on s us a p u valid e on =
+    let (some, there) = entry_there us p u e in
+    let (v, here, own) = OnAccount.on_entry us a p on some in
+    let both : Some u ≡ Some v = sym there ∙ here in
+    let one : u ≡ v = cc in
+    sym (on_whole s us a (p - 1) u valid there) ∙ ap (λ (w : Shadow). is_on (take (p - 1) us) w a) one ∙ own
+
 -- an account that has an entry is one of the configuration
 pub own_account : (s : Settings) (us : List Shadow) (a : Place) (p : ℕ) → IsValid s us → IsOn us a p → 0 < p → a.0 < length s.starts
 own_account s us a p valid on some = let (u, there, own) = OnAccount.on_entry us a p on some in

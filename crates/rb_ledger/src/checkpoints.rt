@@ -5,8 +5,8 @@
 //! ns, 26 skew-binary jumps (Myers, 1983) took 640, and a search by halves in a list for each account 124. Such lists
 //! would also need spare capacity for all operations that may come.
 //!
-//! The number of steps isn't proved: at most four for each account of the bank, two on average, and up to 4,000 of
-//! 1,000 accounts of which one is busy.
+//! The number of steps isn't proved: at most four for each account of the bank, and two on average. By turns with the
+//! links the search walks back from the position, so it ends at once on an account that most operations are on.
 ghost use Rattle.std.specs.Prelude.{◌≡◌, ◌≤◌, ◌<◌, ◌+◌, ◌*◌, length, map, [], ◌∷◌, ◌++◌, List, Some, IfSome};
 ghost use Rattle.std.specs.Prelude.{IsNone, OnOk, ℕ};
 ghost use Rattle.std.specs.Prelude.{slice_get, vec_capacity};

@@ -1,8 +1,8 @@
 //! The entries on an account, from the last back.
 //!
 //! An entry has a link to the one before it on each of its accounts, so a statement reads the entries of its account
-//! alone. A search as of a position begins at the next checkpoint, in place of the end of the list.
-ghost use Rattle.std.specs.Prelude.{◌≡◌, ◌≤◌, ◌<◌, ◌-◌, length, take, Some, [], ◌∷◌, ◌++◌};
+//! alone. A search as of a position begins at the position and, by links, at the next checkpoint.
+ghost use Rattle.std.specs.Prelude.{◌≡◌, ◌↔◌, ◌≤◌, ◌<◌, ◌-◌, length, take, IsTrue, Some, [], ◌∷◌, ◌++◌};
 ghost use Rattle.rb_money.specs.Settings.{IsConfigured};
 ghost use Rattle.rb_ledger.specs.Valid.{IsValid, parts_of};
 ghost use Rattle.rb_ledger.specs.OnAccount.{IsOn, IsLast, IsNoneAfter};
@@ -39,7 +39,8 @@ impl Ledger {
     }
 
     /// Of the first `limit` entries the position of the last that is on the account, or 0. `last` is that of all
-    /// entries.
+    /// entries. Two searches go back by turns, until the first ends: one by the account's links from after the limit,
+    /// and one by all entries from the limit.
     pub(crate) fn last_within(&self, limit: u32, last: u32, place: Place) -> u32
         requires within { limit ≤ length self.now.entries }
         requires last { IsLast self.now.entries place last }
@@ -48,10 +49,27 @@ impl Ledger {
         ensures on { IsOn self.now.entries place result }
     {
         let mut at = self.last_from(limit, last, place);
+        let mut back = limit;
         while at > limit {
+            if self.is_on(back, place) {
+                return back;
+            }
+            back -= 1;
             at = self.earlier(at, place);
         }
         at
+    }
+
+    /// Whether the position is that of an operation on the account, or 0.
+    #[inline(always)]
+    fn is_on(&self, position: u32, place: Place) -> bool
+        requires { position ≤ length self.now.entries }
+        ensures { IsTrue result ↔ IsOn self.now.entries place position }
+    {
+        match self.operation(position) {
+            Some(entry) => self.index.is_on(&self.entries.all(), &entry, place),
+            None => true,
+        }
     }
 
     /// The position of an entry on the account, or 0, after which none of the first entries is on it: that of the last
