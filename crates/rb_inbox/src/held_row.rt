@@ -1,15 +1,14 @@
 //! Rows of shadows.
 //!
-//! A row has free slots before it, so that at either end a shadow is put in or taken out without a move of the others.
-//! The slots that are made or given up at a time grow with the row: such a call costs a constant number of moves, on
-//! average.
+//! A row has free slots before it. Where a shadow is put in or taken out, those on its shorter side are moved: none at
+//! either end. The slots that are made or given up at a time grow with the row, so that few calls have to.
 ghost use Rattle.std.specs.Prelude.{◌≡◌, ◌<◌, ◌≤◌, [], length, insert, remove, OnErr, OnOk};
 
 use rb_shadow::Shadow;
 use std::alloc::{AllocError, Global};
 use std::marker::Model;
 
-/// A row of held shadows after free slots, so that one is put in or taken out at either end without moving the others.
+/// A row of held shadows after free slots, so that those before a place can be moved as well as those after it.
 #[derive(Drop)]
 pub struct HeldRow {
     slots: Vec<Shadow>,
@@ -52,60 +51,56 @@ impl HeldRow {
         ensures ok { OnOk result (self.new ≡ insert self.old index shadow.now) }
         ensures err { OnErr result (self.new ≡ self.old) }
     {
-        if index == 0 && self.free > 0 {
+        self.make_room(index)?;
+        let place = self.free + index;
+        if self.free > 0 && index <= self.slots.len() - place {
+            self.slots.copy_within(self.free..place, self.free - 1);
+            self.slots[place - 1] = *shadow;
             self.free -= 1;
-            self.slots[self.free] = *shadow;
             return Ok(());
         }
-        self.make_room();
-        if self.free + index == self.slots.len() {
+        if place == self.slots.len() {
             self.slots.reserve(1)?;
             self.slots.push_reserved(*shadow);
             return Ok(());
         }
-        if index == 0 {
-            return self.insert_first(shadow);
-        }
-        self.slots.insert(self.free + index, *shadow)?;
+        self.slots.insert(place, *shadow)?;
         Ok(())
     }
 
-    /// Puts a shadow in before all others, which are copied to slots at the end. The old ones but one are free then.
-    fn insert_first(&mut self, shadow: &Shadow) -> Result<(), AllocError>
-        requires { 0 < length self.old }
-        ensures ok { OnOk result (self.new ≡ insert self.old 0 shadow.now) }
-        ensures err { OnErr result (self.new ≡ self.old) }
-    {
-        let last = self.slots.len() - 1;
-        self.slots.extend_from_within(self.free..)?;
-        self.slots[last] = *shadow;
-        self.free = last;
-        Ok(())
-    }
-
-    /// Takes out the shadow at the index. The slot of the first is free then.
+    /// Takes out the shadow at the index.
     #[inline(always)]
     pub fn remove(&mut self, index: usize)
         requires { index < length self.old }
         ensures { self.new ≡ remove self.old index }
     {
-        if index == 0 {
+        let place = self.free + index;
+        if index < self.slots.len() - place {
+            self.slots.copy_within(self.free..place, self.free + 1);
             self.free += 1;
         } else {
-            self.slots.remove(self.free + index);
+            self.slots.remove(place);
         }
     }
 
-    /// Gives up the free slots if there is no memory for more slots, and as many are free as not.
+    /// Makes room for a shadow at the index. In the first half it takes a free slot: if there is none, the shadows are
+    /// copied to slots at the end, and the old ones are free then. In the second half it takes a slot at the end: if
+    /// there is no memory for one, and as many are free as not, the free ones are given up.
     #[inline(always)]
-    fn make_room(&mut self)
+    fn make_room(&mut self, index: usize) -> Result<(), AllocError>
         ensures { self.new ≡ self.old }
     {
         let count = self.slots.len() - self.free;
-        if self.slots.len() == self.slots.capacity() && count <= self.free {
+        if index <= count / 2 {
+            if self.free == 0 {
+                self.slots.extend_from_within(..)?;
+                self.free = count;
+            }
+        } else if self.slots.len() == self.slots.capacity() && count <= self.free {
             self.slots.rotate_left(self.free);
             self.slots.truncate(count);
             self.free = 0;
         }
+        Ok(())
     }
 }

@@ -1,8 +1,9 @@
 //! Inboxes.
 //!
-//! Held shadows are in a row for each home and one for red, free slots in front, so what comes backwards moves nothing.
-//! A row grows by doubling, and keeps its memory when it empties: giving that back takes 5 % more time for 4 % of the
-//! peak. Held shadows are compared with the clock itself, as a copy of the clock takes 10 instructions for each home.
+//! Held shadows are in a row for each home and one for red, free slots in front: what comes in order or backwards moves
+//! no others, and what comes between moves the shorter side of its row. A row grows by doubling, and keeps its memory
+//! when it empties: giving that back takes 5 % more time for 4 % of the peak. Held shadows are compared with the clock
+//! itself, as a copy of the clock takes 10 instructions for each home.
 ghost use Rattle.std.specs.Prelude.{◌≡◌, ◌≢◌, ◌⊎◌, ◌==◌, ℕ, ◌+◌, ◌<◌, ◌≤◌, [], ◌++◌, filter, length, replicate, IfErr};
 ghost use Rattle.std.specs.Prelude.{IfNone, IfOk, IfSome, OnErr, OnOk, Some, None, Ok, Err};
 ghost use Rattle.std.specs.Bool.{OnFalse, OnTrue};
