@@ -104,14 +104,9 @@ impl RecordedLedger {
         ensures err { OnErr result (self.new ≡ self.old) }
     {
         self.log.reserve(1)?;
-        match self.ledger.apply(*shadow) {
-            Ok(undo) => {
-                self.log.push_reserved(undo);
-                Ok(())
-            }
-            // A shadow that may follow the operations is refused for want of memory alone.
-            Err(_) => Err(AllocError),
-        }
+        let undo = self.ledger.apply_valid(shadow)?;
+        self.log.push_reserved(undo);
+        Ok(())
     }
 
     /// Makes the requests of a batch at the site of the token's view, each after those before it: all of
