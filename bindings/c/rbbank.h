@@ -70,7 +70,7 @@ enum {
     RBBANK_REFUSAL_UNKNOWN_ACCOUNT = 1,   /* unknown account */
     RBBANK_REFUSAL_BAD_AMOUNT = 2,        /* amount out of range: 1 to 100,000,000,000 cents */
     RBBANK_REFUSAL_BAD_RATE = 3,          /* rate out of range: 0 to 10,000 basis points */
-    RBBANK_REFUSAL_UNKNOWN_OPERATION = 4, /* unknown operation */
+    RBBANK_REFUSAL_UNKNOWN_OPERATION = 4, /* unknown operation: none of this name is applied here */
     RBBANK_REFUSAL_NOT_CANCELLABLE = 5,   /* can't be cancelled (declined, or a cancellation) */
     RBBANK_REFUSAL_ALREADY_CANCELLED = 6, /* already cancelled, first at `position` */
     RBBANK_REFUSAL_NUMBERS_EXHAUSTED = 7, /* numbers, or epochs, are used up */

@@ -24,8 +24,10 @@ struct rbbank_file {
 
 /* What rbbank_file_open and rbbank_file_answer return, beside the statuses of rbbank_journal_open and _answer. */
 enum {
-    RBBANK_FILE_FAILED = 10,       /* a call on the file failed, and `errno` says why (ESTALE: it was replaced, or
-                                      somebody else changed its length): open the file again */
+    RBBANK_FILE_FAILED = 10,       /* a call on the file failed, and `errno` says why: open the file again. ESTALE: it
+                                      was replaced, or somebody else changed its length. One that was replaced or made
+                                      shorter is an older copy: don't go on with it, since it makes other operations
+                                      under names that are taken (docs/RUNNING.md, Faults and crashes) */
     RBBANK_FILE_IN_USE = 11,       /* another process has the journal, or this one has it open already */
     RBBANK_FILE_NO_JOURNAL = 12,   /* it isn't there, and no new one was asked for */
     RBBANK_FILE_JOURNAL_THERE = 13 /* a new one was asked for, and it is there with bytes in it */

@@ -1,6 +1,7 @@
 """Each call once, and each exception that a caller can bring about: python3 -m unittest -v test_rbbank."""
 import copy
 import doctest
+import errno
 import glob
 import json
 import os
@@ -291,7 +292,9 @@ class Journals(unittest.TestCase):
         before = self.stored()
         cut = rbbank.Journal(self.path, 0, CONFIG)
         self.store(before[:-9])
-        self.assertRaisesRegex(OSError, "somebody else changed its length", cut.answer, EVENT)
+        with self.assertRaisesRegex(OSError, "somebody else changed its length") as stale:
+            cut.answer(EVENT)
+        self.assertEqual(stale.exception.errno, errno.ESTALE)
         self.assertRaises(rbbank.Closed, cut.answer, EVENT)
         self.assertEqual(self.stored(), before[:-9])
         self.store(before)

@@ -41,6 +41,7 @@ from __future__ import annotations
 
 import ctypes
 import enum
+import errno
 import json
 import os
 import re
@@ -178,7 +179,7 @@ class Refusal(enum.IntEnum):
     UNKNOWN_ACCOUNT = 1, "unknown account"
     BAD_AMOUNT = 2, "amount out of range: 1 to 100,000,000,000 cents"
     BAD_RATE = 3, "rate out of range: 0 to 10,000 basis points"
-    UNKNOWN_OPERATION = 4, "unknown operation"
+    UNKNOWN_OPERATION = 4, "unknown operation: none of this name is applied here"
     NOT_CANCELLABLE = 5, "can't be cancelled (declined, or a cancellation)"
     ALREADY_CANCELLED = 6, "already cancelled, first at `position`"
     NUMBERS_EXHAUSTED = 7, "numbers, or epochs, are used up"
@@ -364,7 +365,9 @@ class _Handle:
         several lines the last.
 
         Raises BadLine, after which all is as it was; Closed; MemoryError, and of a Journal OSError if a call on its
-        file fails, after which it is closed: open it again. So is a Journal by what a signal's handler raises.
+        file fails, after which it is closed: open it again. So is a Journal by what a signal's handler raises. ESTALE
+        says that the file was replaced, or that somebody else changed its length: one that was replaced or made shorter
+        is an older copy, which must not go on (docs/RUNNING.md, Faults and crashes).
         """
         data = _bytes(line)
         with self._lock:
@@ -555,9 +558,9 @@ class _File:
             # batch is written at the end.
             found = os.fstat(self.descriptor)
             if len(data) == 1 and not os.path.samestat(os.stat(self.path), found):
-                raise OSError(f"{self.path}: the name leads to another file")
+                raise OSError(errno.ESTALE, "the name leads to another file", self.path)
             if len(data) > 1 and at != found.st_size:
-                raise OSError(f"{self.path}: somebody else changed its length")
+                raise OSError(errno.ESTALE, "somebody else changed its length", self.path)
             _write_all(self.descriptor, data, at)
         elif kind == _CUT:
             os.ftruncate(self.descriptor, at)
@@ -603,7 +606,7 @@ class Journal(_Sending):
     ...     path = os.path.join(folder, "0.journal")
     ...     with Journal(path, 0, configuration, new=True) as site:  # the first start alone
     ...         site.answer({"deposit": ["ann", 500]})["reply"]
-    ...     with Journal(path, 0, configuration) as site:            # each later one
+    ...     with Journal(path, 0, configuration, resend=100_000_000) as site:  # each later one
     ...         site.answer({"balance": "ann"})["reply"]
     {'kind': 'deposit', 'name': 'B0.1'}
     {'balance': 500}
@@ -616,7 +619,8 @@ class Journal(_Sending):
                  new: bool = False) -> None:
         """Opens the journal at this path, or with `new` begins a new one there. Only then the file is made: a mistyped
         name, or a disk that isn't mounted, is never a new site, which would make other operations under names that are
-        taken. The reply is then what the last `resend` entries sent, a line for each that sent any.
+        taken. The reply is then what the last `resend` entries sent, a line for each that sent any: with 0 what a crash
+        kept from the other sites isn't sent.
 
         Raises BadLine if the configuration's line isn't one; NoSuchSite; JournalFault; BlockingIOError if another
         process has the journal, or this one; OSError if the file fails; MemoryError. With `new` an empty file may have

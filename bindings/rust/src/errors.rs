@@ -8,6 +8,10 @@ use std::fmt;
 #[cfg(unix)]
 use std::io;
 
+/// The system's error of a file that was replaced, or whose length somebody else changed.
+#[cfg(unix)]
+pub(crate) const ESTALE: i32 = 116;
+
 /// Why a bank or a site wasn't opened.
 #[derive(Clone, Debug, PartialEq, Eq)]
 pub enum OpenError {
@@ -80,7 +84,9 @@ pub enum JournalError {
     InUse,
     /// The line that was given is no event and no question. Nothing has changed.
     BadLine(LineFault),
-    /// A call on the file failed. An open site has ended: it is opened again.
+    /// A call on the file failed. An open site has ended: it is opened again. The system's error 116, `ESTALE`, says
+    /// that the file was replaced, or that somebody else changed its length: one that was replaced or made shorter is
+    /// an older copy, which must not go on (docs/RUNNING.md, Faults and crashes).
     File(io::Error),
     /// There was no memory. An open site has ended.
     OutOfMemory,
@@ -148,6 +154,9 @@ impl fmt::Display for JournalError {
             JournalError::JournalThere => f.write_str("there is a journal"),
             JournalError::InUse => f.write_str("journal is in use"),
             JournalError::BadLine(why) => write!(f, "bad line: {why}"),
+            JournalError::File(why) if why.raw_os_error() == Some(ESTALE) => {
+                f.write_str("journal failed: it was replaced, or somebody else changed its length")
+            }
             JournalError::File(why) => write!(f, "journal failed: {why}"),
             JournalError::OutOfMemory => f.write_str("out of memory"),
             JournalError::Ended => f.write_str("ended before"),

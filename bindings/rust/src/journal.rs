@@ -1,5 +1,6 @@
 //! A site whose journal is in a file, on a Unix system: the calls on the file that the library asks for.
 use crate::c::{self, Handle};
+use crate::errors::ESTALE;
 use crate::handles::{copy, messages, without_line_feed};
 use crate::{fault_of, JournalError, LineKind::Event, Message};
 use std::ffi::OsString;
@@ -30,7 +31,7 @@ extern "C" {
 /// let mut site = Journal::open(&path, 0, configuration, 0, true)?; // the first start alone
 /// assert!(site.answer(r#"{"deposit":["ann",500]}"#)?.starts_with(r#"{"reply":{"kind":"deposit","name":"B0.1"}"#));
 /// drop(site); // or a crash
-/// let mut site = Journal::open(&path, 0, configuration, 0, false)?; // each start after the first
+/// let mut site = Journal::open(&path, 0, configuration, 100_000_000, false)?; // each start after the first
 /// assert_eq!(site.answer(r#"{"balance":"ann"}"#)?, r#"{"reply":{"balance":500},"sends":[],"then":[]}"#);
 /// # std::fs::remove_file(path)?;
 /// # Ok::<(), Box<dyn std::error::Error>>(())
@@ -105,7 +106,7 @@ impl Journal {
     /// Site `me`, 0 to 15, of a configuration's line, over the journal at this path, which with `new` is a new one.
     /// Only then the file is made: a mistyped name, or a disk that isn't mounted, is never a new site, which would make
     /// other operations under names that are taken. The reply is then what the last `resend` entries sent, a line for
-    /// each that sent any.
+    /// each that sent any: with 0 what a crash kept from the other sites isn't sent.
     ///
     /// # Errors
     ///
@@ -250,10 +251,7 @@ impl Journal {
                 if length == 1 {
                     self.is_at_its_name()?;
                 } else if at != self.file.metadata()?.len() {
-                    return Err(io::Error::new(
-                        io::ErrorKind::Other,
-                        "somebody else changed its length",
-                    ));
+                    return Err(io::Error::from_raw_os_error(ESTALE));
                 }
                 self.file.write_all_at(bytes, at)
             }
@@ -273,10 +271,7 @@ impl Journal {
         if named.dev() == open.dev() && named.ino() == open.ino() {
             return Ok(());
         }
-        Err(io::Error::new(
-            io::ErrorKind::Other,
-            "the journal's name leads to another file",
-        ))
+        Err(io::Error::from_raw_os_error(ESTALE))
     }
 
     /// Adds what is about to be cut off to the end of the file of the same name and `.cut`.

@@ -44,7 +44,7 @@ refusals! {
     UnknownAccount = 1, "unknown account";
     BadAmount = 2, "amount out of range: 1 to 100,000,000,000 cents";
     BadRate = 3, "rate out of range: 0 to 10,000 basis points";
-    UnknownOperation = 4, "unknown operation";
+    UnknownOperation = 4, "unknown operation: none of this name is applied here";
     NotCancellable = 5, "can't be cancelled (declined, or a cancellation)";
     AlreadyCancelled = 6, "already cancelled, first at `position`";
     NumbersExhausted = 7, "numbers, or epochs, are used up";

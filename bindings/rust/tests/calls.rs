@@ -560,9 +560,10 @@ fn a_journal_whose_length_changed_ends_and_is_opened_again() {
     fs::write(&path, &before[..9]).unwrap();
     let event = r#"{"deposit":["ann",500]}"#;
     let why = site.answer(event).unwrap_err();
+    assert!(matches!(&why, JournalError::File(why) if why.raw_os_error() == Some(116)));
     assert_eq!(
         why.to_string(),
-        "journal failed: somebody else changed its length"
+        "journal failed: it was replaced, or somebody else changed its length"
     );
     fs::write(&path, &before).unwrap();
     let mut again = Journal::open(&path, 0, CONFIG, 0, false).unwrap();
