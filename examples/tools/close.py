@@ -2,7 +2,8 @@
 """Closes the books of a bank: makes the first line of the next one from the journals of all sites.
 
 A folder contains a bank's periods. The first line of period 1 is in 0001.bank, and its journals are 0001.0.journal,
-0001.1.journal and so on, one for each site. Stop the clients and end the sites first. Then
+0001.1.journal and so on, one for each site. Stop the clients, once each has all its answers, since the next bank knows
+no id of this one, and end the sites. Then
 
     close.py FOLDER --account zed --sites 4
 

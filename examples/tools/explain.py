@@ -6,7 +6,8 @@ line is at fault, which entry that is, and what the site answers there. The line
 --as site: what site --me answers to each over a new journal, what it sends and what it applies then. A bad line: the
 line, a caret and the reason.
 
-The status is the program's: 0, or 1 if an audit found a fault, or 2 at a bad line.
+The status is the program's: 0, or 1 if an audit found a fault, or 2 at a bad line; but 0 if that is a later line of a
+site, and 1 if FILE can't be read.
 """
 import argparse
 import json
