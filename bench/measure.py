@@ -34,15 +34,14 @@ def adopt():
         raise OSError(ctypes.get_errno(), "can't wait for programs that a shell started")
 
 
-def usage(program, word, path):
-    """What a run used: seconds of processor time, user and system, and the peak of its memory in bytes. None over the
-    limit.
+def counts(program, word, path, *more):
+    """What the system counted of a run, or None over the limit.
 
-    The system counts the memory of the process that starts a program to the program's peak. So a small shell starts it,
-    and is gone when the program begins.
+    It counts the memory of the process that starts a program to the program's peak. So a small shell starts it, and is
+    gone when the program begins.
     """
-    line = f'ulimit -t {LIMIT}; exec 3<&0; {{ read go <&3; exec "$0" "$1" < "$2" > /dev/null 3<&-; }} & echo $!'
-    words = ["sh", "-c", line, program, word, path]
+    line = f'ulimit -t {LIMIT}; exec 3<&0; {{ read go <&3; exec "$@" < "$0" > /dev/null 3<&-; }} & echo $!'
+    words = ["sh", "-c", line, path, program, word, *more]
     with subprocess.Popen(words, stdin=subprocess.PIPE, stdout=subprocess.PIPE) as shell:
         number = int(shell.stdout.readline())
         shell.wait()
@@ -51,7 +50,14 @@ def usage(program, word, path):
         return None
     if status != 0:
         raise SystemExit(f"{program} {word}: status {os.waitstatus_to_exitcode(status)}")
-    return used.ru_utime + used.ru_stime, used.ru_maxrss * 1024
+    return used
+
+
+def usage(program, word, path, *more):
+    """What a run used: seconds of processor time, user and system, and the peak of its memory in bytes. None over the
+    limit."""
+    used = counts(program, word, path, *more)
+    return used and (used.ru_utime + used.ru_stime, used.ru_maxrss * 1024)
 
 
 def refused(program, word, path):
@@ -71,8 +77,13 @@ def instructions(program, word, path, *more):
 
 def writes(program, word, path):
     """How many write calls a run makes, by strace, or None where it can't tell."""
-    words = ["strace", "-f", "-c", "-e", "trace=write,writev", program, word]
+    return calls(program, word, path, "write", "writev")
+
+
+def calls(program, word, path, *names):
+    """How many calls of these names a run makes, by strace, or None where it can't tell."""
+    words = ["strace", "-f", "-c", "-e", f"trace={','.join(names)}", program, word]
     with open(path, "rb") as script:
         done = subprocess.run(words, stdin=script, stdout=subprocess.DEVNULL, stderr=subprocess.PIPE)
     rows = [line.split() for line in done.stderr.decode().splitlines()]
-    return sum(int(row[3]) for row in rows if row and row[-1] in ("write", "writev")) if done.returncode == 0 else None
+    return sum(int(row[3]) for row in rows if row and row[-1] in names) if done.returncode == 0 else None
