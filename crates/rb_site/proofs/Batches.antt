@@ -1,6 +1,6 @@
 -- The requests of a batch, one by one.
 use Rattle.std.proofs.Common.{◌≡◌, ◌∙◌, ℕ, ◌+◌, ◌<◌, ◌≤◌, ◌⊎◌, inl, inr, List, [], ◌∷◌, ◌++◌, drop, get_or, length, take, ap, arith, refl}
-use Rattle.std.proofs.Common.{sym, Bool, true, false, cond, not, ◌&&◌, Result, Ok, Err, IfOk, IfErr, map}
+use Rattle.std.proofs.Common.{sym, Bool, true, false, cond, not, ◌&&◌, Result, Ok, Err, map}
 use Rattle.std.specs.Prelude.{nat_le}
 use Rattle.std.proofs.lemmas.List.{drop_more, length-take-le, take-append-drop, take_more}
 use Rattle.rb_money.specs.Refusals.{and_then}
@@ -86,20 +86,20 @@ as_many s me base vs view rs runs = batch_length s me base (seen view) 0 rs vs (
 
 -- ---- the records of a batch
 
--- the log has the list's records, whether a batch was made or refused
-pub recorded_after : {A : Type 0} (X : A → Type 0) (Y : Refusal → Type 0) (r : Result A Refusal) (s now : Settings) (us later : List Shadow)
-    (ps qs : List UndoParts) → now ≡ s → ps ≡ records_of s us
-    → ((a : A) → X a → (made : List Shadow) × (later ≡ us ++ made) × (qs ≡ ps ++ logged s us made)) →
-    ((why : Refusal) → Y why → (later ≡ us) × (qs ≡ ps)) → IfOk r X → IfErr r Y → qs ≡ records_of now later
-recorded_after X Y (Ok a) s now us later ps qs same kept more less ok err =
-    let (made, grown, noted) = more a ok in
-    noted ∙ ap (λ rs. rs ++ logged s us made) kept ∙ sym (Records.records_of-append s us made)
-    ∙ ap (records_of s) (sym grown)
-    ∙ ap (λ z. records_of z later) (sym same)
-recorded_after X Y (Err why) s now us later ps qs same kept more less ok err =
-    let (back, noted) = less why err in
-    noted ∙ kept ∙ ap (records_of s) (sym back)
-    ∙ ap (λ z. records_of z later) (sym same)
+-- a log that goes on with the records of the operations that were tried has the ledger's records
+pub recorded_tried : {old start book : Book} {made later : List Shadow} {now : Settings} {parts ps qs : List UndoParts}
+    → ps ≡ records_of old.settings old.entries → start ≡ old → book.settings ≡ start.settings
+    → IsTried start.entries made book parts → qs ≡ ps ++ parts → now ≡ book.settings → later ≡ book.entries
+    → qs ≡ records_of now later
+recorded_tried {old} {start} {book} {made} {later} {now} {parts} kept same set tried noted fixed grown =
+    let s : book.settings ≡ old.settings = set ∙ ap (λ (b : Book). b.settings) same in
+    let e : start.entries ≡ old.entries = ap (λ (b : Book). b.entries) same in
+    let its : parts ≡ logged old.settings old.entries made =
+    tried.records ∙ ap (λ z. logged z start.entries made) s ∙ ap (λ us. logged old.settings us made) e in
+    noted ∙ ap (λ rs. rs ++ parts) kept ∙ ap (λ rs. records_of old.settings old.entries ++ rs) its
+    ∙ sym (Records.records_of-append old.settings old.entries made)
+    ∙ ap (records_of old.settings) (sym (tried.entries ∙ ap (λ us. us ++ made) e))
+    ∙ ap (λ z. records_of z book.entries) (sym (fixed ∙ s)) ∙ ap (records_of now) (sym grown)
 
 -- ---- what a batch comes to
 

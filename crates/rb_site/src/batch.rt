@@ -2,8 +2,6 @@
 //! before it: a batch is made whole or not at all. Memory for the answer and for the messages is taken once all were
 //! tried and before they are committed, so that out of memory leaves the site as it was.
 ghost use Rattle.std.specs.Prelude.{◌≡◌, ◌≤◌, ◌<◌, ◌++◌, [], ◌⊎◌, List, length, map, Ok, Err, IfOk, IfErr, OnOk, ◌+◌};
-ghost use Rattle.std.specs.Prelude.{vec_len, vec_capacity};
-ghost use Rattle.rb_ledger.specs.Records.{logged};
 ghost use Rattle.rb_shadow.specs.declared.shadow.Shadow.{Shadow as TheShadow};
 ghost use Rattle.rb_token.specs.Token.{Token};
 ghost use Rattle.rb_token.specs.Seen.{Shows};
@@ -14,12 +12,11 @@ ghost use Rattle.rb_site.specs.States.{Says};
 
 use crate::batch_capacity::BatchCapacity;
 use crate::noted_reply::NotedReply;
+use crate::recorded_ledger::RecordedLedger;
 use crate::{Message, Reply};
-use rb_ledger::Ledger;
 use rb_money::Refusal;
 use rb_scratch::{Request, RunFault, Scratch};
 use rb_token::TokenView;
-use rb_undo::UndoLog;
 use std::alloc::Global;
 
 /// The refusal of a batch whose request of this index, from 0, is at fault. Out of memory is
@@ -62,79 +59,79 @@ fn run_all(scratch: &mut Scratch, requests: &[Request]) -> Result<(), Refusal>
     Ok(())
 }
 
-/// Makes the requests at the site of the token's view, each after those before it: all of them or none.
-/// The answer names the operations, in the memory of the names of the reply before if it has any. Their messages are
-/// put at the end of what was sent, and their records at the log's end.
-///
-/// Refuses, and changes nothing but that reply: with `BatchRefused` by the first request at fault, or with
-/// `OutOfMemory`.
-pub fn run_batch(
-    alloc: Global,
-    ledger: &mut Ledger,
-    log: &mut UndoLog,
-    token: TokenView,
-    requests: &[Request],
-    before: &mut Reply,
-    keeps: bool,
-    sent: &mut Vec<Message>,
-) -> Result<NotedReply, Refusal>
-    requires site { token.me < ledger.old.settings.sites }
-    requires few { length requests.now ≤ MOST_REQUESTS }
-    ensures settings { ledger.new.settings ≡ ledger.old.settings }
-    ensures made { IfOk result (λ answer. (made : List TheShadow) × (ledger.new.entries ≡ ledger.old.entries ++ made)
-        × (log.new.parts ≡ log.old.parts ++ logged ledger.old.settings ledger.old.entries made)
-        × Says keeps answer (Reply.Names (names_of_all made))
-        × (sent.new.items ≡ sent.old.items ++ map Message.Shadow made)
-        × ((known : Token) → Shows token known → batch_of ledger.old.settings token.me ledger.old.entries known 0
-        requests.now ≡ Ok made)) }
-    ensures refused { IfErr result (λ why. (ledger.new.entries ≡ ledger.old.entries) × (log.new.parts ≡ log.old.parts)
-        × (sent.new.items ≡ sent.old.items)
-        × ((why ≡ Refusal.OutOfMemory) ⊎ ((known : Token) → Shows token known →
-        batch_of ledger.old.settings token.me ledger.old.entries known 0 requests.now ≡ Err why))) }
-{
-    let mut scratch = Scratch::open(alloc, ledger, token);
-    if let Err(why) = run_all(&mut scratch, requests) {
-        scratch.abort();
-        return Err(why);
-    }
-    let room = match BatchCapacity::open(alloc, before, requests.len(), keeps, sent) {
-        Ok(room) => room,
-        Err(_) => {
+impl RecordedLedger {
+    /// Makes the requests of a batch at the site of the token's view, each after those before it: all of them or none.
+    /// The answer names the operations, in the memory of the names of the reply before if it has any, and their
+    /// messages are put at the end of what was sent.
+    ///
+    /// Refuses, and changes nothing but that reply: with `BatchRefused` by the first request at fault, or with
+    /// `OutOfMemory`.
+    pub fn batch(
+        &mut self,
+        alloc: Global,
+        token: TokenView,
+        requests: &[Request],
+        before: &mut Reply,
+        keeps: bool,
+        sent: &mut Vec<Message>,
+    ) -> Result<NotedReply, Refusal>
+        requires site { token.me < self.old.settings.sites }
+        requires few { length requests.now ≤ MOST_REQUESTS }
+        ensures made { IfOk result (λ answer. (made : List TheShadow)
+            × (self.new ≡ record self.old { ops = self.old.ops ++ made })
+            × Says keeps answer (Reply.Names (names_of_all made))
+            × (sent.new.items ≡ sent.old.items ++ map Message.Shadow made)
+            × ((known : Token) → Shows token known → batch_of self.old.settings token.me self.old.ops known 0
+            requests.now ≡ Ok made)) }
+        ensures refused { IfErr result (λ why. (self.new ≡ self.old) × (sent.new.items ≡ sent.old.items)
+            × ((why ≡ Refusal.OutOfMemory) ⊎ ((known : Token) → Shows token known →
+            batch_of self.old.settings token.me self.old.ops known 0 requests.now ≡ Err why))) }
+    {
+        let mut scratch = Scratch::open(alloc, &mut self.ledger, token);
+        if let Err(why) = run_all(&mut scratch, requests) {
             scratch.abort();
-            return Err(Refusal::OutOfMemory);
+            return Err(why);
         }
-    };
-    match scratch.commit(log) {
-        Ok(made) => Ok(room.filled(made.as_slice(), sent)),
-        Err(back) => {
-            back.abort();
-            Err(Refusal::OutOfMemory)
-        }
+        let room = match BatchCapacity::open(alloc, before, requests.len(), keeps, sent) {
+            Ok(room) => room,
+            Err(_) => {
+                scratch.abort();
+                return Err(Refusal::OutOfMemory);
+            }
+        };
+        let made = match scratch.commit(&mut self.log) {
+            Ok(made) => made,
+            Err(back) => {
+                back.abort();
+                return Err(Refusal::OutOfMemory);
+            }
+        };
+        Ok(room.filled(made.as_slice(), sent))
     }
-}
 
-/// Whether all requests can be made at the site of the token's view, each after those before it. They are made on the
-/// ledger and all taken back.
-///
-/// Refuses with `BatchRefused` by the first request at fault, or with `OutOfMemory`.
-#[inline(never)]
-pub fn try_batch(
-    alloc: Global,
-    ledger: &mut Ledger,
-    token: TokenView,
-    requests: &[Request],
-) -> Result<(), Refusal>
-    requires site { token.me < ledger.old.settings.sites }
-    requires few { length requests.now ≤ MOST_REQUESTS }
-    ensures settings { ledger.new.settings ≡ ledger.old.settings }
-    ensures entries { ledger.new.entries ≡ ledger.old.entries }
-    ensures fits { OnOk result ((made : List TheShadow) × ((known : Token) → Shows token known →
-        batch_of ledger.old.settings token.me ledger.old.entries known 0 requests.now ≡ Ok made)) }
-    ensures refused { IfErr result (λ why. (why ≡ Refusal.OutOfMemory) ⊎ ((known : Token) → Shows token known →
-        batch_of ledger.old.settings token.me ledger.old.entries known 0 requests.now ≡ Err why)) }
-{
-    let mut scratch = Scratch::open(alloc, ledger, token);
-    let ran = run_all(&mut scratch, requests);
-    scratch.abort();
-    ran
+    /// Whether all requests of a batch can be made at the site of the token's view, each after those before it. They
+    /// are made on the ledger and all taken back.
+    ///
+    /// Refuses with `BatchRefused` by the first request at fault, or with `OutOfMemory`.
+    #[inline(never)]
+    pub fn try_batch(
+        &mut self,
+        alloc: Global,
+        token: TokenView,
+        requests: &[Request],
+    ) -> Result<(), Refusal>
+        requires site { token.me < self.old.settings.sites }
+        requires few { length requests.now ≤ MOST_REQUESTS }
+        ensures same { self.new ≡ self.old }
+        ensures fits { OnOk result ((made : List TheShadow) × ((known : Token) → Shows token known →
+            batch_of self.old.settings token.me self.old.ops known 0 requests.now ≡ Ok made)) }
+        ensures refused { IfErr result (λ why. (why ≡ Refusal.OutOfMemory)
+            ⊎ ((known : Token) → Shows token known →
+            batch_of self.old.settings token.me self.old.ops known 0 requests.now ≡ Err why)) }
+    {
+        let mut scratch = Scratch::open(alloc, &mut self.ledger, token);
+        let ran = run_all(&mut scratch, requests);
+        scratch.abort();
+        ran
+    }
 }

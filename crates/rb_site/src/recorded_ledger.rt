@@ -1,26 +1,14 @@
 //! A site's ledger with the record to undo each operation. Memory for the record is taken before the operation is
 //! applied, so that each operation has its record, and out of memory leaves both lists as before.
-ghost use Rattle.std.specs.Prelude.{◌≡◌, ◌<◌, ◌≤◌, ◌++◌, ◌∷◌, ◌⊎◌, [], List, length, map, Some, None, Ok, Err, IfOk};
-ghost use Rattle.std.specs.Prelude.{IfErr, OnOk, OnErr};
+ghost use Rattle.std.specs.Prelude.{◌≡◌, ◌++◌, ◌∷◌, ◌⊎◌, [], Some, None, IfOk, IfErr, OnOk, OnErr};
 ghost use Rattle.rb_ledger.specs.Checks.{refusal_of};
 ghost use Rattle.rb_ledger.specs.Records.{records_of};
 ghost use Rattle.rb_ledger.specs.Valid.{IsValid};
 ghost use Rattle.rb_shadow.specs.Operations.{clock_of};
-ghost use Rattle.rb_shadow.specs.declared.shadow.Shadow.{Shadow as TheShadow};
-ghost use Rattle.rb_scratch.specs.Batches.{batch_of, names_of_all};
-ghost use Rattle.rb_token.specs.Token.{Token};
-ghost use Rattle.rb_token.specs.Seen.{Shows};
-ghost use Rattle.rb_scratch.specs.declared.request.TheConstants.{MOST_REQUESTS};
-ghost use Rattle.rb_site.specs.States.{Says};
 
-use crate::batch::{run_batch, try_batch};
-use crate::noted_reply::NotedReply;
-use crate::{Message, Reply};
 use rb_ledger::{Ledger, OperationList};
 use rb_money::{Config, Refusal};
-use rb_scratch::Request;
 use rb_shadow::Shadow;
-use rb_token::TokenView;
 use rb_undo::UndoLog;
 use rb_vclock::Clock;
 use std::alloc::{AllocError, Global};
@@ -28,8 +16,8 @@ use std::marker::Model;
 
 /// A ledger that can undo all it applied: a log has the record of each operation. Clients see settings and operations.
 pub struct RecordedLedger {
-    ledger: Ledger,
-    log: UndoLog,
+    pub(crate) ledger: Ledger,
+    pub(crate) log: UndoLog,
 }
 
 impl Model for RecordedLedger {
@@ -107,67 +95,6 @@ impl RecordedLedger {
         let undo = self.ledger.apply_valid(shadow)?;
         self.log.push_reserved(undo);
         Ok(())
-    }
-
-    /// Makes the requests of a batch at the site of the token's view, each after those before it: all of
-    /// them or none. The answer names the operations, in the memory of the names of the reply before if it has any, and
-    /// their messages are put at the end of what was sent.
-    ///
-    /// Refuses, and changes nothing but that reply: with `BatchRefused` by the first request at fault, or with
-    /// `OutOfMemory`.
-    pub fn batch(
-        &mut self,
-        alloc: Global,
-        token: TokenView,
-        requests: &[Request],
-        before: &mut Reply,
-        keeps: bool,
-        sent: &mut Vec<Message>,
-    ) -> Result<NotedReply, Refusal>
-        requires site { token.me < self.old.settings.sites }
-        requires few { length requests.now ≤ MOST_REQUESTS }
-        ensures made { IfOk result (λ answer. (made : List TheShadow)
-            × (self.new ≡ record self.old { ops = self.old.ops ++ made })
-            × Says keeps answer (Reply.Names (names_of_all made))
-            × (sent.new.items ≡ sent.old.items ++ map Message.Shadow made)
-            × ((known : Token) → Shows token known → batch_of self.old.settings token.me self.old.ops known 0
-            requests.now ≡ Ok made)) }
-        ensures refused { IfErr result (λ why. (self.new ≡ self.old) × (sent.new.items ≡ sent.old.items)
-            × ((why ≡ Refusal.OutOfMemory) ⊎ ((known : Token) → Shows token known →
-            batch_of self.old.settings token.me self.old.ops known 0 requests.now ≡ Err why))) }
-    {
-        run_batch(
-            alloc,
-            &mut self.ledger,
-            &mut self.log,
-            token,
-            requests,
-            before,
-            keeps,
-            sent,
-        )
-    }
-
-    /// Whether all requests of a batch can be made at the site of the token's view, each after those before it. None is
-    /// made.
-    ///
-    /// Refuses with `BatchRefused` by the first request at fault, or with `OutOfMemory`.
-    pub fn try_batch(
-        &mut self,
-        alloc: Global,
-        token: TokenView,
-        requests: &[Request],
-    ) -> Result<(), Refusal>
-        requires site { token.me < self.old.settings.sites }
-        requires few { length requests.now ≤ MOST_REQUESTS }
-        ensures same { self.new ≡ self.old }
-        ensures fits { OnOk result ((made : List TheShadow) × ((known : Token) → Shows token known →
-            batch_of self.old.settings token.me self.old.ops known 0 requests.now ≡ Ok made)) }
-        ensures refused { IfErr result (λ why. (why ≡ Refusal.OutOfMemory)
-            ⊎ ((known : Token) → Shows token known →
-            batch_of self.old.settings token.me self.old.ops known 0 requests.now ≡ Err why)) }
-    {
-        try_batch(alloc, &mut self.ledger, token, requests)
     }
 
     /// Gives up the undo of every operation, and gives the operations and their clock.

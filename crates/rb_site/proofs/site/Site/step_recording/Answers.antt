@@ -1,5 +1,5 @@
 -- A step that is recorded is a step of the model, and any other leaves the site as it was.
-use Rattle.std.proofs.Common.{◌≡◌, ◌∙◌, ◌+◌, ◌≤◌, ◌||◌, false, true, cond, [], ◌∷◌, ◌++◌, length, ap, refl, subst, sym, arith}
+use Rattle.std.proofs.Common.{◌≡◌, ◌∙◌, ◌+◌, ◌≤◌, ◌||◌, false, true, cond, [], ◌∷◌, ◌++◌, length, ap, refl, subst, sym}
 use Rattle.std.specs.Prelude.{map}
 use Rattle.std.proofs.lemmas.Bool.{or_parts}
 use Rattle.std.proofs.lemmas.List.{map-append}
@@ -11,9 +11,8 @@ use Rattle.rb_site.specs.States.{IsStanding, SiteState, noting}
 use Rattle.rb_site.proofs.site.Site.step_recording.Given.{Over}
 use Rattle.rb_site.proofs.site.Site.step_recording.Goals as goal
 use Rattle.rb_site.proofs.Reports.{enough_more, still_enough}
-use Rattle.rb_site.proofs.States.{IsStep, changes_seen, is_step, me_kept, noted_as, noted_in, seen_as}
+use Rattle.rb_site.proofs.States.{IsStep, changes_seen, is_step, me_kept, noted_in, seen_as}
 use Rattle.rb_site.proofs.States.{seen_now, seen_same, stands_as, stays}
-use Rattle.rb_site.proofs.Errors.{on_err}
 use Rattle.rb_site.proofs.Public.Outcomes.{sends_few}
 use Rattle.rb_site.specs.Unchanging.{changes_site}
 
