@@ -1,6 +1,6 @@
 //! An auditor, which reads histories entry by entry. Each entry is replayed by its site as it is read, so that little
 //! of it has to be kept (store.rt).
-ghost use Rattle.std.specs.Prelude.{◌≡◌, ◌<◌, ◌↔◌, ◌∷◌, [], IsTrue, IfOk, IfErr, OnOk, OnErr, length, replicate};
+ghost use Rattle.std.specs.Prelude.{◌≡◌, ◌<◌, ◌∷◌, [], IfOk, IfErr, OnOk, OnErr, length, replicate};
 ghost use Rattle.rb_auditor.specs.Audits.{HasMore};
 ghost use Rattle.rb_auditor.specs.Certificates.{Certifies};
 ghost use Rattle.rb_auditor.specs.Findings.{IsFound, Refutes};

@@ -4,7 +4,7 @@
 //! that leaves no entry at its own site can't be counted. Memory is taken before the step, so a call that fails leaves
 //! desk and seat as they were.
 ghost use Rattle.std.specs.Prelude.{◌≡◌, ◌<◌, ◌≤◌, ◌++◌, ◌∷◌, [], All, IfNone, IfOk, IfSome, List, OnErr, Err, Ok};
-ghost use Rattle.std.specs.Prelude.{IsTrue, None, false, length};
+ghost use Rattle.std.specs.Prelude.{None, false, length};
 ghost use Rattle.std.specs.Option.{option_copied};
 ghost use Rattle.rb_site.specs.Events.{first_site, is_full, reply_to, sent_at};
 ghost use Rattle.rb_site.specs.Seen.{Replays, first_seen, state_of, stepped};
@@ -15,7 +15,6 @@ ghost use Rattle.rb_branch.specs.declared.call_fault.CallFault.TheVariants.{Hist
 ghost use Rattle.rb_branch.specs.declared.limits.TheConstants.{MOST_RECEIPTS};
 ghost use Rattle.rb_branch.specs.declared.receipt.Receipt.{Receipt as ReceiptOf};
 ghost use Rattle.rb_shadow.specs.declared.op_name.OpName.{OpName as NameOf};
-ghost use Rattle.rb_site.specs.declared.message.Message.{Message as MessageOf};
 ghost use Rattle.rb_site.specs.declared.event.Event.TheVariants.{Apply};
 
 use crate::returned_seat::ReturnedSeat;

@@ -1,9 +1,8 @@
 //! One site with its journal in a file. An export makes no call on a file: it says which is to be made next, and the
 //! caller makes it and says how it ended. So a program has its own loop, and a reply can be seen only once all that it
 //! rests on is on the disk.
-ghost use Rattle.std.specs.Prelude.{◌≡◌, ◌≢◌, ◌<◌, ◌⊎◌, [], ◌∷◌, ◌++◌, List, ℕ, None, Some, true, IfSome};
+ghost use Rattle.std.specs.Prelude.{◌≡◌, ◌≢◌, ◌<◌, ◌⊎◌, [], None, Some, true, IfSome};
 ghost use Rattle.std.specs.Prelude.{MatchResult, pos};
-ghost use Rattle.rb_journal.specs.Calls.{NotedCall};
 ghost use Rattle.rb_journal.specs.Planned.{made_event};
 ghost use Rattle.rb_run_site.specs.Openings.{EndsOnLine};
 ghost use Rattle.rb_run_site.specs.declared.fault.SiteFault.{SiteFault as SeenFault};

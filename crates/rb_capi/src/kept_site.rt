@@ -2,7 +2,7 @@
 //!
 //! An answer is written beside the last one and takes its place only once it is whole: after a bad line the last one
 //! stays, so that nothing has changed.
-ghost use Rattle.std.specs.Prelude.{◌≡◌, ◌<◌, ◌≤◌, [], Some, None, false, IfOk, Err, MatchResult, OnOk};
+ghost use Rattle.std.specs.Prelude.{◌≡◌, ◌<◌, ◌≤◌, [], Some, None, false, IfOk, Err, OnOk};
 ghost use Rattle.std.specs.Str.{is_utf8};
 ghost use Rattle.rb_money.specs.Settings.{Settings};
 ghost use Rattle.rb_history.specs.Configurations.{config_on};

@@ -1,6 +1,6 @@
 //! Why a call closes no books.
 ghost use Rattle.std.specs.Prelude.{◌≡◌};
-ghost use Rattle.rb_capi.specs.Close.{close_code, close_number, ending_of_close, journal_of_close, journal_of_fault};
+ghost use Rattle.rb_capi.specs.Close.{close_code, close_number, ending_of_close, journal_of_close};
 
 use crate::ending::Ending;
 use rb_runs::{AddedFault, CloseFault, JournalFault};

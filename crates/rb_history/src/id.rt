@@ -1,6 +1,6 @@
 //! Ids of requests, which the lines of an event and of its entry may have. No id is an empty text and not an `Option`,
 //! so that one buffer serves line after line, and a site without ids takes no memory for them.
-ghost use Rattle.std.specs.Prelude.{◌≡◌, [], nat_le, ◌&&◌, true, length, OnErr, OnOk};
+ghost use Rattle.std.specs.Prelude.{◌≡◌, [], ◌&&◌, true, OnErr, OnOk};
 ghost use Rattle.std.specs.List.{list_all};
 ghost use Rattle.rb_history.specs.Ids.{IsIdOrNone, is_id, is_id_byte, may_be_asked, may_have_id};
 

@@ -1,8 +1,7 @@
 //! A request that was made by an id, as it is kept: its event, and which operations of the ledger it made. Its reply
 //! and its messages are made of these again.
-ghost use Rattle.std.specs.Prelude.{◌≡◌, ◌≢◌, ◌≤◌, ◌++◌, [], None, IfOk, OnOk, IfSome, MatchOption, map, option_copied};
-ghost use Rattle.indexmap.specs.IndexMap.{get_by, spare};
-ghost use Rattle.std.specs.Str.{bytes_eq};
+ghost use Rattle.std.specs.Prelude.{◌≡◌, ◌≢◌, ◌≤◌, ◌++◌, [], None, IfOk, IfSome, MatchOption};
+ghost use Rattle.indexmap.specs.IndexMap.{spare};
 ghost use Rattle.rb_node.specs.Kept.{by_bytes, find_request, request_noted};
 
 use indexmap::IndexMap;

@@ -1,6 +1,6 @@
 //! The line of an entry, replayed. A journal's line is taken only as the site writes it: it is written once more and
 //! compared, so that the replayed entry and the file can't differ.
-ghost use Rattle.std.specs.Prelude.{◌≡◌, ◌≢◌, ◌++◌, Some, None, length, take, Err, IfOk, OnOk, OnErr};
+ghost use Rattle.std.specs.Prelude.{◌≡◌, ◌≢◌, ◌++◌, Some, None, Err, IfOk, OnOk, OnErr};
 ghost use Rattle.std.specs.Prelude.{MatchResult};
 ghost use Rattle.rb_history.specs.Adds.{Adds};
 ghost use Rattle.rb_history.specs.Entries.{asked_entry_json, asked_entry_on};

@@ -4,12 +4,9 @@ ghost use Rattle.std.specs.Prelude.{◌≡◌, ◌+◌, ◌⊎◌, ◌<◌, ◌^
 ghost use Rattle.std.specs.Prelude.{IfSome};
 ghost use Rattle.std.specs.Prelude.{MatchResult};
 ghost use Rattle.std.specs.Io.KnownBytes.{IsAtEnd};
-ghost use Rattle.rb_journal.specs.Lines.{recovered};
 ghost use Rattle.rb_node.specs.Asked.{first_asked};
-ghost use Rattle.rb_history.specs.Configurations.{config_on};
 ghost use Rattle.rb_lines.specs.Buffers.{Counts};
 ghost use Rattle.rb_lines.specs.declared.limits.TheConstants.{MOST_READS};
-ghost use Rattle.rb_run_site.specs.Journals.{journal_head, journal_of};
 ghost use Rattle.rb_run_site.specs.Faults.{IsOpeningFault};
 ghost use Rattle.rb_run_site.specs.Openings.{EndsFile, EndsNode, EndsOver, IsOpeningCause, OpensFile};
 ghost use Rattle.rb_run_site.specs.Openings.{OpensSite};

@@ -1,9 +1,8 @@
 -- How far the lines of an audit were collected.
-use Rattle.std.specs.Prelude.{◌≡◌, ◌+◌, ℕ, List, ◌∷◌, Option, Some, None, Result, Err, true, false, refl}
+use Rattle.std.specs.Prelude.{ℕ, List, Option, Some, None, Result, refl}
 use Rattle.rb_lines.proofs.Public.Chosen.{first_chosen}
-use Rattle.rb_lines.specs.Lines.{is_blank, is_long}
+use Rattle.rb_lines.specs.Lines.{is_long}
 use Rattle.rb_lines.specs.declared.fault.ScriptFault.{ScriptFault}
-use Rattle.rb_lines.specs.declared.fault.ScriptFault.TheVariants.{LongLine}
 use Rattle.rb_runs.specs.declared.audit.collected.Collected.{Collected}
 use Rattle.rb_runs.specs.Inputs.{Input, input_after, input_from}
 use Rattle.rb_runs.specs.Silent.{MakesInput}

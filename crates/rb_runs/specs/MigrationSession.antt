@@ -1,12 +1,11 @@
 -- The state of a migration between two lines.
-use Rattle.std.specs.Prelude.{◌≡◌, ◌+◌, ℕ, List, ◌∷◌, Option, Some, None, true, false, refl}
+use Rattle.std.specs.Prelude.{ℕ, List, Option, Some, None, refl}
 use Rattle.rb_lines.proofs.Public.Chosen.{first_chosen}
 use Rattle.rb_lines.specs.Answers.{LinesOutcome}
-use Rattle.rb_lines.specs.Lines.{is_blank, is_long}
-use Rattle.rb_lines.specs.declared.fault.ScriptFault.TheVariants.{LongLine}
+use Rattle.rb_lines.specs.Lines.{is_long}
 use Rattle.rb_money.specs.Settings.{Settings}
 use Rattle.rb_runs.specs.Migration.{entries_from, migration_from}
-use Rattle.rb_runs.specs.TakesLines.{StopsAt, TakesAll, makes_nothing}
+use Rattle.rb_runs.specs.TakesLines.{TakesAll, makes_nothing}
 
 -- the outcome of the lines to come, the first of which is line n: before the configuration and after it
 abbrev pub migration_rest : Option Settings → ℕ → List (List ℕ) → LinesOutcome

@@ -1,10 +1,9 @@
 -- The state of a script whose histories are asked for, between two lines.
-use Rattle.std.specs.Prelude.{◌≡◌, ◌+◌, ℕ, List, ◌∷◌, Option, Some, None, Result, Err, true, false, refl}
+use Rattle.std.specs.Prelude.{ℕ, List, Option, Some, None, Result, refl}
 use Rattle.std.proofs.Common.{ap}
 use Rattle.rb_lines.proofs.Public.Chosen.{first_chosen}
-use Rattle.rb_lines.specs.Lines.{is_blank, is_long}
+use Rattle.rb_lines.specs.Lines.{is_long}
 use Rattle.rb_lines.specs.declared.fault.ScriptFault.{ScriptFault}
-use Rattle.rb_lines.specs.declared.fault.ScriptFault.TheVariants.{LongLine}
 use Rattle.rb_runs.specs.declared.recorded.recorder.Recorder.{Recorder}
 use Rattle.rb_runs.specs.Inputs.{Input}
 use Rattle.rb_runs.specs.Recording.{recording_by, recording_from, recording_in}

@@ -1,17 +1,16 @@
 -- The state of a script between two lines, and what one line does.
-use Rattle.std.specs.Prelude.{◌≡◌, ◌+◌, ℕ, List, ◌∷◌, ◌++◌, Option, Some, None, true, false, refl}
+use Rattle.std.specs.Prelude.{◌≡◌, ◌+◌, ℕ, List, ◌++◌, Option, Some, None, refl}
 use Rattle.std.proofs.Common.{ap}
 use Rattle.rb_lines.proofs.Public.Chosen.{first_chosen}
 use Rattle.rb_lines.specs.Answers.{LinesOutcome}
-use Rattle.rb_lines.specs.Lines.{is_blank, is_long}
-use Rattle.rb_lines.specs.declared.fault.ScriptFault.TheVariants.{LongLine}
+use Rattle.rb_lines.specs.Lines.{is_long}
 use Rattle.rb_site.specs.declared.reply.Reply.{Reply}
 use Rattle.rb_site.specs.declared.world_event.WorldEvent.{WorldEvent}
 use Rattle.rb_world.specs.Laws.{SeenWorld, next_reply, next_world}
 use Rattle.rb_history.specs.Replies.{line}
 use Rattle.rb_runs.specs.declared.script.session.Session.{Session}
 use Rattle.rb_runs.specs.Script.{commands_from, script_outcome, script_from}
-use Rattle.rb_runs.specs.TakesLines.{StopsAt, TakesAll, makes_nothing}
+use Rattle.rb_runs.specs.TakesLines.{TakesAll, makes_nothing}
 
 -- the outcome of the lines to come, the first of which is line n: before the configuration and after it
 abbrev pub session_rest : Option Session → ℕ → List (List ℕ) → LinesOutcome

@@ -1,6 +1,5 @@
 //! Tests of the inbox. Which of the operations that are ready at once goes first is in tests/sites.py, and two hundred
 //! that come backwards in tests/cases.py.
-ghost use Rattle.std.specs.Prelude.{◌≤◌};
 ghost use Rattle.rb_shadow.specs.Operations.{HasEntry};
 ghost use Rattle.rb_inbox.specs.Held.{IsNumbered};
 

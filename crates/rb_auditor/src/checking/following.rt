@@ -1,6 +1,6 @@
 //! An order, followed through histories that their sites record. Histories don't say what was sent, so sites take their
 //! entries again in the order, and a receipt has to come after its message.
-ghost use Rattle.std.specs.Prelude.{◌≡◌, ◌↔◌, [], IsTrue, IfOk, IfSome, MatchBool, false, length, map, drop};
+ghost use Rattle.std.specs.Prelude.{◌≡◌, ◌↔◌, IsTrue, IfOk, IfSome, MatchBool, false, length, map, drop};
 ghost use Rattle.std.specs.Prelude.{option_map, slice_get};
 ghost use Rattle.std.specs.List.{range_with_len};
 ghost use Rattle.rb_site.specs.Events.{is_full};

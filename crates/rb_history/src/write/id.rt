@@ -1,5 +1,4 @@
 //! Ids, added at the end of bytes.
-ghost use Rattle.std.specs.Prelude.{[], ◌∷◌, ◌++◌, List, ℕ};
 ghost use Rattle.rb_history.specs.Adds.{Adds};
 ghost use Rattle.rb_history.specs.Ids.{between_if_any};
 

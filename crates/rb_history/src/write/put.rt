@@ -2,7 +2,7 @@
 //!
 //! Replies and rows are put straight into the output. Put together on the stack first, each piece of 128 bytes is
 //! cleared and copied by a call, a third of a statement.
-ghost use Rattle.std.specs.Prelude.{◌≡◌, ◌≤◌, ◌<◌, ◌+◌, ◌^◌, [], ◌∷◌, codes, cond, decimal, length};
+ghost use Rattle.std.specs.Prelude.{◌≡◌, ◌≤◌, ◌<◌, ◌+◌, [], ◌∷◌, cond, decimal, length};
 ghost use Rattle.std.specs.Fmt.{signed_decimal};
 ghost use Rattle.json.specs.Print.{quoted};
 ghost use Rattle.rb_history.specs.Placed.{Placed};

@@ -2,7 +2,7 @@
 //!
 //! Their faults are those that `Config::new` finds, so the rules of accounts are in one place. They are checked alone
 //! before a journal is read, and behind the bank's own accounts once its configuration is known.
-ghost use Rattle.std.specs.Prelude.{◌≡◌, ◌∷◌, ◌≢◌, [], IfErr, IfOk, MatchResult, None, OnOk, Some, length, map};
+ghost use Rattle.std.specs.Prelude.{◌≡◌, ◌≢◌, IfErr, IfOk, MatchResult, None, OnOk, Some, map};
 ghost use Rattle.std.specs.Prelude.{option_map};
 ghost use Rattle.rb_money.specs.Faults.{account_of, config_fault};
 ghost use Rattle.rb_runs.specs.AddedAccounts.{IsAddedFault, added_fault, as_added, largest};

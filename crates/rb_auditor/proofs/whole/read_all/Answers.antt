@@ -6,7 +6,6 @@ use Rattle.rb_auditor.specs.Findings.{lists_of}
 use Rattle.rb_auditor.proofs.Listed
 use Rattle.rb_auditor.proofs.Lengths.{length_lists}
 use Rattle.rb_auditor.proofs.Read
-use Rattle.rb_auditor.proofs.Read.{filled}
 use Rattle.rb_auditor.proofs.Results.{went_well}
 use Rattle.rb_auditor.proofs.whole.read_all.Goals as goal
 
