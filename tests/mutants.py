@@ -37,8 +37,9 @@ RUN = re.compile(r"Last tried as a whole: (\d{4}-\d\d-\d\d) at ([0-9a-f]{8}), (\
 NEVER = "Last tried as a whole: never\n"
 # what the prover says of a function
 SAID = re.compile(r"^fn (\S+): (proved(?:, may wait)?|not proved|no proof.*)$", re.M)
-# a line that a commit adds or takes away, and that is neither empty nor a comment
-CODE = re.compile(r"[+-](?!--|\+\+|\s*(?://|--|$))")
+# a line that a commit adds or takes away, and that is neither empty nor a comment nor an import: no two definitions
+# share a name (closure.py), so that no import decides what one means
+CODE = re.compile(r"[+-](?!--|\+\+|\s*(?://|--|(?:pub )?(?:ghost )?use |$))")
 # an error that only says that a proof names what the mutant took away
 ONLY_A_NAME = re.compile(r"has no field|is not in scope|has no `|was not admitted")
 
@@ -264,8 +265,8 @@ def note(crate, refused):
 
 
 def changed(crate, since):
-    """The last commit since another that changed the crate's code or contracts, comments apart; or that other. Proofs
-    don't count: none lets a body through that its contract refuses."""
+    """The last commit since another that changed the crate's code or contracts, comments and imports apart; or that
+    other. Proofs don't count: none lets a body through that its contract refuses."""
     sources = sources_of(crate)[:2]
     for commit in git("log", "--format=%H", f"{since}..", "--", *sources).split():
         shown = git("show", "--format=", "--unified=0", commit, "--", *sources)
