@@ -186,6 +186,14 @@ def close(program: str, words: list[str], period: Period) -> Closing:
     return answer
 
 
+def open_and_sealed(answer: Closing, period: Period) -> str:
+    """What to do with the sites that lack operations, and whose journals are sealed."""
+    lacks = json.loads(answer.line or "{}").get("lacks", [])
+    names = [path for site, lacked in enumerate(lacks) if lacked and Journal(path := period.journal(site)).is_sealed]
+    return "".join(f"close: {name} lacks operations and is sealed: move it away, and make it again by rbbank-rebuild\n"
+                   for name in names)
+
+
 def begin(period: Period, line: str) -> None:
     """Keeps the first line of a period."""
     fresh = os.path.join(period.folder, "new.bank")
@@ -215,7 +223,7 @@ def main() -> int:
     answer = close(program, words, period)
     if answer.status != 0:
         sys.stdout.write(answer.line)
-        sys.stderr.write(answer.errors)
+        sys.stderr.write(answer.errors + open_and_sealed(answer, period))
         return answer.status
     begin(following, answer.line)
     print(said(period, following, answer.line))
