@@ -1,7 +1,7 @@
 /* The core of the bank, for C: sites that answer lines, and four whole runs.
  *
  * Lines, limits, refusals and statuses are those of docs/FORMAT.md. What each call does is proved of the code behind
- * it (crates/rb_capi). The rest is the caller's to keep:
+ * it (crates/rb_capi), but for the words of `rbbank_error`. The rest is the caller's to keep:
  *
  * - A handle begins with all bytes zero (`struct rbbank bank = {0};`). It is never copied, compared or looked into;
  *   two copies of one handle would end one bank twice. It may be moved: the old place is then forgotten.
