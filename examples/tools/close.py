@@ -97,8 +97,9 @@ def journals_of(period: Period) -> list[Journal]:
         raise bank.Stop(f"{period.name} isn't begun: there is no {', '.join(absent)}; a journal of another name is "
                         f"given this one (mv), and a bank without journals is started with --new --bank {period.name}")
     if absent:
-        raise bank.Stop(f"only some sites of {period.name} are started: there is no {', '.join(absent)}; start the "
-                        f"others with --new --bank {period.name}, or make a lost journal again by rbbank-rebuild")
+        raise bank.Stop(f"only some sites of {period.name} are started: there is no {', '.join(absent)}; bring it "
+                        f"here, start the site with --new --bank {period.name} if it never was, or make a lost "
+                        "journal again by rbbank-rebuild")
     return [Journal(path) for path in paths]
 
 
@@ -187,11 +188,13 @@ def close(program: str, words: list[str], period: Period) -> Closing:
 
 
 def open_and_sealed(answer: Closing, period: Period) -> str:
-    """What to do with the sites that lack operations, and whose journals are sealed."""
-    lacks = json.loads(answer.line or "{}").get("lacks", [])
-    names = [path for site, lacked in enumerate(lacks) if lacked and Journal(path := period.journal(site)).is_sealed]
-    return "".join(f"close: {name} lacks operations and is sealed: move it away, and make it again by rbbank-rebuild\n"
-                   for name in names)
+    """What to do with sealed journals, if a site lacks operations."""
+    is_open = json.loads(answer.line or "{}").get("fault") == "open"
+    sealed = [journal.path for journal in journals_of(period) if journal.is_sealed] if is_open else []
+    if not sealed:
+        return ""
+    return (f"close: nothing is closed yet: put a space in the place of the seal, the last byte of {', '.join(sealed)} "
+            "(truncate -s -1 FILE; printf ' ' >> FILE), and run this again\n")
 
 
 def begin(period: Period, line: str) -> None:
