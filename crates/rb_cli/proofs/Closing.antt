@@ -1,7 +1,7 @@
 -- Words that ask to close the books, in their usual spelling, are taken, and read as what they ask for.
 use Rattle.std.proofs.Common.{◌≡◌, ◌∙◌, ◌≤◌, ◌==◌, ◌&&◌, ◌++◌, ℕ, cond, codes, decimal, true, false, refl, sym, ap, subst}
 use Rattle.std.proofs.Common.{arith, rules, List, [], ◌∷◌, length, Option, Some, None, inl, inr}
-use Rattle.std.specs.Prelude.{IfSome, fold, nat_lt}
+use Rattle.std.specs.Prelude.{IfSome, fold, nat_lt, option_map}
 use Rattle.std.proofs.lemmas.Bool.{ne_eqb}
 use Rattle.std.proofs.lemmas.List.{append-nil, append_assoc}
 use Rattle.std.proofs.lemmas.List.Sums.{fold-append}
@@ -13,9 +13,9 @@ use Rattle.clap.specs.Walk.{Row, Rule, Text, Walk, after_step, idle, is_pending,
 use Rattle.clap.specs.Walk.{settled, settled_rows, used, walk_from, walked, with_default}
 use Rattle.clap.proofs.OnLiterals.{clap_on_literals}
 use Rattle.rb_money.specs.declared.limits.TheConstants.{MOST_SITES}
-use Rattle.rb_cli.specs.Words.{AreValues, account_words, close, close_line, repeated_rule, sites_words, words_of_matches}
-use Rattle.rb_cli.proofs.GivenOptions.{AreGiven, Given, IsNamed, IsPlain, Leaves, at, both_none, no_flag, no_flag_fault, pending_after}
-use Rattle.rb_cli.proofs.GivenOptions.{rows_with, spelled, takes_walked, valued, walks_given}
+use Rattle.rb_cli.specs.Words.{AreValues, account_words, close, close_line, repeated_rule, value_words, words_of_matches}
+use Rattle.rb_cli.proofs.GivenOptions.{AreGiven, FitsValued, Given, IsNamed, IsPlain, Leaves, at, both_none, no_flag, no_flag_fault}
+use Rattle.rb_cli.proofs.GivenOptions.{pending_after, rows_with, spelled, takes_walked, valued, walks_given}
 use Rattle.rb_cli.proofs.Passing.{none_of}
 use Rattle.rb_cli.proofs.Reading.{journals_rule, leaf, numbers}
 use Rattle.rb_cli.proofs.Spelled.{decimal_digits, is_plain, named, number_passes, reads}
@@ -49,7 +49,8 @@ accounts_spelled : (names : List Text) → spelled (accounts_given names) ≡ ac
 accounts_spelled [] = refl
 accounts_spelled (name ∷ names) = ap (λ words. codes "--account" ∷ name ∷ words) (accounts_spelled names)
 
-options_spelled : (sites : Option ℕ) (names : List Text) → spelled (options_given sites names) ≡ sites_words sites ++ account_words names
+options_spelled : (sites : Option ℕ) (names : List Text)
+    → spelled (options_given sites names) ≡ value_words (codes "--sites") (option_map decimal sites) ++ account_words names
 options_spelled None names = accounts_spelled names
 options_spelled (Some n) names = ap (λ words. codes "--sites" ∷ decimal n ∷ words) (accounts_spelled names)
 
@@ -91,16 +92,15 @@ rows_are (Some n) names = account_rows (Some n) names
 accounts_fit : (rows : List Row) (names : List Text) → AreValues names → AreGiven (leaf close_line) rows (accounts_given names)
 accounts_fit rows [] are = tt
 accounts_fit rows (name ∷ names) are =
-    (account_named, is_plain name are.0, inl refl, refl, accounts_fit (used account_rule (name ∷ []) rows) names are.1)
+    (FitsValued account_named (is_plain name are.0) refl, inl refl, accounts_fit (used account_rule (name ∷ []) rows) names are.1)
 
 options_fit : (sites : Option ℕ) (names : List Text) → IfSome sites (λ n. (2 ≤ n) × (n ≤ MOST_SITES)) → AreValues names
     → AreGiven (leaf close_line) [] (options_given sites names)
 options_fit None names few are = accounts_fit [] names are
 options_fit (Some n) names few are = (
-  sites_named,
-  (decimal_digits n (omega (arith, few.1))).plain,
+  FitsValued sites_named (decimal_digits n (omega (arith, few.1))).plain
+      (number_passes (codes "sites") false n 2 MOST_SITES (omega (arith, few.1)) few.0 few.1),
   inr refl,
-  number_passes (codes "sites") false n 2 MOST_SITES (omega (arith, few.1)) few.0 few.1,
   accounts_fit (sites_rows (Some n)) names are,
 )
 
@@ -273,15 +273,15 @@ pub record TakesClosing (words : List Text) (sites : Option ℕ) (names files : 
 
 pub closing_taken : (sites : Option ℕ) (names files : List Text) → IfSome sites (λ n. (2 ≤ n) × (n ≤ MOST_SITES)) → AreValues names
     → AreValues files → 1 ≤ length files → length files ≤ usize_max
-    → TakesClosing (sites_words sites ++ (account_words names ++ files)) sites names files
+    → TakesClosing (value_words (codes "--sites") (option_map decimal sites) ++ (account_words names ++ files)) sites names files
 closing_taken sites names [] few are_names are_files some fit = absurd (omega (arith, some))
 closing_taken sites names (file ∷ files) few are_names are_files some fit =
     let s = leaf close_line in
     let end = ends sites names file files few in
-    let takes = takes_walked s _ _ (leaves sites names file files few are_names are_files fit) end.defaults end.checks in
+    let takes = takes_walked s _ _ (leaves sites names file files few are_names are_files fit) end.defaults in
     let spelled_as = ap (λ ws. ws ++ file ∷ files) (options_spelled sites names)
-    ∙ append_assoc (sites_words sites) (account_words names) (file ∷ files) in
+    ∙ append_assoc (value_words (codes "--sites") (option_map decimal sites)) (account_words names) (file ∷ files) in
     subst (λ ws. TakesClosing ws sites names (file ∷ files)) spelled_as (record {
-      fault = takes.0;
+      fault = takes.0 end.checks;
       is = ap (λ (r : List Row). words_of_matches (Some (codes "close", r))) takes.1 ∙ end.is;
     })

@@ -75,8 +75,8 @@ module _ (name : Text) where
   file_taken [] values few = none_taken
   file_taken (file ∷ []) values few =
       let end = one_ends file in
-      let takes = takes_walked one _ _ (one_leaves file (is_plain file values.0)) end.defaults end.checks in
-      record { fault = takes.0; are = ap (texts_at (codes "files")) takes.1 ∙ end.are }
+      let takes = takes_walked one _ _ (one_leaves file (is_plain file values.0)) end.defaults in
+      record { fault = takes.0 end.checks; are = ap (texts_at (codes "files")) takes.1 ∙ end.are }
   file_taken (file ∷ more ∷ files) values few = absurd (omega (arith, few))
 
 -- ---- a command that takes any number of files
@@ -175,5 +175,5 @@ module _ (name : Text) where
   files_taken [] values few = no_more_taken
   files_taken (file ∷ files) values few =
       let end = all_ends file files in
-      let takes = takes_walked all _ _ (all_leaves file files values few) end.defaults end.checks in
-      record { fault = takes.0; are = ap (texts_at (codes "files")) takes.1 ∙ end.are }
+      let takes = takes_walked all _ _ (all_leaves file files values few) end.defaults in
+      record { fault = takes.0 end.checks; are = ap (texts_at (codes "files")) takes.1 ∙ end.are }

@@ -1,5 +1,6 @@
 -- A command whose options are given one after another, each name, and its value if it has one, in a word of its own.
-use Rattle.std.proofs.Common.{◌≡◌, ◌∙◌, Bool, ◌⊎◌, cond, true, false, refl, sym, ap, subst, List, [], ◌∷◌, Option, Some, None, inl, inr}
+use Rattle.std.proofs.Common.{◌≡◌, ◌∙◌, Bool, ◌⊎◌, cond, true, false, refl, sym, ap, subst}
+use Rattle.std.proofs.Common.{List, [], ◌∷◌, ◌++◌, Option, Some, None, inl, inr}
 use Rattle.std.specs.Prelude.{fold, option_and_then}
 use Rattle.std.specs.Option.{option_map_or}
 use Rattle.std.specs.Str.{bytes_eq}
@@ -15,7 +16,7 @@ use Rattle.clap.specs.Walk.{Held, Row, Rule, Text, Waiting, Walk, action_of, aft
 use Rattle.clap.specs.Walk.{long_or_other, most_values, nothing_held, option, option_word, plain_word}
 use Rattle.clap.specs.Walk.{rows_after, settled, settled_rows, short_or_plain, subcommand_or_other, trailing, used, used_by_id, walk}
 use Rattle.clap.specs.Walk.{walk_from, walked, with_default}
-use Rattle.clap.specs.declared.builder.action.ArgAction.TheVariants.{Append}
+use Rattle.clap.specs.declared.builder.action.ArgAction.TheVariants.{Append, SetTrue}
 use Rattle.clap.proofs.OnLiterals.{clap_on_literals}
 use Rattle.rb_cli.proofs.Passing.{TakesValues}
 
@@ -52,6 +53,7 @@ pub record IsNamed (s : Shape) (word : Text) (a : Rule) : Type 0 where
 
 -- the word is a switch, which has no value
 pub record IsSwitch (s : Shape) (word : Text) (a : Rule) : Type 0 where
+  pub sets : action_of a ≡ SetTrue
   pub met : (rows : List Row) (pending : Option (Text × List Text))
       → walked s.rules [] (at rows pending) word ≡ at (used a [] (settled_rows s.rules pending rows)) None
   pub fault : (rows : List Row) (pending : Option (Text × List Text))
@@ -120,39 +122,54 @@ value_fault s id rows v plain =
 
 -- ---- options in turn
 
--- an option as it is given: the word of its name, its rule, and the word of its value, if it has one
-pub data Given : Type 0 where
-  valued : (word : Text) (rule : Rule) (value : Text) → Given
-  switch : (word : Text) (rule : Rule) → Given
+-- an option as it is given: the word of its name, its rule, and its values, each in a word behind it
+pub record Given : Type 0 where
+  pub word : Text
+  pub rule : Rule
+  pub values : List Text
+
+-- one with one value
+abbrev pub valued : Text → Rule → Text → Given
+valued word rule value = record { word = word; rule = rule; values = value ∷ [] }
 
 -- the words of options in turn
 abbrev pub spelled : List Given → List Text
 spelled [] = []
-spelled (valued word rule value ∷ gs) = word ∷ value ∷ spelled gs
-spelled (switch word rule ∷ gs) = word ∷ spelled gs
+spelled (g ∷ gs) = g.word ∷ (g.values ++ spelled gs)
 
 -- the rows after them
 abbrev pub rows_with : List Row → List Given → List Row
 rows_with rows [] = rows
-rows_with rows (valued word rule value ∷ gs) = rows_with (used rule (value ∷ []) rows) gs
-rows_with rows (switch word rule ∷ gs) = rows_with (used rule [] rows) gs
+rows_with rows (g ∷ gs) = rows_with (used g.rule g.values rows) gs
 
--- what is pending after them
+-- what is pending after one of them, and after all
+abbrev pending_by : Rule → List Text → Option (Text × List Text)
+pending_by rule [] = None
+pending_by rule (v ∷ vs) = Some (rule.id, v ∷ vs)
+
 abbrev pub pending_after : Option (Text × List Text) → List Given → Option (Text × List Text)
 pending_after pending [] = pending
-pending_after pending (valued word rule value ∷ gs) = pending_after (Some (rule.id, value ∷ [])) gs
-pending_after pending (switch word rule ∷ gs) = pending_after None gs
+pending_after pending (g ∷ gs) = pending_after (pending_by g.rule g.values) gs
+
+-- an option with a value that passes, or a switch
+pub data Fits (s : Shape) : Given → Type 0 where
+  FitsValued : {word : Text} {rule : Rule} {value : Text} → IsNamed s word rule → IsPlain value → value_passes rule value ≡ true
+      → Fits s (valued word rule value)
+  FitsSwitch : {word : Text} {rule : Rule} → IsSwitch s word rule → Fits s (record { word = word; rule = rule; values = [] })
 
 -- the option can be given: it may be given again, or is not given before
 abbrev pub CanBeGiven : Rule → List Row → Type 0
 CanBeGiven a rows = (action_of a ≡ Append) ⊎ (has_row a.id rows ≡ false)
 
--- each is an option that can be given, and its value passes
+-- each is an option that fits and can be given
 abbrev pub AreGiven : Shape → List Row → List Given → Type 0
 AreGiven s rows [] = Unit {0}
-AreGiven s rows (valued word rule value ∷ gs) = IsNamed s word rule × IsPlain value × CanBeGiven rule rows
-    × (value_passes rule value ≡ true) × AreGiven s (used rule (value ∷ []) rows) gs
-AreGiven s rows (switch word rule ∷ gs) = IsSwitch s word rule × (has_row rule.id rows ≡ false) × AreGiven s (used rule [] rows) gs
+AreGiven s rows (g ∷ gs) = Fits s g × CanBeGiven g.rule rows × AreGiven s (used g.rule g.values rows) gs
+
+-- a switch may not be given again
+only_once : (s : Shape) (word : Text) (a : Rule) (rows : List Row) → IsSwitch s word a → CanBeGiven a rows → has_row a.id rows ≡ false
+only_once s word a rows is (inr new) = new
+only_once s word a rows is (inl again) = let never = sym is.sets ∙ again in cc never
 
 used_once : (again : Bool) (a : Rule) (v : Text) (rows : List Row) → most_values a ≡ 1 → (unwrap_or_range a.range).start_inclusive ≡ 1
     → TakesValues a → CanBeGiven a rows → value_passes a v ≡ true → use_fault again a (v ∷ []) rows ≡ []
@@ -185,7 +202,7 @@ pub walks_given : (s : Shape) (gs : List Given) (rows : List Row) (pending : Opt
 unfolding clap_on_literals
 walks_given s [] rows pending given settled =
     record { none = refl; before = rows; ends = refl; settled = settled; rows_are = refl }
-walks_given s (valued word a v ∷ gs) rows pending (named, plain, new, passes, more) settled =
+walks_given s (g ∷ gs) rows pending (FitsValued {word = word} {rule = a} {value = v} named plain passes, new, more) settled =
     let now = settled_rows s.rules pending rows in
     let value = Some (a.id, v ∷ []) in
     let met = ap (λ w. walked s.rules [] w v) (named.met rows pending) ∙ value_met s word a now v named plain in
@@ -202,12 +219,12 @@ walks_given s (valued word a v ∷ gs) rows pending (named, plain, new, passes, 
       settled = as_met.settled;
       rows_are = as_met.rows_are ∙ ap (λ r. rows_with r gs) (settled_is s word a v now named);
     }
-walks_given s (switch word a ∷ gs) rows pending (is, new, more) settled =
+walks_given s (g ∷ gs) rows pending (FitsSwitch {word = word} {rule = a} is, new, more) settled =
     let now = used a [] (settled_rows s.rules pending rows) in
     let as_met = subst (λ w. WalksGiven s w gs (pending_after None gs) (rows_with now gs)) (sym (is.met rows pending))
     (walks_given s gs now None more refl) in
     record {
-      none = both_none _ _ (is.fault rows pending settled new) as_met.none;
+      none = both_none _ _ (is.fault rows pending settled (only_once s word a (settled_rows s.rules pending rows) is new)) as_met.none;
       before = as_met.before;
       ends = as_met.ends;
       settled = as_met.settled;
@@ -224,31 +241,27 @@ pub record Leaves (s : Shape) (words : List Text) (rows : List Row) : Type 0 whe
 
 -- a command takes the words of such a walk, if its defaults and the last checks pass
 pub takes_walked : (s : Shape) (words : List Text) (rows : List Row) → Leaves s words rows → defaults_fault rows s.rules ≡ []
-    → check_fault s (fold with_default rows s.rules) false ≡ []
-    → (level_fault s [] nothing_held words false [] ≡ []) × (rows_after s.rules [] words ≡ fold with_default rows s.rules)
-takes_walked s words rows walks defaults checks =
+    → (check_fault s (fold with_default rows s.rules) false ≡ [] → level_fault s [] nothing_held words false [] ≡ [])
+    × (rows_after s.rules [] words ≡ fold with_default rows s.rules)
+takes_walked s words rows walks defaults =
     let again = s.args_override_self in
-    let after = ap (λ (r : List Row). fold with_default r s.rules) walks.rows_are in
-    let last = both_none _ _ walks.settled
-    (both_none _ _ (ap (λ (r : List Row). defaults_fault r s.rules) walks.rows_are ∙ defaults)
-    (ap (λ r. check_fault s r false) after ∙ checks)) in (
-      both_none _ _ walks.none
+    let after = ap (λ (r : List Row). fold with_default r s.rules) walks.rows_are in (
+      λ checks. both_none _ _ walks.none
           (subst (λ (w : Walk). or_else (settle_fault s.rules again w.held) (or_else (defaults_fault (settled s.rules w.held).rows s.rules)
-          (check_fault s (finished s.rules w.held) false)) ≡ []) (sym walks.ends) last),
+          (check_fault s (finished s.rules w.held) false)) ≡ []) (sym walks.ends) (both_none _ _ walks.settled
+          (both_none _ _ (ap (λ (r : List Row). defaults_fault r s.rules) walks.rows_are ∙ defaults)
+          (ap (λ r. check_fault s r false) after ∙ checks)))),
       ap (λ (w : Walk). finished s.rules w.held) walks.ends ∙ after,
     )
 
--- a command takes its options in turn, if its defaults and the last checks pass
-pub takes_given : (s : Shape) (gs : List Given) → AreGiven s [] gs → defaults_fault (rows_with [] gs) s.rules ≡ []
-    → check_fault s (fold with_default (rows_with [] gs) s.rules) false ≡ []
-    → (level_fault s [] nothing_held (spelled gs) false [] ≡ [])
-    × (rows_after s.rules [] (spelled gs) ≡ fold with_default (rows_with [] gs) s.rules)
-takes_given s gs given defaults checks =
+-- options in turn are such a walk
+pub given_leaves : (s : Shape) (gs : List Given) → AreGiven s [] gs → Leaves s (spelled gs) (rows_with [] gs)
+given_leaves s gs given =
     let walks = walks_given s gs [] None given refl in
-    takes_walked s (spelled gs) (rows_with [] gs) (record {
+    record {
       none = walks.none;
       end = at walks.before (pending_after None gs);
       ends = walks.ends;
       settled = walks.settled;
       rows_are = walks.rows_are;
-    }) defaults checks
+    }

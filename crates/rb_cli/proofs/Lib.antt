@@ -2,6 +2,7 @@ mod Added
 mod Closing
 mod Files
 mod GivenOptions
+mod InAnyOrder
 mod Options
 mod Passing
 mod Reading

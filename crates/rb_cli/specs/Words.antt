@@ -1,6 +1,6 @@
 -- The words that ask for each thing, the command line that takes them, and what it reads them as.
-use Rattle.std.specs.Prelude.{◌≡◌, ◌<◌, ◌≤◌, ◌+◌, ◌*◌, ◌^◌, ◌⊎◌, ℕ, pos, List, [], ◌∷◌, ◌++◌, length, map, take, drop, codes, decimal}
-use Rattle.std.specs.Prelude.{◌&&◌, Bool, true, false, is_some}
+use Rattle.std.specs.Prelude.{◌≡◌, ◌<◌, ◌≤◌, ◌^◌, ◌⊎◌, ℕ, pos, List, [], ◌∷◌, ◌++◌, length, map, codes, decimal, flat_map}
+use Rattle.std.specs.Prelude.{◌&&◌, Bool, true, false, is_some, IsPermutation}
 use Rattle.std.specs.Option.{option_map_or}
 use Rattle.std.specs.Prelude.{Option, None, Some, IfOk, IfSome, Result, if◌then◌else◌, option_map, slice_get, unwrap_or}
 use Rattle.std.specs.Borrow.{Bor}
@@ -25,10 +25,6 @@ use Rattle.rb_cli.specs.declared.words.Words.TheVariants.{Script, Histories, Aud
 
 -- ---- words in their usual spelling: each option's name, and its value behind it, in a word of its own
 
--- one of the options behind the first word has this name, and this text behind it
-abbrev pub IsGiven : List (List ℕ) → List ℕ → List ℕ → Type 0
-IsGiven words name text = (i : ℕ) × (slice_get words (2 * i + 1) ≡ Some name) × (slice_get words (2 * i + 2) ≡ Some text)
-
 -- a text can be a value in a word of its own: it doesn't begin with a dash (45), as the name of an option does
 abbrev pub IsValue : List ℕ → Type 0
 IsValue text = ¬ (slice_get text 0 ≡ Some 45)
@@ -44,81 +40,64 @@ pub record AskForLines (words : List (List ℕ)) (name : List ℕ) (most : ℕ) 
   pub few_files : length files ≤ most
   pub are_files : AreValues files
 
--- the words ask for a run of threads: they are its name and three options, in any order, with numbers in their ranges
+-- the words of an option with a value, if it is given: its name and the value, each in a word of its own
+abbrev pub value_words : List ℕ → Option (List ℕ) → List (List ℕ)
+value_words name None = []
+value_words name (Some value) = name ∷ value ∷ []
+
+-- the word of an option without a value, its name, if it is given
+abbrev pub switch_words : List ℕ → Bool → List (List ℕ)
+switch_words name given = if given then name ∷ [] else []
+
+-- the words are a command's name and, behind it, those of each of these options, in any order. An option that isn't
+-- given has none
+abbrev pub AreCommand : List (List ℕ) → List ℕ → List (List (List ℕ)) → Type 0
+AreCommand words name options =
+    (ordered : List (List (List ℕ))) × IsPermutation options ordered × (words ≡ name ∷ flat_map (λ option. option) ordered)
+
+-- the words ask for a run of threads: they are its name and three options, with numbers in their ranges
 pub record AskForThreads (words : List (List ℕ)) (sites tellers seed : ℕ) : Type 0 where
-  pub count : length words ≡ 7
-  pub first : slice_get words 0 ≡ Some (codes "threads")
-  pub sites_given : IsGiven words (codes "--sites") (decimal sites)
+  pub words_are : AreCommand words (codes "threads") (value_words (codes "--sites") (Some (decimal sites))
+      ∷ value_words (codes "--tellers") (Some (decimal tellers)) ∷ value_words (codes "--seed") (Some (decimal seed)) ∷ [])
   pub some_sites : 2 ≤ sites
   pub few_sites : sites ≤ MOST_SITES
-  pub tellers_given : IsGiven words (codes "--tellers") (decimal tellers)
   pub some_tellers : 1 ≤ tellers
   pub few_tellers : tellers ≤ MOST_TELLERS
-  pub seed_given : IsGiven words (codes "--seed") (decimal seed)
   pub seed_fits : seed < 2 ^ 32
-
--- a third option says of how many last entries the messages are written again; without it they are those of all entries
-abbrev pub IsResend : List (List ℕ) → Option ℕ → Type 0
-IsResend words None = length words ≡ 5
-IsResend words (Some n) = (length words ≡ 7) × IsGiven words (codes "--resend") (decimal n) × (n ≤ MOST_HISTORY)
-
--- the words are these others, with the switch of this name behind the first of them or behind an option's value
-abbrev pub IsWithSwitch : List ℕ → List (List ℕ) → List (List ℕ) → Type 0
-IsWithSwitch name words others =
-    (i : ℕ) × (2 * i < length others) × (words ≡ take (2 * i + 1) others ++ name ∷ drop (2 * i + 1) others)
-
--- the words are these others, with `--new` among them if a new journal is asked for
-abbrev pub IsNewGiven : Bool → List (List ℕ) → List (List ℕ) → Type 0
-IsNewGiven false words others = words ≡ others
-IsNewGiven true words others = IsWithSwitch (codes "--new") words others
-
--- words without a switch ask for a site: they are its name and two or three options, in any order, with numbers in
--- their ranges
-pub record AskForJournal (words : List (List ℕ)) (me : ℕ) (journal : List ℕ) (resend : Option ℕ) : Type 0 where
-  pub first : slice_get words 0 ≡ Some (codes "site")
-  pub me_given : IsGiven words (codes "--me") (decimal me)
-  pub is_site : me < MOST_SITES
-  pub journal_given : IsGiven words (codes "--journal") journal
-  pub is_file : IsValue journal
-  pub resent : IsResend words resend
 
 -- the word for which events are recorded
 abbrev pub record_word : Record → List ℕ
 record_word Changes = codes "changes"
 record_word All = codes "all"
 
--- the words are these others, with `--record` and its word behind all of them; or without both, which records changes
-abbrev pub IsRecordGiven : Record → List (List ℕ) → List (List ℕ) → Type 0
-IsRecordGiven recorded words others =
-    (words ≡ others ++ codes "--record" ∷ record_word recorded ∷ []) ⊎ ((recorded ≡ Changes) × (words ≡ others))
+-- the options of a site: its number, its journal, and five others that may be given
+abbrev pub site_options : ℕ → List ℕ → Bool → Option ℕ → Option Record → Option (List ℕ) → Bool → List (List (List ℕ))
+site_options me journal is_new resend recorded bank is_sealed =
+    value_words (codes "--me") (Some (decimal me))
+    ∷ value_words (codes "--journal") (Some journal)
+    ∷ switch_words (codes "--new") is_new
+    ∷ value_words (codes "--resend") (option_map decimal resend)
+    ∷ value_words (codes "--record") (option_map record_word recorded)
+    ∷ value_words (codes "--bank") bank
+    ∷ switch_words (codes "--seal") is_sealed ∷ []
 
--- the words are these others, with `--bank` and the bank's name behind all of them, if one is named
-abbrev pub IsBankGiven : Option (List ℕ) → List (List ℕ) → List (List ℕ) → Type 0
-IsBankGiven None words others = words ≡ others
-IsBankGiven (Some name) words others = IsValue name × (words ≡ others ++ codes "--bank" ∷ name ∷ [])
-
--- the words ask for a site, whose journal is to be made or has to be there, which records these events, and whose bank
--- has this name, if it has one
+-- the words ask for a site: they are its name and its options, of which the seal isn't given. Without `--record`
+-- changes are recorded, and without `--resend` the messages of all entries are written again
 pub record AskForSite (words : List (List ℕ)) (me : ℕ) (journal : List ℕ) (is_new : Bool) (resend : Option ℕ)
     (recorded : Record) (bank : Option (List ℕ)) : Type 0 where
-  pub unnamed : List (List ℕ)
-  pub bank_given : IsBankGiven bank words unnamed
-  pub before : List (List ℕ)
-  pub record_given : IsRecordGiven recorded unnamed before
-  pub others : List (List ℕ)
-  pub new_given : IsNewGiven is_new before others
-  pub ask : AskForJournal others me journal resend
+  pub given : Option Record
+  pub recorded_is : recorded ≡ unwrap_or given Changes
+  pub words_are : AreCommand words (codes "site") (site_options me journal is_new resend given bank false)
+  pub is_site : me < MOST_SITES
+  pub is_file : IsValue journal
+  pub few_entries : IfSome resend (λ n. n ≤ MOST_HISTORY)
+  pub is_name : IfSome bank IsValue
 
--- the words ask to seal a site's journal: `--seal` is among its name, its number and its journal
+-- the words ask to seal a site's journal: they are its name and the options for its number, its journal and the seal
 pub record AskForSeal (words : List (List ℕ)) (me : ℕ) (journal : List ℕ) : Type 0 where
-  pub others : List (List ℕ)
-  pub seal_given : IsWithSwitch (codes "--seal") words others
-  pub ask : AskForJournal others me journal None
-
--- the words for how many sites the next bank has, if that is asked for
-abbrev pub sites_words : Option ℕ → List (List ℕ)
-sites_words None = []
-sites_words (Some n) = codes "--sites" ∷ decimal n ∷ []
+  pub words_are : AreCommand words (codes "site") (site_options me journal false None None None true)
+  pub is_site : me < MOST_SITES
+  pub is_file : IsValue journal
 
 -- the words for accounts to add: the option for each, with its name
 abbrev pub account_words : List (List ℕ) → List (List ℕ)
@@ -128,7 +107,8 @@ account_words (name ∷ names) = codes "--account" ∷ name ∷ account_words na
 -- the words ask to close the books: behind the command's name the number of sites, if it is asked for, the accounts to
 -- add, and one journal or more
 pub record AskForClosing (words : List (List ℕ)) (sites : Option ℕ) (accounts journals : List (List ℕ)) : Type 0 where
-  pub words_are : words ≡ codes "close" ∷ (sites_words sites ++ (account_words accounts ++ journals))
+  pub words_are : words
+      ≡ codes "close" ∷ (value_words (codes "--sites") (option_map decimal sites) ++ (account_words accounts ++ journals))
   pub sites_fit : IfSome sites (λ n. (2 ≤ n) × (n ≤ MOST_SITES))
   pub are_names : AreValues accounts
   pub some_journals : 1 ≤ length journals
