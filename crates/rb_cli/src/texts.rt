@@ -106,7 +106,7 @@ pub const CONFLICT: &str = "the argument '--bank <NAME>' cannot be used with '--
 
 /// The help of `--seal`.
 pub const SEAL: &str =
-    "Seals the journal for good; reads no input and serves nothing, whatever else is given";
+    "Seals the journal for good; reads no input and serves nothing (not with --bank)";
 
 /// What `--sites` is to `close`.
 pub const NEXT_SITES: &str =

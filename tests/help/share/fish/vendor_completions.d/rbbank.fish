@@ -28,7 +28,7 @@ complete -c rbbank -n '__fish_seen_subcommand_from site' -l new -d 'Makes the fi
 complete -c rbbank -n '__fish_seen_subcommand_from site' -l resend -x -d 'How many of the last entries have their messages written again, 0 to 100000000; all without it'
 complete -c rbbank -n '__fish_seen_subcommand_from site' -l record -x -d 'Which events are recorded: changes (the default) or all'
 complete -c rbbank -n '__fish_seen_subcommand_from site' -l bank -x -d 'The bank\'s name, in each message: 1 to 64 of A-Z a-z 0-9 . _ : - (not with --seal)'
-complete -c rbbank -n '__fish_seen_subcommand_from site' -l seal -d 'Seals the journal for good; reads no input and serves nothing, whatever else is given'
+complete -c rbbank -n '__fish_seen_subcommand_from site' -l seal -d 'Seals the journal for good; reads no input and serves nothing (not with --bank)'
 complete -c rbbank -n '__fish_seen_subcommand_from site' -s h -l help -d 'Print help'
 complete -c rbbank -n '__fish_seen_subcommand_from close' -l sites -x -d 'How many sites the next bank has, 2 to 16; as many as before without it'
 complete -c rbbank -n '__fish_seen_subcommand_from close' -l account -x -d 'An account to add behind the others, which starts with 0; given again for each'
