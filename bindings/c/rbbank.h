@@ -45,8 +45,9 @@ enum {
  * counts characters, from 1; the words may change. Call it after RBBANK_BAD_LINE, with the same line and what it
  * should have been. `config` is the bank's configuration; for RBBANK_CONFIG it isn't read.
  *
- * An entry isn't taken if it is another site's, if its id is there, or if a journal has it not as a site writes it, as
- * the text says. "no such kind of line" or "no configuration" if `kind` or `config` isn't one; "out of memory". */
+ * An entry isn't taken either if it is another site's, if its id is there, if it has over 1,048,576 bytes, or if a
+ * journal has it not as a site writes it: the text then has no column, and names all but the length. "no such kind of
+ * line" or "no configuration" if `kind` or `config` isn't one; "out of memory". */
 size_t rbbank_error(uint8_t kind, const char *config, size_t config_length, const char *line, size_t length, char *out,
                     size_t capacity);
 
@@ -155,7 +156,8 @@ size_t rbbank_site_entries(struct rbbank_site *site, char *out, size_t capacity)
 /* Copies the message of this index, from 0, of the kept answer, without a line feed: it is the line that a receiver is
  * to be given as an event, word for word. `*length` is how many bytes it has, and `*to` the site that it is for, or
  * RBBANK_EACH_OTHER_SITE. The messages of several lines, as a `resend` is answered by, are counted through all of them.
- * Each call reads the answer again, up to the message.
+ * Each call reads the answer again, up to the message: those of a long answer, as to a `resend` of all, are better
+ * taken from its lines, each of which has them in the list of its key "sends".
  * 0; 1; 3 (the answer has no such message); 4. After 1, 3 and 4 `*length` is 0, and `out` as it was. */
 int32_t rbbank_site_send(struct rbbank_site *site, size_t index, char *out, size_t capacity, size_t *length,
                          uint8_t *to);
@@ -184,7 +186,7 @@ struct rbbank_journal {
  * closed, and the file is to stay as it is. */
 enum {
     RBBANK_ANOTHER_JOURNAL = 5, /* the file is another bank's journal, or isn't a journal */
-    RBBANK_BAD_ENTRY = 6,       /* the line is no entry of this site */
+    RBBANK_BAD_ENTRY = 6,       /* the line is no entry of this site, not as a site writes it, or of an id before */
     RBBANK_WRONG_REPLY = 7,     /* the site gives another reply than the line has, or its history is full */
     RBBANK_DAMAGED = 8,         /* a byte that no crash leaves is where the line, or the gate before it, should begin */
     RBBANK_SEALED = 9           /* the journal is sealed */
@@ -217,7 +219,8 @@ enum {
 int32_t rbbank_journal_call(struct rbbank_journal *journal, char *out, size_t capacity, size_t *length, uint64_t *at);
 
 /* Says that the next call was made, and succeeded (`made` is 1), or failed (0), which ends the site: open the file
- * again. 0; 1: there is no site, or none any more; 3: no call is left, and nothing has changed. */
+ * again. With 1: 0; 1: there is no site; 3: no call is left, and nothing has changed. With 0 always 1, and the site is
+ * ended, whether a call was left or not. */
 int32_t rbbank_journal_done(struct rbbank_journal *journal, uint8_t made);
 
 /* Copies the kept answer, as rbbank_site_reply does; none as long as calls are left. */
@@ -267,7 +270,8 @@ enum {
 };
 
 /* The sealed journals of all sites in, the next bank's configuration out: `rbbank close`. A journal is sealed by a TAB
- * after its last line feed, once its site is ended for good.
+ * after its last line feed, once its site is ended for good; a file that a crash may have left is sealed by
+ * `rbbank site --seal`.
  *
  * The journals are one after another in `journals`, in the order of their sites: `count` of them, of `lengths[0]`,
  * `lengths[1]`, .. bytes. The next bank has `sites` sites, 2 to 16, or as many as before if it is 0. `names` has the

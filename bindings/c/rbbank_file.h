@@ -35,10 +35,10 @@ enum {
 
 /* Opens site `me` of the configuration's line over the journal at `path`, and locks it against other processes. With
  * `is_new` it begins a new journal, and only then makes the file: a mistyped name, or a disk that isn't mounted, is
- * never a new site, which would make other operations under names that are taken. An empty file is begun either way.
- * The reply is then what the last `resend` entries sent, a line for each that sent any. `*number` is as
- * rbbank_journal_open has it. After another status than 0 nothing is open. A fork shares handle and lock: open it after
- * the fork, in one process. */
+ * never a new site, which would make other operations under names that are taken. An empty file (docs/FORMAT.md, The
+ * journal) is begun either way. The reply is then what the last `resend` entries sent, a line for each that sent any.
+ * `*number` is as rbbank_journal_open has it. After another status than 0 nothing is open. A fork shares handle and
+ * lock: open it after the fork, in one process. */
 int32_t rbbank_file_open(struct rbbank_file *file, const char *path, uint8_t me, size_t resend, int is_new,
                          const char *config, size_t length, uint64_t *number);
 

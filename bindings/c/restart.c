@@ -47,7 +47,8 @@ static struct text whole(copying *call, struct rbbank_site *site) {
 static void send_messages(struct rbbank_site *site) {
     size_t length;
     uint8_t to;
-    for (size_t i = 0; rbbank_site_send(site, i, NULL, 0, &length, &to) == RBBANK_OK; i++) {
+    int32_t status;
+    for (size_t i = 0; (status = rbbank_site_send(site, i, NULL, 0, &length, &to)) == RBBANK_OK; i++) {
         char *text = memory(length);
         if (rbbank_site_send(site, i, text, length, &length, &to) != RBBANK_OK)
             stop("out of memory");
@@ -57,6 +58,8 @@ static void send_messages(struct rbbank_site *site) {
             fprintf(stderr, "to %u: %.*s\n", to, (int)length, text);
         free(text);
     }
+    if (status == RBBANK_NO_MEMORY)
+        stop("out of memory");
 }
 
 /* Adds the entries of the last call to the journal, and waits until they are on the disk. */

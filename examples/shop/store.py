@@ -63,12 +63,14 @@ class Store:
 
     def replay(self):
         """Goes on from the journal. What a crash left behind its last whole line is cut off; all is sent again. Another
-        bank's journal stays as it is."""
+        bank's journal, and a sealed one, stay as they are."""
         self.journal.seek(0)
         lines, first = self.journal.read(), self.site.entries()
         whole = lines[:lines.rfind(b"\n") + 1]
         if whole and not whole.startswith(first):
             sys.exit(f"store {self.name}: another bank's journal")
+        if lines.endswith(b"\n\t"):
+            sys.exit(f"store {self.name}: its journal is sealed")
         self.journal.truncate(len(whole))
         if not whole:
             self.keep(first)

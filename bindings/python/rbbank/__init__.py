@@ -67,8 +67,8 @@ class BadLine(ValueError):
 
     Its text says why, in words that may change, as "column 47: 25 is out of range: a refusal is 1 to 24"; `column` is
     which character of the line that is, from 1, and `why` the text without it. The column is None if there was no
-    memory, or if nothing is wrong with the line itself: an entry is another site's, has an id that is there, or isn't
-    as a site writes it. Of a dict the line is its JSON with no spaces.
+    memory, or if nothing is wrong with the line itself: an entry is another site's, is too long, has an id that is
+    there, or isn't as a site writes it. Of a dict the line is its JSON with no spaces.
     """
 
     def __init__(self, text: str = "") -> None:
@@ -364,10 +364,11 @@ class _Handle:
         """Gives it a line, and returns the line that it answers, without a line feed; or a dict, and returns a dict, of
         several lines the last.
 
-        Raises BadLine, after which all is as it was; Closed; MemoryError, and of a Journal OSError if a call on its
-        file fails, after which it is closed: open it again. So is a Journal by what a signal's handler raises. ESTALE
-        says that the file was replaced, or that somebody else changed its length: one that was replaced or made shorter
-        is an older copy, which must not go on (docs/RUNNING.md, Faults and crashes).
+        Raises BadLine, and UnicodeEncodeError of a str that has no UTF-8 form, after which all is as it was; Closed;
+        MemoryError, and of a Journal OSError if a call on its file fails, after which it is closed: open it again. So
+        is a Journal by what a signal's handler raises. ESTALE says that the file was replaced, or that somebody else
+        changed its length: one that was replaced or made shorter is an older copy, which must not go on
+        (docs/RUNNING.md, Faults and crashes).
         """
         data = _bytes(line)
         with self._lock:
@@ -413,17 +414,22 @@ class Bank(_Handle):
             self._raise(status, _CONFIG, data)
 
 
+def _sent(message: dict[str, typing.Any]) -> Message:
+    """A message of an answer, as its line, and the site that it is for."""
+    line = json.dumps(message, separators=(",", ":"), sort_keys=True)
+    return Message(line, message["token"][1] if "token" in message else None)
+
+
 class _Sending(_Handle):
     """A site, whose answers have messages."""
 
     def sends(self) -> list[Message]:
         """The messages of the last answer or replay, on all its lines. Raises Closed; MemoryError, after which the site
         is as it was."""
-        messages: list[Message] = []
         with self._lock:
-            while (message := self._message(len(messages))) is not None:
-                messages.append(message)
-        return messages
+            # (by its index each message is looked for from the first)
+            answer = self._kept(self._reply) if self._message(0) else b""
+        return [_sent(message) for line in answer.splitlines() for message in json.loads(line).get("sends", [])]
 
     def _message(self, index: int) -> Message | None:
         """The message of an index, if there is one."""
@@ -447,8 +453,9 @@ class Site(_Sending):
 
     Its journal is the caller's: the entries after the opening, and then those after each answer, which are written
     where they last before anyone sees the answer. To go on after a crash, open the site again, see that the journal
-    begins with its entries (else it is another bank's, and might be replayed all the same), and give it each line of
-    the journal after the first by `replay`.
+    begins with its entries (else it is another bank's, and might be replayed all the same), and give it each whole line
+    of the journal after the first by `replay`, up to one that doesn't begin with `{`. A journal that ends in a line
+    feed and a TAB is sealed: no site goes on from it.
 
     A request or a batch may have a further key `"id"`, 1 to 64 characters of `A-Z a-z 0-9 . _ : -`. Once it is made,
     the same line is answered by `{"again":true,"id":..}` with the same reply and messages, and another request of the
@@ -623,8 +630,8 @@ class Journal(_Sending):
         kept from the other sites isn't sent.
 
         Raises BadLine if the configuration's line isn't one; NoSuchSite; JournalFault; BlockingIOError if another
-        process has the journal, or this one; OSError if the file fails; MemoryError. With `new` an empty file may have
-        been made then.
+        process has the journal, or this one; OSError if the file fails; MemoryError. With `new` a file may have been
+        made then, empty or with a part of the first line: it is opened without `new`.
         """
         if not 0 <= me <= 255:
             raise NoSuchSite

@@ -57,7 +57,7 @@ pub enum JournalError {
     NoSuchSite,
     /// The file is another bank's journal, or isn't a journal.
     AnotherJournal,
-    /// A line of the journal is no entry of this site.
+    /// A line of the journal is no entry of this site, not as a site writes it, or has the id of an entry before.
     BadEntry {
         /// Its number.
         line: u64,

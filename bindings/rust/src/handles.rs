@@ -57,17 +57,53 @@ fn message(
     }))
 }
 
-/// All of them.
+/// All of them, from the answer: by its index each is looked for from the first.
 pub(crate) fn messages(
     handle: &mut Handle,
     call: Sending,
+    reply: Copying,
     text: &mut Vec<u8>,
 ) -> Result<Vec<Message>, AnswerError> {
-    let mut found = Vec::new();
-    while let Some(one) = message(handle, call, found.len(), text)? {
-        found.push(one);
+    if message(handle, call, 0, text)?.is_none() {
+        return Ok(Vec::new());
     }
-    Ok(found)
+    Ok(copy(handle, reply, text)
+        .lines()
+        .filter_map(|line| line.split_once("\"sends\":["))
+        .flat_map(|(_, list)| objects_of(list))
+        .collect())
+}
+
+/// The messages at the beginning of a text, up to the bracket that closes their list. No string of a message has a
+/// bracket in it.
+fn objects_of(list: &str) -> Vec<Message> {
+    let (mut found, mut depth, mut start) = (Vec::new(), 0, 0);
+    for (at, byte) in list.bytes().enumerate() {
+        match byte {
+            b'{' | b'[' => {
+                start = if depth == 0 { at } else { start };
+                depth += 1;
+            }
+            b'}' | b']' if depth == 0 => break,
+            b'}' | b']' => {
+                depth -= 1;
+                if depth == 0 {
+                    found.push(message_of(&list[start..=at]));
+                }
+            }
+            _ => {}
+        }
+    }
+    found
+}
+
+/// A message of its line. The second number of a token is the site that it is for.
+fn message_of(line: &str) -> Message {
+    let token = line.split_once("\"token\":[").map(|(_, numbers)| numbers);
+    Message {
+        line: line.to_owned(),
+        to: token.and_then(|numbers| numbers.split(',').nth(1)?.parse().ok()),
+    }
 }
 
 pub(crate) fn without_line_feed(line: &str) -> &str {
@@ -207,7 +243,8 @@ impl Drop for Bank {
 /// then those after each answer, which are written where they last before anyone sees the answer. Dropping it ends it.
 ///
 /// To go on after a crash, open the site again and see that the journal begins with its entries: else it is another
-/// bank's, and might be replayed all the same. Then give it each line of the journal after the first.
+/// bank's, and might be replayed all the same. Then give it each whole line of the journal after the first, up to one
+/// that doesn't begin with `{`. A journal that ends in a line feed and a TAB is sealed: no site goes on from it.
 ///
 /// ```
 /// use rbbank::Site;
@@ -328,7 +365,12 @@ impl Site {
     ///
     /// `OutOfMemory`, after which the site is as it was; `Ended`.
     pub fn sends(&mut self) -> Result<Vec<Message>, AnswerError> {
-        messages(&mut self.handle, c::rbbank_site_send, &mut self.text)
+        messages(
+            &mut self.handle,
+            c::rbbank_site_send,
+            c::rbbank_site_reply,
+            &mut self.text,
+        )
     }
 
     /// The lines that the last answer adds to the journal, each with its line feed, none if it recorded nothing;

@@ -7,8 +7,8 @@ use std::ffi::OsString;
 use std::fmt;
 use std::fs::{self, File, OpenOptions};
 use std::io::{self, Read, Write};
-use std::os::fd::AsRawFd;
 use std::os::unix::fs::{FileExt, MetadataExt, OpenOptionsExt};
+use std::os::unix::io::AsRawFd;
 use std::path::{Path, PathBuf};
 
 /// Of `flock`: alone, and without waiting.
@@ -210,6 +210,7 @@ impl Journal {
         Ok(messages(
             &mut self.handle,
             c::rbbank_journal_send,
+            c::rbbank_journal_reply,
             &mut self.text,
         )?)
     }
