@@ -16,12 +16,12 @@ reply it is: {"client":R} of a request or a question, with the `id` and `again` 
 of another site, {"then":R} of an application. (A refusal 23 or 26 without an id may be a message's as well.)
 
 The site is never kept waiting: each command, and the reader of the replies, has a thread of its own. For each site up
-to --most messages wait, and some 64 MiB of them; replies wait without a bound, past 10,000 of them in a file of the
-folder for temporary files. A message that doesn't fit is dropped, and so is each later one for this site, so that what
-it is given has no gap. Each --resend seconds standard error says how many. If half of the bound is free by then, the
-site is asked for its messages from the first that was dropped on, by a line {"resend":N}, which the command brings
-whose {} is the site's own number; as many as fit wait then, and the others another turn. No other site is given them
-again.
+to --most messages wait, and some 64 MiB of them; replies wait without a bound, past 10,000 of them or 8 MiB in a file
+of the folder for temporary files. A message that doesn't fit is dropped, and so is each later one for this site, so
+that what it is given has no gap. Each --resend seconds standard error says how many. If half of the bound is free by
+then, the site is asked for its messages from the first that was dropped on, by a line {"resend":N}, which the command
+brings whose {} is the site's own number; as many as fit wait then, and the others another turn. No other site is given
+them again.
 
 A command that ended is started again, and is given again the lines that it hadn't confirmed. A line is confirmed once
 the command has read it whole; with --confirm, once the command has written a line of its own to standard output, one
