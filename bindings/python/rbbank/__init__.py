@@ -245,7 +245,6 @@ _FILE = "librbbank.so"
 _PART = 4096  # bytes that are copied without a buffer of the text's own length
 _OK, _NONE, _BAD_LINE, _REFUSED, _NO_MEMORY = range(5)
 _CONFIG, _COMMAND, _EVENT, _ENTRY = range(4)  # what a line should have been
-_EACH_OTHER_SITE = 255
 _loaded: dict[str, typing.Any] = {}
 
 
@@ -426,26 +425,17 @@ class _Sending(_Handle):
     def sends(self) -> list[Message]:
         """The messages of the last answer or replay, on all its lines. Raises Closed; MemoryError, after which the site
         is as it was."""
-        with self._lock:
-            # (by its index each message is looked for from the first)
-            answer = self._kept(self._reply) if self._message(0) else b""
-        return [_sent(message) for line in answer.splitlines() for message in json.loads(line).get("sends", [])]
-
-    def _message(self, index: int) -> Message | None:
-        """The message of an index, if there is one."""
         length, to = ctypes.c_size_t(), ctypes.c_uint8()
-        send = _call(self._prefix + "send")
-
-        def given(out: typing.Any, size: int) -> int:
-            status = send(self._ref, index, out, size, ctypes.byref(length), ctypes.byref(to))
-            if status == _NONE:
-                raise Closed("it is closed")
-            if status == _NO_MEMORY:
-                raise MemoryError
-            return length.value
-
-        line = _copied(given).decode()
-        return Message(line, None if to.value == _EACH_OTHER_SITE else to.value) if line else None
+        with self._lock:
+            # (the status says whether there are any; by its index each would be looked for from the first)
+            send = _call(self._prefix + "send")
+            status = send(self._ref, 0, None, 0, ctypes.byref(length), ctypes.byref(to))
+            answer = self._kept(self._reply) if status == _OK else b""
+        if status == _NONE:
+            raise Closed("it is closed")
+        if status == _NO_MEMORY:
+            raise MemoryError
+        return [_sent(message) for line in answer.splitlines() for message in json.loads(line).get("sends", [])]
 
 
 class Site(_Sending):

@@ -7,9 +7,6 @@ pub struct Handle {
     at: *mut c_void,
 }
 
-/// In place of a site's number: each other site.
-pub const EACH_OTHER_SITE: u8 = 255;
-
 /// What a call on a journal's file is: write the bytes at a place, cut the file, wait for the disk, or keep the bytes.
 pub const CALL_WRITE: i32 = 1;
 pub const CALL_CUT: i32 = 2;

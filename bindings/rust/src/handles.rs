@@ -22,50 +22,20 @@ pub(crate) fn copy<'a>(handle: &mut Handle, call: Copying, text: &'a mut Vec<u8>
 /// A call that copies a message of the last answer, and gives its length and the site that it is for.
 type Sending = unsafe extern "C" fn(*mut Handle, usize, *mut u8, usize, *mut usize, &mut u8) -> i32;
 
-/// The message of an index, if there is one. `text` only grows.
-fn message(
-    handle: &mut Handle,
-    call: Sending,
-    index: usize,
-    text: &mut Vec<u8>,
-) -> Result<Option<Message>, AnswerError> {
-    let (mut length, mut to) = (0, 0);
-    loop {
-        // SAFETY: the handle was opened, and the text is that long.
-        let status = unsafe {
-            call(
-                handle,
-                index,
-                text.as_mut_ptr(),
-                text.len(),
-                &mut length,
-                &mut to,
-            )
-        };
-        match status {
-            0 if length <= text.len() => break,
-            0 => text.resize(length.next_power_of_two(), 0),
-            1 => return Err(AnswerError::Ended),
-            3 => return Ok(None),
-            _ => return Err(AnswerError::OutOfMemory),
-        }
-    }
-    let line = std::str::from_utf8(&text[..length]).expect("the library writes ASCII");
-    Ok(Some(Message {
-        line: line.to_owned(),
-        to: (to != c::EACH_OTHER_SITE).then_some(to),
-    }))
-}
-
-/// All of them, from the answer: by its index each is looked for from the first.
+/// The messages of the last answer. They are taken from its text: by its index each is looked for from the first.
 pub(crate) fn messages(
     handle: &mut Handle,
     call: Sending,
     reply: Copying,
     text: &mut Vec<u8>,
 ) -> Result<Vec<Message>, AnswerError> {
-    if message(handle, call, 0, text)?.is_none() {
-        return Ok(Vec::new());
+    let (mut length, mut to) = (0, 0);
+    // SAFETY: the handle was opened, and nothing is copied.
+    match unsafe { call(handle, 0, std::ptr::null_mut(), 0, &mut length, &mut to) } {
+        0 => {}
+        1 => return Err(AnswerError::Ended),
+        3 => return Ok(Vec::new()),
+        _ => return Err(AnswerError::OutOfMemory),
     }
     Ok(copy(handle, reply, text)
         .lines()
