@@ -1,7 +1,7 @@
 //! Lines of histories, in one pass. `None` says nothing of a text.
 ghost use Rattle.std.specs.Prelude.{◌≡◌, ◌<◌, ◌++◌, codes, decimal, IfSome, Some};
 ghost use Rattle.rb_history.specs.Beginnings.{BeginsWithId};
-ghost use Rattle.rb_history.specs.Entries.{asked_entry_of_line};
+ghost use Rattle.rb_history.specs.Entries.{asked_entry_json, asked_entry_of_line};
 ghost use Rattle.rb_history.specs.Ids.{IsIdOrNone};
 ghost use Rattle.serde_json.specs.Written.{compact_text};
 ghost use Rattle.rb_history.specs.Replies.{reply_json};
@@ -57,6 +57,8 @@ pub fn parse_asked_entry<'a>(
 ) -> Option<(&'a str, u8)>
     ensures read { IfSome result (λ p. (asked_entry_of_line config.now line.now
         ≡ Some (p.1, record { id = p.0.now; entry = entry.new })) × (p.1 < config.now.sites)) }
+    ensures written { IfSome result (λ p. line.now
+        ≡ compact_text (asked_entry_json config.now p.1 (record { id = p.0.now; entry = entry.new }))) }
     ensures id { IfSome result (λ p. IsIdOrNone p.0.now) }
 {
     // For a fact alone: its settings are those of a configuration.

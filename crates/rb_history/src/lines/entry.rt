@@ -1,8 +1,9 @@
 //! Lines of histories.
-ghost use Rattle.std.specs.Prelude.{◌≡◌, ◌<◌, IfOk, MatchResult, None, Some};
+ghost use Rattle.std.specs.Prelude.{◌≡◌, ◌<◌, IfOk, MatchResult, None, Some, true};
 ghost use Rattle.rb_history.specs.declared.fault.LineFault.TheVariants.{Bad};
-ghost use Rattle.rb_history.specs.Entries.{asked_entry_of_line, entry_of_line};
+ghost use Rattle.rb_history.specs.Entries.{asked_entry_json, asked_entry_of_line, entry_of_line};
 ghost use Rattle.rb_history.specs.Lines.{Gives};
+ghost use Rattle.serde_json.specs.Written.{compact_text};
 
 use crate::fast::entry::parse_asked_entry;
 use crate::fault::LineFault;
@@ -52,8 +53,8 @@ fn put_spelled(
 }
 
 /// Reads the entry that a history's line is into its place, and its id into its: `Bad` if it isn't one, `OutOfMemory`
-/// if there was no memory to read it. The number of its site comes back. Without an id the id's place is empty.
-/// After an `Err` entry and id may be any.
+/// if there was no memory to read it. The number of its site comes back, and whether the line was seen to be the one
+/// that is written for the entry. Without an id the id's place is empty. After an `Err` entry and id may be any.
 ///
 /// An account that the configuration doesn't have is read as `Place::NOWHERE`. The reply may be one that no
 /// site gives, and `why` and the number that stopped a batch may be any byte; but a line that reports running out of
@@ -65,17 +66,20 @@ pub fn read_asked_entry(
     line: &str,
     entry: &mut Entry,
     id: &mut RequestId,
-) -> Result<u8, LineFault>
-    ensures { MatchResult result
-        (λ site. (asked_entry_of_line config.now line.now ≡ Some (site, record { id = id.new; entry = entry.new }))
-        × (site < config.now.sites))
+) -> Result<(u8, bool), LineFault>
+    ensures read { MatchResult result
+        (λ x. (asked_entry_of_line config.now line.now ≡ Some (x.0, record { id = id.new; entry = entry.new }))
+        × (x.0 < config.now.sites))
         (λ why. why ≡ Bad → asked_entry_of_line config.now line.now ≡ None) }
+    ensures written { IfOk result (λ x. x.1 ≡ true → line.now
+        ≡ compact_text (asked_entry_json config.now x.0 (record { id = id.new; entry = entry.new }))) }
 {
     let Some((text, site)) = parse_asked_entry(alloc, config, line, entry) else {
-        return put_spelled(alloc, config, line, entry, id);
+        let site = put_spelled(alloc, config, line, entry, id)?;
+        return Ok((site, false));
     };
     id.set(text)?;
-    Ok(site)
+    Ok((site, true))
 }
 
 /// Reads an entry as `read_asked_entry` does, and leaves out its id.

@@ -37,6 +37,6 @@ pub fn append_migrated(
         reply: Reply::Taken(0),
     };
     let mut id = RequestId::none(alloc);
-    let site = read_asked_entry(alloc, config, line, &mut entry, &mut id)?;
+    let (site, _written) = read_asked_entry(alloc, config, line, &mut entry, &mut id)?;
     Ok(append_asked_line(out, written, site, &id, &entry)?)
 }

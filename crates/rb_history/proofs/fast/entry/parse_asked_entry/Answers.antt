@@ -26,3 +26,10 @@ returns-clause-read c =
           (is_asked id.id.now c.in_ok-behind.behind.now id.rest.now entry id.ensures may),
       ended.ensures.site,
     )
+
+pub returns-clause-written : goal.returns-clause-written
+returns-clause-written c =
+    let entry : Entry = record { event = c.parse_event.new.event; reply = c.parse_entry_end.new.reply } in
+    let x : AskedEntry = record { id = c.in_ok-id.id.now; entry = entry } in
+    line_written c.args.config.now c.in_ok-site.site x c.args.line.now c.in_ok-text.text.now c.in_ok-behind.behind.now
+    c.in_ok-id.rest.now c.in_ok-text.ensures c.in_ok-behind.ensures.1 c.in_ok-id.ensures c.in_ok-site.ensures.value.1
