@@ -32,7 +32,7 @@ use Rattle.rb_site.specs.Histories.{events_of}
 use Rattle.rb_site.specs.Seen.{Replays, SeenSite, entry, next_site, state_of, stepped}
 use Rattle.rb_site.proofs.Public.Seen.{replays-push, settings-next, state-stepped}
 use Rattle.rb_history.specs.Fits.{Each}
-use Rattle.rb_history.specs.Ids.{AskedEntry, is_refusal, may_be_asked}
+use Rattle.rb_history.specs.Ids.{AskedEntry, is_refusal, may_be_asked, may_have_id}
 use Rattle.rb_node.specs.Asked.{Known, SeenAsked, entries_alone, known_from, known_of, without_ids, with_id, with_more}
 use Rattle.rb_node.specs.Index.{messages_of}
 use Rattle.rb_node.specs.Kept.{IsKeeping, IsKeptAs, Requests, by_bytes, entry_erased, find_request, kept_from, kept_if_asked, names_sent}
@@ -280,9 +280,10 @@ keep_more x asked kept e id is =
 
 -- ---- what is noted of an event
 
--- there are copies of the id and the event, or there is no id
+-- there are copies of the id and the event, or there is no id, or the event may have none
 abbrev pub AreCopies : Option (Vec ℕ Global × Event) → List ℕ → Event → Type 0
-AreCopies copies id e = MatchOption copies (id ≡ []) (λ p. (id ≢ []) × (p.0.items ≡ id) × (p.1 ≡ e))
+AreCopies copies id e =
+    MatchOption copies ((id ≡ []) ⊎ (may_have_id e ≡ false)) (λ p. (id ≢ []) × (p.0.items ≡ id) × (p.1 ≡ e))
 
 noted_id : (made : Bool) (id : List ℕ) (e : Event) (first end : ℕ) → id ≢ [] →
     cond made ((id, request e first end) ∷ []) [] ≡ kept_if_asked (cond made id []) e first end
@@ -297,7 +298,9 @@ noted_none false id e first end none = refl
 -- the request that is noted is that of the entry with its id
 request_is : (copies : Option (Vec ℕ Global × Event)) (id : List ℕ) (e : Event) (reply : Reply) (first end : ℕ) → AreCopies copies id e
     → request_noted copies reply first end ≡ kept_if_asked (with_id id (entry e reply)).id e first end
-request_is None id e reply first end none = noted_none (may_be_asked (entry e reply)) id e first end none
+request_is None id e reply first end (inl none) = noted_none (may_be_asked (entry e reply)) id e first end none
+request_is None id e reply first end (inr may) =
+    ap (λ b. kept_if_asked (cond (b && not (is_refusal reply)) id []) e first end) (sym may)
 request_is (Some p) id e reply first end is =
     ap (λ t. cond (may_be_asked (entry p.1 reply)) ((t, request p.1 first end) ∷ []) []) is.1
     ∙ ap (λ f. cond (may_be_asked (entry f reply)) ((id, request f first end) ∷ []) []) is.2

@@ -3,11 +3,14 @@ use Rattle.std.specs.Prelude.{◌≡◌, ℕ, if◌then◌else◌, List, [], ◌
 use Rattle.rb_money.specs.Settings.{Settings}
 use Rattle.rb_site.specs.declared.entry.Entry.{Entry}
 use Rattle.rb_site.specs.declared.event.Event.{Event}
+use Rattle.rb_site.specs.declared.event.Event.TheVariants.{Submit, Batch}
 use Rattle.rb_site.specs.declared.message.Message.{Message}
 use Rattle.rb_site.specs.declared.reply.Reply.{Reply}
 use Rattle.rb_site.specs.Events.{ModelSite, after_event, first_site, sent_at}
 use Rattle.rb_site.specs.Seen.{SeenSite, state_of}
 use Rattle.rb_history.specs.Ids.{AskedEntry, may_be_asked}
+use Rattle.rb_node.specs.declared.kept_requests.KeptRequests.{KeptRequests}
+use Rattle.rb_node.specs.declared.kept_requests.KeptRequests.TheVariants.{One, All}
 
 -- ---- the site
 
@@ -48,6 +51,11 @@ AreIdsOnce xs = (before between later : List AskedEntry) (x y : AskedEntry) → 
     → x.id ≡ y.id → x.id ≡ []
 
 -- ---- known requests
+
+-- the event of these requests
+abbrev pub event_kept : KeptRequests → Event
+event_kept (One r) = Submit r
+event_kept (All rs) = Batch rs
 
 -- a request that was made: its event, the reply to it, and the messages that it sent
 pub record Known : Type 0 where

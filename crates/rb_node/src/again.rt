@@ -6,7 +6,7 @@ ghost use Rattle.std.specs.Prelude.{IfErr, IfOk, MatchResult, OnErr, OnOk};
 ghost use Rattle.rb_history.specs.Adds.{Adds};
 ghost use Rattle.rb_node.specs.Answers.{again_json, line_of, other_bank_json, refused_json};
 ghost use Rattle.rb_node.specs.Asked.{asked_state};
-ghost use Rattle.rb_node.specs.Kept.{IsKeptAs, names_sent, reply_made, known_again};
+ghost use Rattle.rb_node.specs.Kept.{IsKeptAs, names_sent, known_again};
 ghost use Rattle.rb_node.specs.LineAnswers.{AddsEvent};
 
 use crate::event_line::{append_answer_head, append_rest};
@@ -18,7 +18,7 @@ use rb_history::{LineFault, RequestId, spell};
 use rb_kit::List;
 use rb_lines::whole_or_none;
 use rb_shadow::OpName;
-use rb_site::{Event, Message, Reply};
+use rb_site::{Event, Message};
 use std::alloc::{AllocError, Global};
 
 /// The refusal of another request of a known id. No refusal of a site has this number.
@@ -41,7 +41,7 @@ fn push_name(names: &mut Vec<OpName>, message: &Message) -> Result<(), AllocErro
 }
 
 /// The names of the operations of messages.
-fn names_in(alloc: Global, messages: &[Message]) -> Result<List<OpName>, AllocError>
+pub(crate) fn names_in(alloc: Global, messages: &[Message]) -> Result<List<OpName>, AllocError>
     ensures { IfOk result (λ names. names ≡ names_sent messages.now) }
 {
     let mut names = Vec::new(alloc);
@@ -49,19 +49,6 @@ fn names_in(alloc: Global, messages: &[Message]) -> Result<List<OpName>, AllocEr
         push_name(&mut names, message)?;
     }
     Ok(List::new(names))
-}
-
-/// The reply to a request that was made and sent these messages.
-fn reply_again(alloc: Global, event: &Event, messages: &[Message]) -> Result<Reply, AllocError>
-    ensures { IfOk result (λ reply. reply ≡ reply_made event.now messages.now) }
-{
-    if let (Event::Submit(_), Some(Message::Shadow(shadow))) = (event, messages.first()) {
-        return Ok(Reply::Made {
-            name: shadow.name,
-            kind: shadow.kind.label(),
-        });
-    }
-    Ok(Reply::Names(names_in(alloc, messages)?))
 }
 
 /// An answer that refuses by a number, with the id of the event, if it has one.
@@ -104,7 +91,7 @@ impl<M: Records> Node<M> {
         let operations = self.site.site().ledger().entries();
         let mut messages = Vec::new(self.alloc);
         push_operations(&mut messages, operations, known.first, known.end)?;
-        let reply = reply_again(self.alloc, &known.event, messages.as_slice())?;
+        let reply = known.event.reply_again(self.alloc, messages.as_slice())?;
         append_answer_head(out, spell!("{" again ":true,"), id)?;
         append_rest(
             out,
@@ -131,7 +118,7 @@ impl<M: Records> Node<M> {
             (record { id = id.now; event = event.now }) out.old.items out.new.items entries entries)
             (λ _. take (length out.old.items) out.new.items ≡ out.old.items) }
     {
-        if known.event.same(event) {
+        if known.event.is(event) {
             return self.append_made(out, id, known);
         }
         append_refusal(out, id, OTHER_REQUEST)

@@ -9,6 +9,8 @@ mod asked_site;
 mod erased_asked;
 mod event_line;
 mod fault;
+mod kept_event;
+mod kept_requests;
 mod known_request;
 mod node;
 mod question;

@@ -1,6 +1,6 @@
-//! The line of an entry, replayed. A journal's line is taken only as the site writes it: it is written once more and
-//! compared, so that the replayed entry and the file can't differ.
-ghost use Rattle.std.specs.Prelude.{◌≡◌, ◌≢◌, ◌++◌, Some, None, Err, IfOk, OnOk, OnErr};
+//! The line of an entry, replayed. A journal's line is taken only as the site writes it, so that the replayed entry and
+//! the file can't differ: what is read in one pass is written so, and any other line is written once more and compared.
+ghost use Rattle.std.specs.Prelude.{◌≡◌, ◌≢◌, ◌++◌, Some, None, Err, IfOk, OnOk, OnErr, true};
 ghost use Rattle.std.specs.Prelude.{MatchResult};
 ghost use Rattle.rb_history.specs.Adds.{Adds};
 ghost use Rattle.rb_history.specs.Entries.{asked_entry_json, asked_entry_on};
@@ -39,15 +39,19 @@ pub(crate) fn append_sends(
 }
 
 impl<M: Records> Node<M> {
-    /// The entry of this site on a line, and its id in its place.
+    /// The entry of this site on a line, and its id in its place; and whether the line was seen to be the one that is
+    /// written for it.
     #[tactic(auto, unfolding(rb_history::specs::Entries::asked_entry_on))]
-    fn entry_of(&self, line: &[u8], id: &mut RequestId) -> Result<Entry, EntryFault>
+    fn entry_of(&self, line: &[u8], id: &mut RequestId) -> Result<(Entry, bool), EntryFault>
         ensures read { MatchResult result
-            (λ entry. asked_entry_on self.now.site.settings line.now
-            ≡ Some (self.now.site.me, record { id = id.new; entry = entry }))
+            (λ x. asked_entry_on self.now.site.settings line.now
+            ≡ Some (self.now.site.me, record { id = id.new; entry = x.0 }))
             (λ why. (why ≡ EntryFault.BadLine → (x : AskedEntry) → asked_entry_on self.now.site.settings line.now
             ≢ Some (self.now.site.me, x)) × (why ≢ EntryFault.WrongReply)) }
-        ensures asked { IfOk result (λ entry. IsAsked (record { id = id.new; entry = entry })) }
+        ensures asked { IfOk result (λ x. IsAsked (record { id = id.new; entry = x.0 })) }
+        ensures written { IfOk result (λ x. x.1 ≡ true → line.now
+            ≡ compact_text (asked_entry_json self.now.site.settings self.now.site.me
+            (record { id = id.new; entry = x.0 }))) }
     {
         rb_history::read_entries_fit();
         let text = text_on(line).ok_or(EntryFault::BadLine)?;
@@ -56,7 +60,7 @@ impl<M: Records> Node<M> {
             reply: Reply::Taken(0),
         };
         match read_asked_entry(self.alloc, &self.config, text, &mut entry, id) {
-            Ok(site) if site == self.me() => Ok(entry),
+            Ok((site, written)) if site == self.me() => Ok((entry, written)),
             Err(LineFault::OutOfMemory) => Err(EntryFault::OutOfMemory),
             _ => Err(EntryFault::BadLine),
         }
@@ -79,7 +83,7 @@ impl<M: Records> Node<M> {
             × IsNotNext self.old.site x }
     {
         let mut id = RequestId::none(self.alloc);
-        let entry = self.entry_of(line, &mut id)?;
+        let (entry, _written) = self.entry_of(line, &mut id)?;
         self.replay_entry(&id, &entry)
     }
 
@@ -98,7 +102,11 @@ impl<M: Records> Node<M> {
             × IsNotNext self.old.site x }
     {
         let mut id = RequestId::none(self.alloc);
-        let entry = self.entry_of(line, &mut id)?;
+        let (entry, written) = self.entry_of(line, &mut id)?;
+        if written {
+            self.written.clear();
+            return self.replay_entry(&id, &entry);
+        }
         self.replay_spelled(line, &id, &entry)
     }
 
@@ -175,8 +183,8 @@ impl<M: Records> Node<M> {
     }
 
     /// The text that was written last, to be compared. After `BadLine` for the line of an entry of this site it is the
-    /// line that the site writes for the entry. After `WrongReply` it is two lines, the entry's reply and the site's
-    /// own; or nothing, if there was no memory.
+    /// line that the site writes for the entry, or nothing if that is this line. After `WrongReply` it is two lines,
+    /// the entry's reply and the site's own; or nothing, if there was no memory.
     pub fn written(&self) -> &[u8] {
         self.written.as_slice()
     }

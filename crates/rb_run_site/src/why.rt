@@ -45,7 +45,7 @@ fn reason_of_entry<M: Records>(alloc: Global, node: &Node<M>, line: &[u8]) -> Op
             let me = node.me();
             format!(in alloc; "  it is an entry of site {site}, and this is site {me}").ok()
         }
-        Some(_) if node.written() == line => {
+        Some(_) if node.written().is_empty() || node.written() == line => {
             format!(in alloc; "  an entry before it has its id").ok()
         }
         Some(_) => format!(in alloc; "  the site writes this entry with another spelling").ok(),
@@ -59,7 +59,8 @@ fn site_of(alloc: Global, config: &Config, line: &[u8]) -> Option<u8> {
         event: Event::Pass(0),
         reply: Reply::Taken(0),
     };
-    read_asked_entry(alloc, config, text_on(line)?, &mut entry, &mut id).ok()
+    let (site, _written) = read_asked_entry(alloc, config, text_on(line)?, &mut entry, &mut id).ok()?;
+    Some(site)
 }
 
 /// The reply of an entry and the site's own, each a line of these two.

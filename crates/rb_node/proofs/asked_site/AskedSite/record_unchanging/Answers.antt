@@ -1,4 +1,4 @@
-use Rattle.std.proofs.Common.{◌≡◌, ◌++◌, ◌∷◌, [], length, map, append-nil, refl, ap, sym, ◌∙◌}
+use Rattle.std.proofs.Common.{◌≡◌, ◌++◌, ◌∷◌, [], length, map, append-nil, refl, ap, sym, ◌∙◌, inl}
 use Rattle.std.specs.Prelude.{List, None}
 use Rattle.rb_site.specs.Events.{is_full, reply_to}
 use Rattle.rb_site.specs.Seen.{SeenSite, entry, state_of}
@@ -33,7 +33,7 @@ the_noted c = record {
       ∙ ap (λ (l : List ErasedAsked). map entry_erased l ++ with_id [] (entry c.args.event.now c.args.reply.now) ∷ [])
       c.in_ok-reserve_one.ensures.items;
   copies = None;
-  are_copies = refl;
+  are_copies = inl refl;
   first = length (state_of c.self.inside.site).ops;
   first_is = refl;
   end = length (state_of c.record_unchanging.new.self).ops;
