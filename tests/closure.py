@@ -2,7 +2,7 @@
 """Prints what a statement rests on: the definitions that it names, those that these name, and so on, until only the
 toolchain's own are left. A statement is a function with a contract, as World::run, or a definition.
 
-usage: closure.py                  the headline's: the functions of the first table of docs/PROVED.md
+usage: closure.py                  the headline's: the clauses of the first table of docs/PROVED.md
        closure.py STATEMENT..      that of others, as Ledger::apply, rb_site::Site::open, run_script, Funds
        closure.py --all            every definition with the comment above it, in four parts: those of the headline, of
                                    the program's text, of other public contracts, and of inner contracts
@@ -18,7 +18,9 @@ usage: closure.py                  the headline's: the functions of the first ta
                                    nothing of the search for one; this is silent if all is well
 
 The tables of promises are that of docs/PROVED.md and, in each crate's README.md, the one whose first column is "What is
-proved": its functions are the crate's own. An item that begins with 'Conditions:' lists the functions that have one.
+proved": its functions are the crate's own. A row names clauses of its functions, and rests on what these name, and the
+functions' signatures and `requires`; it rests on all clauses of a function of which it names none. An item that begins
+with 'Conditions:' lists the functions that have one.
 
 Words are resolved by the 'use' lines of their file. A type of the code is resolved to the types of its fields, and one
 that clients see as a value of a model to that value.
@@ -223,14 +225,22 @@ class Things:
                 waiting.extend(self.named_by(it))
         return [it for it in found.values() if it.kind != "function"]
 
-    def statements(self, name):
-        """The functions, types or definitions of a name, with its crate before it or without."""
+    def statements(self, name, clauses=()):
+        """The functions, types or definitions of a name, with its crate before it or without: functions with those
+        clauses alone, or with all if none is given."""
         crate, _, rest = name.partition("::")
         within = crate if crate in self.crates else None
         rest = rest if within else name
         found = self.functions.get(rest, []) + self.types.get(rest, [])
         found += [it for it in self.definitions.values() if it.name == rest]
-        return [it for it in found if within in (None, it.crate)]
+        return [it._replace(text=with_clauses(it.text, clauses)) if clauses else it for it in found
+                if within in (None, it.crate)]
+
+
+def with_clauses(text, clauses):
+    """A signature and contract with those named `ensures` alone. One without a name is there alone, and stays."""
+    parts = re.split(r"\b(?=(?:ensures|requires) )", text)
+    return "".join(part for part in parts if re.match(r"ensures (\w*)|", part).group(1) in (None, "", *clauses))
 
 
 def headline_table():
@@ -241,15 +251,15 @@ def headline_table():
     return found.group(0)
 
 
-def headline():
-    """The functions of the headline's table, with their clauses."""
-    return [(name, re.findall(r"\w+", clauses)) for name, clauses in CALL.findall(headline_table())]
+def calls(text, form=CALL):
+    """The functions that a text names, with the clauses that it names of each."""
+    return [(name, re.findall(r"\w+", clauses)) for name, clauses in form.findall(text)]
 
 
-def resting(things, names):
-    """On how many definitions functions rest."""
-    found = things.closure([it for name in names for it in things.statements(name)])
-    return sum(it.kind == "definition" for it in found)
+def resting(things, called):
+    """The definitions on which clauses rest."""
+    found = things.closure([it for name, clauses in called for it in things.statements(name, clauses)])
+    return [it for it in found if it.kind == "definition"]
 
 
 def table_rows(text):
@@ -269,8 +279,8 @@ def promises(things):
     """The rows of promises: each with its page, what it names with the clauses, and the number that it says, if any."""
     for page, crate, text in pages(things):
         for row in table_rows(text):
-            own = OWN_CALL.findall(row.split("|")[1])
-            called = [(f"{crate}::{name}", clauses) for name, clauses in own] if crate else CALL.findall(row)
+            own = calls(row.split("|")[1], OWN_CALL)
+            called = [(f"{crate}::{name}", clauses) for name, clauses in own] if crate else calls(row)
             number = re.search(r"\| (\d+) \|(?:[^|]*\|)?$", row)
             if called:
                 yield page, row, called, number and int(number.group(1))
@@ -284,19 +294,18 @@ def counted(things):
     for page, row, called, number in promises(things):
         names = [name for name, _ in called]
         yield from (f"{page}: there is no {name}" for name in names if not things.statements(name))
-        if number != resting(things, names):
-            yield f"{page}: {', '.join(names)} rests on {resting(things, names)}, and not on {number}"
+        if number != len(resting(things, called)):
+            yield f"{page}: {', '.join(names)} rests on {len(resting(things, called))}, and not on {number}"
         for name, clauses in called:
             text = "".join(it.text for it in things.statements(name))
-            clauses = re.findall(r"\w+", clauses)
             yield from (f"{page}: {name} has no clause {clause}" for clause in clauses
                         if not re.search(rf"\b(?:ensures|requires) {clause} ", text))
             if row not in of_headline:
                 seen.update((name, clause) for clause in clauses or [""])
     yield from (f"two rows have {name} {clause}" for (name, clause), times in seen.items() if times > 1)
-    for said, names in ((r"must believe (\d+)", [name for name, _ in headline()]),
-                        (r"`World::never_negative` alone (\d+)", ["World::never_negative"])):
-        rests = resting(things, names)
+    for said, called in ((r"must believe (\d+)", calls(headline_table())),
+                         (r"`World::never_negative` alone (\d+)", [("World::never_negative", [])])):
+        rests = len(resting(things, called))
         if re.findall(said, read("README.md")) != [str(rests)]:
             yield f"README.md: '{said}' should say {rests}"
 
@@ -314,7 +323,7 @@ def conditions(things):
 
 def parts(things):
     """Each definition's part, the first that it belongs to."""
-    roots = [[it for name, _ in headline() for it in things.statements(name)], [], [], []]
+    roots = [[it for called in calls(headline_table()) for it in things.statements(*called)], [], [], []]
     roots[1] += [it for name in PROGRAM for it in things.statements(name)]
     roots[1] += [it for its in things.functions.values() for it in its if it.crate == "rbbank"]
     roots[2] += [it for its in things.functions.values() for it in its if it.public]
@@ -338,10 +347,9 @@ def tell(found):
 
 
 def tell_closure(things, names):
-    names = names or [name for name, _ in headline()]
     statements = []
-    for name in names:
-        found = things.statements(name)
+    for name, clauses in [(name, []) for name in names] or calls(headline_table()):
+        found = things.statements(name, clauses)
         if not found:
             sys.exit(f"closure.py: nothing is named {name}")
         statements += found
@@ -419,8 +427,7 @@ def by_need(things):
     row that rests on the fewest."""
     rows, listed = [], set()
     for row in re.findall(r"(?m)^\| (?!The sentence|---).*\|$", headline_table()):
-        found = things.closure([it for name, _ in CALL.findall(row) for it in things.statements(name)])
-        rows.append((row, {id(it): it for it in found if it.kind == "definition"}))
+        rows.append((row, {id(it): it for it in resting(things, calls(row))}))
     order = re.findall(r"(?m)^(rb\w+)", read("crates.txt"))
     for row, rests in sorted(rows, key=lambda it: len(it[1])):
         new = [it for it in things.definitions.values() if id(it) in rests and id(it) not in listed]
@@ -499,7 +506,7 @@ def check(things):
         wrong.append("docs/MODEL.md isn't what the comments say now: tests/closure.py --write makes it")
     for name in sorted(set(re.findall(r"`(\w*(?:[a-z]_|[a-z][A-Z])\w*)`", text)) - known(things)):
         wrong.append(f"docs/MODEL.md: there is no {name}")
-    for name, clauses in headline():
+    for name, clauses in calls(headline_table()):
         found = "".join(it.text for it in things.statements(name))
         if not found:
             wrong.append(f"docs/PROVED.md: there is no {name}")

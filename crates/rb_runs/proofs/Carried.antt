@@ -3,12 +3,12 @@ use Rattle.rb_runs.proofs.Words.{◌≡◌, ◌≤◌, ℕ, zero, suc, ◌+◌, 
 use Rattle.rb_runs.proofs.Words.{ap, ◌∙◌, arith, map, ℤ, pos, negsuc, ◌+ℤ◌, ◌≤ℤ◌, ◌==◌, nat_le, replicate, slice_index, sum}
 use Rattle.rb_runs.proofs.Words.{range_with_len, nat_tests, ints, get_or_past, sum_by-cons, cents, IsConfigured, Settings, start_of, Place}
 use Rattle.rb_runs.proofs.Words.{Shadow, Agree, arrived, delta, kept, moved, receiver_of, total, is_misdirected, IsValid, covers}
-use Rattle.rb_runs.proofs.Words.{member_sound, get_front, balances_of, Always, Holds, NextBank, next_settings}
+use Rattle.rb_runs.proofs.Words.{member_sound, get_front, balances_of, NextBank, next_settings}
 use Rattle.rb_runs.proofs.Words.{next_with, CarriedForward, IsCarriedForward, sum_of_accounts}
 use Rattle.rb_shadow.specs.Operations.{bal}
 use Rattle.rb_shadow.proofs.Public.Balances.{bal-worth, is_kept, worth}
 use Rattle.rb_shadow.proofs.Public.SoundFacts.{SoundFacts}
-use Rattle.rb_runs.proofs.AtRest.{sites_agree}
+use Rattle.rb_runs.proofs.AtRest.{AllLaws, sites_agree}
 use Rattle.rb_runs.proofs.OpenLists.{map_same, valid_list}
 use Rattle.rb_shadow.proofs.Public.Members
 use Rattle.rb_shadow.proofs.Public.Totals
@@ -120,7 +120,7 @@ same_balances s us vs agree =
     (λ k. ap cents (agree.balances (record { 0 = k })))
 
 -- if the books may be closed, the balances are carried forward
-pub all_carried : Always Holds → CarriedForward
+pub all_carried : AllLaws → CarriedForward
 all_carried laws x ask c one closed = record {
   carried = λ i us at. carried x.settings us ask c (valid_list laws x.settings x.histories c one i us at);
   one = λ i j us vs at there. ap (λ bs. next_with x.settings bs ask) (same_balances x.settings us vs

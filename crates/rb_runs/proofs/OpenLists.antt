@@ -4,13 +4,13 @@ use Rattle.rb_runs.proofs.Words.{ap, ◌∙◌, subst, arith, inl, inr, map, ◌
 use Rattle.rb_runs.proofs.Words.{and_from, and_parts, not-true, not_from_false, nat_tests, get_or-map-range_with_len}
 use Rattle.rb_runs.proofs.Words.{length-map-range_with_len, slice_get-get_or, IsConfigured, Settings, MOST_SITES, OpName, Blue, Red}
 use Rattle.rb_runs.proofs.Words.{Shadow, blue_count, names, red_count, IsValid, none_past, valid_counted, get_front, Entry, AreOneWorlds}
-use Rattle.rb_runs.proofs.Words.{made_in, world_of_run, Always, Holds, MayBeClosed, applied_from, lacked, lacks}
+use Rattle.rb_runs.proofs.Words.{made_in, world_of_run, MayBeClosed, applied_from, lacked, lacks}
 use Rattle.rb_runs.proofs.Words.{next_names, HasUpTo, OpenListsAreLacking}
 use Rattle.std.proofs.lemmas.Map.Keys.{any_passes_from_place}
 use Rattle.rb_shadow.specs.declared.deps.Deps.{Deps}
 use Rattle.rb_shadow.specs.Operations.{clock_of}
 use Rattle.rb_shadow.proofs.Public.Clocks.{in_range, in_range-false, in_range-true}
-use Rattle.rb_runs.proofs.AtRest.{of_world, same_names, was_made}
+use Rattle.rb_runs.proofs.AtRest.{AllLaws, others_of, same_names, was_made}
 use Rattle.rb_runs.proofs.OneWorlds.{IsSiteWith, list_of, run_of, site_with}
 use Rattle.rb_shadow.proofs.Public.Members
 
@@ -127,14 +127,14 @@ has_up_to s uss us vs j (Red n) valid valid' there has none =
 -- ---- the histories of one world
 
 -- what a site has applied is valid
-pub valid_list : Always Holds → (s : Settings) (hs : List (List Entry)) → IsConfigured s → (one : AreOneWorlds s hs) (i : ℕ)
+pub valid_list : AllLaws → (s : Settings) (hs : List (List Entry)) → IsConfigured s → (one : AreOneWorlds s hs) (i : ℕ)
     (us : List Shadow) → slice_get (applied_from s 0 hs) i ≡ Some us → IsValid s us
 valid_list laws s hs c one i us at =
     let h : IsSiteWith (world_of_run s one.events) i us = site_with s hs one i us at in
-    subst (IsValid s) h.ops ((of_world laws s hs c one).valid_lists i h.site h.at)
+    subst (IsValid s) h.ops ((others_of laws s hs c one).valid_lists i h.site h.at)
 
 -- what is in a list is made and not applied
-listed : Always Holds → (s : Settings) (hs : List (List Entry)) → IsConfigured s → (one : AreOneWorlds s hs) (us : List Shadow) (k : ℕ)
+listed : AllLaws → (s : Settings) (hs : List (List Entry)) → IsConfigured s → (one : AreOneWorlds s hs) (us : List Shadow) (k : ℕ)
     (x : OpName) → slice_get (lacked s.sites (applied_from s 0 hs) us) k ≡ Some x →
     (names (made_in (world_of_run s one.events)) x ≡ true) × (names us x ≡ false)
 listed laws s hs c one us k x at =
@@ -148,7 +148,7 @@ listed laws s hs c one us k x at =
     )
 
 -- what is made and not applied has a name of its row in the list
-first_listed : Always Holds → (s : Settings) (hs : List (List Entry)) → IsConfigured s → (one : AreOneWorlds s hs) (i : ℕ)
+first_listed : AllLaws → (s : Settings) (hs : List (List Entry)) → IsConfigured s → (one : AreOneWorlds s hs) (i : ℕ)
     (us : List Shadow) → slice_get (applied_from s 0 hs) i ≡ Some us → (y : OpName) →
     names (made_in (world_of_run s one.events)) y ≡ true → names us y ≡ false → HasUpTo (lacked s.sites (applied_from s 0 hs) us) y
 first_listed laws s hs c one i us at y made none =
@@ -161,7 +161,7 @@ first_listed laws s hs c one i us at y made none =
 -- ---- closed books
 
 -- if the books may be closed no site lacks anything
-nothing_open : Always Holds → (s : Settings) (hs : List (List Entry)) → IsConfigured s → (one : AreOneWorlds s hs) →
+nothing_open : AllLaws → (s : Settings) (hs : List (List Entry)) → IsConfigured s → (one : AreOneWorlds s hs) →
     MayBeClosed (applied_from s 0 hs) → (i : ℕ) (us : List Shadow) → slice_get (applied_from s 0 hs) i ≡ Some us →
     lacked s.sites (applied_from s 0 hs) us ≡ []
 nothing_open laws s hs c one closed i us at =
@@ -223,7 +223,7 @@ same_clock us vs blue red = deps_same (map (blue_count us) (range_with_len 0 MOS
     (red_count us) (red_count vs) (map_same (blue_count us) (blue_count vs) (range_with_len 0 MOST_SITES) blue) red
 
 -- if no site lacks anything the books may be closed
-nothing_lacked : Always Holds → (s : Settings) (hs : List (List Entry)) → IsConfigured s → (one : AreOneWorlds s hs) →
+nothing_lacked : AllLaws → (s : Settings) (hs : List (List Entry)) → IsConfigured s → (one : AreOneWorlds s hs) →
     ((i : ℕ) (us : List Shadow) → slice_get (applied_from s 0 hs) i ≡ Some us → lacked s.sites (applied_from s 0 hs) us ≡ []) →
     MayBeClosed (applied_from s 0 hs)
 nothing_lacked laws s hs c one none i j us vs at there =
@@ -257,7 +257,7 @@ none_or_some f (vs ∷ uss) = by (f vs) refl (none_or_some f uss)
     by [] e (inr (i, us, x, at, q)) = inr (suc i, us, x, at, q)
 
 -- if the books may not be closed, some site lacks something
-something_open : Always Holds → (s : Settings) (hs : List (List Entry)) → IsConfigured s → (one : AreOneWorlds s hs) →
+something_open : AllLaws → (s : Settings) (hs : List (List Entry)) → IsConfigured s → (one : AreOneWorlds s hs) →
     ¬ MayBeClosed (applied_from s 0 hs) → (i : ℕ) × (us : List Shadow) × (x : OpName) × (slice_get (applied_from s 0 hs) i ≡ Some us)
     × (slice_get (lacked s.sites (applied_from s 0 hs) us) 0 ≡ Some x)
 something_open laws s hs c one unclosed = elim (none_or_some (lacked s.sites (applied_from s 0 hs)) (applied_from s 0 hs)) [
@@ -266,7 +266,7 @@ something_open laws s hs c one unclosed = elim (none_or_some (lacked s.sites (ap
 ]
 
 -- the lists of an `open` line are what the sites lack
-pub open_lists : Always Holds → OpenListsAreLacking
+pub open_lists : AllLaws → OpenListsAreLacking
 open_lists laws x c one = record {
   lacking = λ i us at. listed laws x.settings x.histories c one us;
   first = first_listed laws x.settings x.histories c one;

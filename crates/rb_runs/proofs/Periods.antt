@@ -1,9 +1,10 @@
 -- Periods, each of which goes on if the one before ends, are one bank.
 use Rattle.rb_runs.proofs.Words.{◌≡◌, ◌<◌, ℕ, List, [], ◌∷◌, length, Some, ap, ◌∙◌, arith, pos, ◌+ℤ◌, slice_get, ints, get_or_past}
 use Rattle.rb_runs.proofs.Words.{length-map, slice_get-get_or, IsConfigured, Settings, start_of, Place, delta, kept, total, IsValid}
-use Rattle.rb_runs.proofs.Words.{covers, get_front, ModelSite, AreOneWorlds, world_of_run, sites_of_run, Always, Holds, applied_from}
+use Rattle.rb_runs.proofs.Words.{covers, get_front, ModelSite, AreOneWorlds, world_of_run, sites_of_run, applied_from}
 use Rattle.rb_runs.proofs.Words.{AnswersArePeriods, ArePeriods, Period, PeriodsAreOne, applied_over, kept_over, period_of, settings_after}
 use Rattle.rb_runs.proofs.Words.{settings_behind}
+use Rattle.rb_runs.proofs.AtRest.{AllLaws}
 use Rattle.rb_runs.proofs.Carried.{balance_is, starts_with}
 use Rattle.rb_runs.proofs.OneWorlds.{applied_are}
 use Rattle.rb_runs.proofs.OpenLists.{valid_list}
@@ -18,14 +19,14 @@ site_list s p h one =
     slice_get-get_or (applied_from s 0 p.histories) p.site [] (omega arith)
 
 -- what an account starts with behind one period
-behind : Always Holds → (s : Settings) (p : Period) → IsConfigured s → p.site < s.sites → AreOneWorlds s p.histories → (a : Place) →
+behind : AllLaws → (s : Settings) (p : Period) → IsConfigured s → p.site < s.sites → AreOneWorlds s p.histories → (a : Place) →
     pos (start_of (settings_behind s p) a) ≡ pos (start_of s a) +ℤ total (λ u. delta u a) (kept (applied_over s p))
 behind laws s p c h one a =
     starts_with s (applied_over s p) p.ask a (valid_list laws s p.histories c one p.site (applied_over s p) (site_list s p h one))
     ∙ balance_is s (applied_over s p) a
 
 -- what an account starts with behind all periods
-after : Always Holds → (s : Settings) (ps : List Period) → ArePeriods s ps → (a : Place) →
+after : AllLaws → (s : Settings) (ps : List Period) → ArePeriods s ps → (a : Place) →
     pos (start_of (settings_after s ps) a) ≡ pos (start_of s a) +ℤ kept_over s ps a
 after laws s [] h a = omega (arith, ints)
 after laws s (p ∷ ps) h a =
@@ -42,7 +43,7 @@ same_place s [] i name at = at
 same_place s (p ∷ ps) i name at = same_place (settings_behind s p) ps i name (get_front s.names p.ask.added i name at)
 
 -- any number of periods are one bank
-pub one_bank : Always Holds → PeriodsAreOne
+pub one_bank : AllLaws → PeriodsAreOne
 one_bank laws s ps c periods c' hs one i us at =
     let valid : IsValid (settings_after s ps) us = valid_list laws (settings_after s ps) hs c' one i us at in
     record {

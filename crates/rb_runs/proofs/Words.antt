@@ -84,7 +84,7 @@ pub use Rattle.rb_site.specs.declared.report.SiteReport.{SiteReport}
 pub use Rattle.rb_site.specs.declared.world_event.WorldEvent.{WorldEvent}
 pub use Rattle.rb_site.specs.declared.world_event.WorldEvent.TheVariants.{At, Deliver}
 pub use Rattle.rb_world.proofs.Public.{sites_of_run}
-pub use Rattle.rb_world.specs.Laws.{Always, Holds, SeenWorld, next_world, next_worlds, opened}
+pub use Rattle.rb_world.specs.Laws.{Always, Headline, OtherLaws, SeenWorld, next_world, next_worlds, opened}
 pub use Rattle.serde_json.specs.Written.{compact_text}
 pub use Rattle.std.proofs.Common.{◌&&◌, ◌++◌, ◌+◌, ◌<◌, ◌==◌, ◌∙◌, ◌∷◌, ◌≡◌, ◌≢◌, ◌≤◌, ◌⊎◌, Bool, Bor, Err, IfOk, List, None, Ok, Option}
 pub use Rattle.std.proofs.Common.{Result, Some, Vec, [], add-one, add-zero, ap, append-nil, append_assoc, ap₂, arith, codes, cond, drop}

@@ -20,8 +20,8 @@ use Rattle.rb_site.specs.Worlds.{world_of_run}
 use Rattle.rb_site.proofs.Public.Places as Sets
 use Rattle.rb_site.proofs.Public.Places.{same_number}
 use Rattle.rb_site.proofs.Public.Stuck
-use Rattle.rb_world.specs.Crashes.{Acts, DiskSite, DiskStep, IsReported, IsSent, Leads, MayHappen, Receives, Reports, Restarts, Stays}
-use Rattle.rb_world.specs.Crashes.{Goes, Syncs, TakesStep, after_step, first_disks, sites_from}
+use Rattle.rb_world.specs.Crashes.{Acts, DiskSite, DiskStep, Goes, IsReported, IsSent, Leads, MayHappenAlone, Receives, Reports}
+use Rattle.rb_world.specs.Crashes.{Restarts, Stays, Syncs, TakesStep, WasReported, after_step, first_disks, sites_from}
 use Rattle.rb_world.specs.CrashLaws.{IsBounded, IsWorldOf}
 use Rattle.rb_world.proofs.Grown
 use Rattle.rb_world.proofs.Grown.{Brings}
@@ -253,23 +253,23 @@ recording_safe s w i d e at g come = by (nat_le s.limits.history (length d.event
 -- ---- steps
 
 step_safe : (s : Settings) (w : List DiskSite) (i : ℕ) (d : DiskSite) (step : DiskStep) → slice_get w i ≡ Some d → IsSafe s w →
-    MayHappen s w d step → IsSafe s (slice_set w i (after_step s d step))
-step_safe s w i d (Acts e) at g (own, all) = recording_safe s w i d e at g
+    MayHappenAlone d step → WasReported s w step → IsSafe s (slice_set w i (after_step s d step))
+step_safe s w i d (Acts e) at g own sent = recording_safe s w i d e at g
     (λ c cuts x there. Grown.brings_own s (world_of_run s x.events) i (after_events s (first_site i) d.events) e
     (site_is s c i d x there) own)
-step_safe s w i d (Receives m) at g (alone, r) = recording_safe s w i d (Receive m) at g
+step_safe s w i d (Receives m) at g alone r = recording_safe s w i d (Receive m) at g
     (λ c cuts x there. Grown.brings_message s (world_of_run s x.events) i (after_events s (first_site i) d.events) m
     (site_is s c i d x there) ((x.sent m).1 (reported_sent s w c m cuts r)))
-step_safe s w i d (Syncs n) at g ((least, most), all) =
+step_safe s w i d (Syncs n) at g (least, most) sent =
     let o : IsBounded s d = g.order i d at in
     let a : d.reported ≤ d.on_disk = o.reported in
     quiet s w i d (record d { on_disk = n }) at g (record { reported = omega arith; on_disk = most; within = o.within })
     (λ b cut. record { count = cut.count; least = cut.least; most = cut.most; is = cut.is })
-step_safe s w i d (Reports n) at g ((least, most), all) =
+step_safe s w i d (Reports n) at g (least, most) sent =
     let o : IsBounded s d = g.order i d at in
     quiet s w i d (record d { reported = n }) at g (record { reported = most; on_disk = o.on_disk; within = o.within })
     (λ b cut. record { count = cut.count; least = let k : n ≤ cut.count = cut.least in omega arith; most = cut.most; is = cut.is })
-step_safe s w i d (Restarts n) at g ((least, most), all) =
+step_safe s w i d (Restarts n) at g (least, most) sent =
     let o : IsBounded s d = g.order i d at in
     let a : d.reported ≤ d.on_disk = o.reported in
     let z : length d.events ≤ s.limits.history = o.within in
@@ -281,7 +281,7 @@ step_safe s w i d (Restarts n) at g ((least, most), all) =
 
 -- after a step that may happen
 pub next_safe : (s : Settings) (w v : List DiskSite) → TakesStep s w v → IsSafe s w → IsSafe s v
-next_safe s w v t g = subst (IsSafe s) (sym t.is) (step_safe s w t.number t.site t.step t.at g t.may)
+next_safe s w v t g = subst (IsSafe s) (sym t.is) (step_safe s w t.number t.site t.step t.at g t.may t.reported)
 
 -- after any steps that may happen
 pub later_safe : (s : Settings) (w v : List DiskSite) → Leads s w v → IsSafe s w → IsSafe s v

@@ -8,7 +8,8 @@ use Rattle.rb_site.specs.declared.event.Event.{Event}
 use Rattle.rb_site.specs.declared.event.Event.TheVariants.{Receive}
 use Rattle.rb_site.specs.declared.message.Message.{Message}
 use Rattle.rb_site.specs.Worlds.{IsOwn}
-use Rattle.rb_world.specs.Crashes.{Acts, DiskSite, DiskStep, IsReported, MayHappen, Receives, TakesStep, after_step, first_disks}
+use Rattle.rb_world.specs.Crashes.{Acts, DiskSite, DiskStep, IsReported, MayHappenAlone, Receives, TakesStep, WasReported}
+use Rattle.rb_world.specs.Crashes.{after_step, first_disks}
 use Rattle.rb_world.proofs.Places
 
 -- a site with these events, and the numbers of those on its disk and of those reported
@@ -28,18 +29,18 @@ recorded s w i d e free = ap (λ b. slice_set w i (cond b d (record d { events =
 pub acts : (s : Settings) (w : List DiskSite) (i : ℕ) (d : DiskSite) (e : Event) → slice_get w i ≡ Some d → IsOwn e →
     length d.events < s.limits.history → TakesStep s w (slice_set w i (record d { events = d.events ++ e ∷ [] }))
 acts s w i d e at own free =
-    record { number = i; site = d; at = at; step = Acts e; may = (own, tt); is = recorded s w i d e free }
+    record { number = i; site = d; at = at; step = Acts e; may = own; reported = tt; is = recorded s w i d e free }
 
 -- a message is delivered
 pub receives : (s : Settings) (w : List DiskSite) (i : ℕ) (d : DiskSite) (m : Message) → slice_get w i ≡ Some d → IsReported s w m →
     length d.events < s.limits.history → TakesStep s w (slice_set w i (record d { events = d.events ++ Receive m ∷ [] }))
 receives s w i d m at out free =
-    record { number = i; site = d; at = at; step = Receives m; may = (tt, out); is = recorded s w i d (Receive m) free }
+    record { number = i; site = d; at = at; step = Receives m; may = tt; reported = out; is = recorded s w i d (Receive m) free }
 
 -- any other step that may happen
 abbrev pub takes : (s : Settings) (w : List DiskSite) (i : ℕ) (d : DiskSite) (step : DiskStep) → slice_get w i ≡ Some d →
-    MayHappen s w d step → TakesStep s w (slice_set w i (after_step s d step))
-takes s w i d step at may = record { number = i; site = d; at = at; step = step; may = may; is = refl }
+    MayHappenAlone d step → WasReported s w step → TakesStep s w (slice_set w i (after_step s d step))
+takes s w i d step at may out = record { number = i; site = d; at = at; step = step; may = may; reported = out; is = refl }
 
 -- a site before any event
 pub first_at : (s : Settings) (i : ℕ) → i < s.sites → slice_get (first_disks s) i ≡ Some (disk 0 0 [])

@@ -57,7 +57,8 @@ one_leads s w x xs apart reported rest (Some d) at later =
       site = d;
       at = at;
       step = x.step;
-      may = ((own_step s d x xs (apart x.number d at)).0, reported);
+      may = (own_step s d x xs (apart x.number d at)).0;
+      reported = reported;
       is = refl;
     } in
     Goes {v = v} step (rest v (after_one s w x xs d at apart) later)

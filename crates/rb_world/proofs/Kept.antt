@@ -10,8 +10,8 @@ use Rattle.rb_site.specs.Events.{ModelSite, after_event, first_site, reply_to, s
 use Rattle.rb_site.specs.Seen.{entry}
 use Rattle.rb_site.proofs.Public.Places as Sets
 use Rattle.rb_site.proofs.Public.Places.{same_number}
-use Rattle.rb_world.specs.Crashes.{Acts, DiskSite, DiskStep, Goes, Leads, MayHappen, Receives, Reports, Restarts, Stays, Syncs, TakesStep}
-use Rattle.rb_world.specs.Crashes.{after_step}
+use Rattle.rb_world.specs.Crashes.{Acts, DiskSite, DiskStep, Goes, Leads, MayHappenAlone, Receives, Reports, Restarts, Stays}
+use Rattle.rb_world.specs.Crashes.{Syncs, TakesStep, after_step}
 use Rattle.rb_world.specs.CrashLaws.{EventReport, IsBounded, IsKeptAt, reported_at, reports_at, reports_of}
 use Rattle.rb_world.proofs.Cuts
 use Rattle.rb_world.proofs.Cuts.{IsSafe}
@@ -51,13 +51,12 @@ records s d e o = by (nat_le s.limits.history (length d.events))
         let b : d.on_disk ≤ length d.events = o.on_disk in
         record { more = omega arith; same = take-append-le d.reported d.events (e ∷ []) (omega arith) }
 
-step_keeps : (s : Settings) (w : List DiskSite) (d : DiskSite) (step : DiskStep) → IsBounded s d → MayHappen s w d step →
-    Keeps d (after_step s d step)
-step_keeps s w d (Acts e) o may = records s d e o
-step_keeps s w d (Receives m) o may = records s d (Receive m) o
-step_keeps s w d (Syncs n) o ((least, most), all) = record { more = omega arith; same = refl }
-step_keeps s w d (Reports n) o ((least, most), all) = record { more = least; same = refl }
-step_keeps s w d (Restarts n) o ((least, most), all) =
+step_keeps : (s : Settings) (d : DiskSite) (step : DiskStep) → IsBounded s d → MayHappenAlone d step → Keeps d (after_step s d step)
+step_keeps s d (Acts e) o may = records s d e o
+step_keeps s d (Receives m) o may = records s d (Receive m) o
+step_keeps s d (Syncs n) o (least, most) = record { more = omega arith; same = refl }
+step_keeps s d (Reports n) o (least, most) = record { more = least; same = refl }
+step_keeps s d (Restarts n) o (least, most) =
     let a : d.reported ≤ d.on_disk = o.reported in
     record { more = omega arith; same = take-take d.reported n d.events (omega arith) }
 
@@ -76,7 +75,7 @@ next_remains s w v i d t g at = subst (RemainsAt i d) (sym t.is) (elim (same_num
       record {
         site = new;
         at = ap (slice_get (slice_set w t.number new)) q ∙ Sets.get_set_same w t.number t.site new t.at;
-        keeps = subst (λ y. Keeps y new) is (step_keeps s w t.site t.step (g.order t.number t.site t.at) t.may);
+        keeps = subst (λ y. Keeps y new) is (step_keeps s t.site t.step (g.order t.number t.site t.at) t.may);
       }
   | inr ne ↦ record {
     site = d;

@@ -41,7 +41,7 @@ loses s some two = record {
   before = w4;
   after = slice_set w4 0 (disk 1 1 (e ∷ []));
   led = Goes t1 (Goes t2 (Goes t3 (Goes t4 Stays)));
-  crash = DiskStepping.takes s w4 0 d4 (Restarts 1) at4 ((omega arith, omega arith), tt);
+  crash = DiskStepping.takes s w4 0 d4 (Restarts 1) at4 (omega arith, omega arith) tt;
   kept = 1;
   restarts = refl;
   reported = omega arith;
@@ -103,7 +103,7 @@ loses s some two = record {
     t2 = DiskStepping.acts s w1 0 d1 e at1 tt (omega arith)
 
     t3 : TakesStep s w2 w3
-    t3 = DiskStepping.takes s w2 0 d2 (Syncs 1) at2 ((omega arith, omega arith), tt)
+    t3 = DiskStepping.takes s w2 0 d2 (Syncs 1) at2 (omega arith, omega arith) tt
 
     t4 : TakesStep s w3 w4
-    t4 = DiskStepping.takes s w3 0 d3 (Reports 1) at3 ((omega arith, omega arith), tt)
+    t4 = DiskStepping.takes s w3 0 d3 (Reports 1) at3 (omega arith, omega arith) tt

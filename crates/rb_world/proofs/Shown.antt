@@ -209,11 +209,11 @@ deeper_show s two some epochs = record {
     t1 = DiskStepping.acts s w0 0 (disk 0 0 []) e at0 tt (omega arith)
 
     t2 : TakesStep s w1 w2
-    t2 = DiskStepping.takes s w1 0 d1 (Syncs 1) (Sets.get_set_same w0 0 (disk 0 0 []) d1 at0) ((omega arith, omega arith), tt)
+    t2 = DiskStepping.takes s w1 0 d1 (Syncs 1) (Sets.get_set_same w0 0 (disk 0 0 []) d1 at0) (omega arith, omega arith) tt
 
     t3 : TakesStep s w2 w3
     t3 = DiskStepping.takes s w2 0 d2 (Reports 1) (Sets.get_set_same w1 0 d1 d2 (Sets.get_set_same w0 0 (disk 0 0 []) d1 at0))
-        ((omega arith, omega arith), tt)
+        (omega arith, omega arith) tt
 
     t4 : TakesStep s w3 w4
     t4 = DiskStepping.receives s w3 1 (disk 0 0 []) token_to_1 at1 reported (omega arith)

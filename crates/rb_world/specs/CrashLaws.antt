@@ -9,8 +9,8 @@ use Rattle.rb_site.specs.declared.world_event.WorldEvent.{WorldEvent}
 use Rattle.rb_site.specs.Events.{ModelSite, after_event, first_site, reply_to, sent_at}
 use Rattle.rb_site.specs.Histories.{AreOneWorlds, IsAmong}
 use Rattle.rb_site.specs.Seen.{entry}
-use Rattle.rb_site.specs.Worlds.{AreOwn, world_of_run}
-use Rattle.rb_world.specs.Laws.{Holds}
+use Rattle.rb_site.specs.Worlds.{AreOwn, World, world_of_run}
+use Rattle.rb_world.specs.Laws.{Headline, OtherLaws}
 use Rattle.rb_world.specs.Crashes.{DiskSite, IsSent, Leads, Restarts, TakesStep, after_step, first_disks}
 use Rattle.rb_world.specs.Crashes.{histories_from, sites_from}
 
@@ -31,9 +31,15 @@ pub record IsWorldOf (s : Settings) (w : List DiskSite) : Type 0 where
   pub sites : (world_of_run s events).sites ≡ sites_from s 0 w
   pub sent : (m : Message) → IsAmong m (world_of_run s events).messages ↔ IsSent s w m
 
--- at 1 to MOST_SITES sites all laws of worlds hold of one with just these sites
+-- at 1 to MOST_SITES sites the headline holds of a world with just these sites and just the messages that they sent
 abbrev pub HeadlineHolds : Settings → List DiskSite → Type 0
-HeadlineHolds s w = 1 ≤ s.sites → s.sites ≤ MOST_SITES → (x : IsWorldOf s w) × Holds s (world_of_run s x.events)
+HeadlineHolds s w = 1 ≤ s.sites → s.sites ≤ MOST_SITES →
+    (v : World) × (v.sites ≡ sites_from s 0 w) × ((m : Message) → IsAmong m v.messages ↔ IsSent s w m) × Headline s v
+
+-- there all laws of worlds hold of such a world in which nothing crashed
+abbrev pub AllLawsHold : Settings → List DiskSite → Type 0
+AllLawsHold s w = 1 ≤ s.sites → s.sites ≤ MOST_SITES →
+    (x : IsWorldOf s w) × Headline s (world_of_run s x.events) × OtherLaws s (world_of_run s x.events)
 
 -- ---- nothing reported is lost
 

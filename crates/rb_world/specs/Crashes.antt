@@ -62,27 +62,19 @@ pub data DiskStep : Type 0 where
   -- it crashes, and restarts from its first n events
   Restarts : (n : ℕ) → DiskStep
 
--- a number from a to b
-abbrev pub IsFromTo : ℕ → ℕ → ℕ → Type 0
-IsFromTo a n b = (a ≤ n) × (n ≤ b)
-
 -- what a step needs at its site alone: messages come by deliveries alone; only what is on the disk is reported; and a
 -- crash takes nothing from the disk
 abbrev pub MayHappenAlone : DiskSite → DiskStep → Type 0
 MayHappenAlone d (Acts e) = IsOwn e
 MayHappenAlone d (Receives m) = Unit {0}
-MayHappenAlone d (Syncs n) = IsFromTo d.on_disk n (length d.events)
-MayHappenAlone d (Reports n) = IsFromTo d.reported n d.on_disk
-MayHappenAlone d (Restarts n) = IsFromTo d.on_disk n (length d.events)
+MayHappenAlone d (Syncs n) = (d.on_disk ≤ n) × (n ≤ length d.events)
+MayHappenAlone d (Reports n) = (d.reported ≤ n) × (n ≤ d.on_disk)
+MayHappenAlone d (Restarts n) = (d.on_disk ≤ n) × (n ≤ length d.events)
 
 -- what it needs of the world: only reported messages are delivered
 abbrev pub WasReported : Settings → List DiskSite → DiskStep → Type 0
 WasReported s w (Receives m) = IsReported s w m
 WasReported s w _ = Unit {0}
-
--- what may happen at a site of a world
-abbrev pub MayHappen : Settings → List DiskSite → DiskSite → DiskStep → Type 0
-MayHappen s w d step = MayHappenAlone d step × WasReported s w step
 
 -- the site with one event more, unless its history is full
 abbrev pub with_event : Settings → DiskSite → Event → DiskSite
@@ -112,7 +104,8 @@ pub record TakesStep (s : Settings) (w v : List DiskSite) : Type 0 where
   pub site : DiskSite
   pub at : slice_get w number ≡ Some site
   pub step : DiskStep
-  pub may : MayHappen s w site step
+  pub may : MayHappenAlone site step
+  pub reported : WasReported s w step
   pub is : v ≡ slice_set w number (after_step s site step)
 
 -- some steps lead from one world to another

@@ -155,16 +155,19 @@ RefusedReceive = (s : Settings) (me : ℕ) (es : List Event) → length es ≤ s
 
 -- ---- all of them
 
--- what holds of every world that a bank's own events lead to
-pub record Holds (s : Settings) (w : World) : Type 0 where
+-- what the headline says of every world that a bank's own events lead to
+pub record Headline (s : Settings) (w : World) : Type 0 where
   pub exact_reversal : ExactReversal s w
-  pub one_token : OneToken s w
   pub red_blue : RedBlue s w
-  pub clocks : Clocks s w
   pub agreement : Agreement s w
+  pub never_negative : NeverNegative s w
+
+-- what else holds of it
+pub record OtherLaws (s : Settings) (w : World) : Type 0 where
+  pub one_token : OneToken s w
+  pub clocks : Clocks s w
   pub funds : Funds s w
   pub valid_lists : ValidLists s w
-  pub never_negative : NeverNegative s w
   pub never_stuck : NeverStuck s w
   pub trusts_its_own : TrustsItsOwn s w
   pub can_catch_up : CanCatchUp s w

@@ -11,7 +11,7 @@
 //! laws. The last three say that these say something: crashes do take events away, and both promises would fail if a
 //! crash took what was reported.
 ghost use Rattle.rb_world.specs.Interleaved.{InterleavedStepsLead};
-ghost use Rattle.rb_world.specs.CrashLaws.{AfterSteps, HidesCrashes, CrashesLoseEvents, DeeperCrashesShow};
+ghost use Rattle.rb_world.specs.CrashLaws.{AfterSteps, AllLawsHold, HidesCrashes, CrashesLoseEvents, DeeperCrashesShow};
 ghost use Rattle.rb_world.specs.CrashLaws.{ForgetsTheReported, HeadlineHolds, KeepsTheReported, ReportsTheDurable};
 
 use crate::laws_always_hold;
@@ -21,11 +21,12 @@ pub fn crashes_are_invisible()
     ensures { AfterSteps HidesCrashes }
 {}
 
-/// All laws of worlds hold of a world with just these sites and just the messages that they sent, at 1 to `MOST_SITES`
-/// sites: operations are undone exactly, no balance is negative, sites that applied the same operations agree, and each
-/// of the others.
+/// At 1 to `MOST_SITES` sites, in a world with just these sites and just the messages that they sent, operations are
+/// undone exactly, sites that applied the same operations agree, each serialization extends the RedBlue order, and no
+/// balance is negative. The other laws hold as well of such a world in which nothing crashed (`all`).
 pub fn headline_holds()
-    ensures { AfterSteps HeadlineHolds }
+    ensures headline { AfterSteps HeadlineHolds }
+    ensures all { AfterSteps AllLawsHold }
 {
     laws_always_hold();
 }

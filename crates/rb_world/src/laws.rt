@@ -1,20 +1,23 @@
 //! The laws of worlds: of every world that a bank's own events lead to, and of any `World` at hand. A law of a `World`
 //! says nothing of the steps that led to it, so it rests on few definitions. Nothing here runs.
-ghost use Rattle.rb_world.specs.Laws.{Agreement, Always, CanCatchUp, Clocks, ExactReversal, Funds, Holds};
-ghost use Rattle.rb_world.specs.Laws.{NeverNegative, NeverStuck, OneToken, RedBlue, TrustsItsOwn, ValidLists};
+ghost use Rattle.rb_world.specs.Laws.{Agreement, Always, CanCatchUp, Clocks, ExactReversal, Funds, Headline};
+ghost use Rattle.rb_world.specs.Laws.{NeverNegative, NeverStuck, OneToken, OtherLaws, RedBlue};
+ghost use Rattle.rb_world.specs.Laws.{TrustsItsOwn, ValidLists};
 
 use crate::{KeepsEvent, World};
 use rb_site::KeepsEntry;
 
 /// All laws hold of every world that a bank's own events lead to, in any configuration of 1 to `MOST_SITES` sites.
 pub fn laws_always_hold()
-    ensures { Always Holds }
+    ensures headline { Always Headline }
+    ensures others { Always OtherLaws }
 {}
 
 impl<E: KeepsEntry, R: KeepsEvent> World<E, R> {
     /// All laws hold, whatever happened: a world is the run of its events.
     pub fn laws_hold(&self)
-        ensures { Holds self.now.settings self.now.world }
+        ensures headline { Headline self.now.settings self.now.world }
+        ensures others { OtherLaws self.now.settings self.now.world }
     {
         let _ = &self.config;
     }

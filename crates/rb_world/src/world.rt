@@ -10,7 +10,8 @@ ghost use Rattle.rb_site.specs.Events.{first_site};
 ghost use Rattle.rb_site.specs.Seen.{state_of};
 ghost use Rattle.rb_site.specs.Histories.{site_of};
 ghost use Rattle.rb_site.specs.Worlds.{IsCommand, arrival, is_recorded, message_at};
-ghost use Rattle.rb_world.specs.Laws.{Holds, IsRunOf, next_replies, next_reply, next_world, next_worlds, opened};
+ghost use Rattle.rb_world.specs.Laws.{Headline, IsRunOf, OtherLaws, next_replies, next_reply};
+ghost use Rattle.rb_world.specs.Laws.{next_world, next_worlds, opened};
 ghost use Rattle.rb_world.specs.Reports.{AreReportsOf};
 
 use crate::{KeepsEvent, Stopped};
@@ -73,21 +74,26 @@ impl World {
             × (self.new ≡ next_worlds self.old (take stopped.answered events.now))) }
         ensures why { IfErr result (λ stopped. (stopped.answered ≡ 0) ⊎ IfSome (slice_get events.now stopped.answered)
             (λ event. is_recorded self.new.settings self.new.world event ≡ true)) }
-        ensures holds { Holds self.new.settings self.new.world }
+        ensures headline { Headline self.new.settings self.new.world }
+        ensures others { OtherLaws self.new.settings self.new.world }
     {
-        // For a fact alone: the world is the run of its events.
-        let _ = &self.config;
+        // At each end `laws_hold` is called for its facts alone.
         let mut replies = Vec::new(self.alloc);
         if replies.reserve(events.len()).is_err() {
+            self.laws_hold();
             return Err(Stopped { answered: 0 });
         }
         for (answered, event) in events.iter().enumerate() {
             let mut reply = Reply::Refused(Refusal::NoSite);
             match self.answer(event, &mut reply) {
                 Ok(()) => replies.push_reserved(reply),
-                Err(_) => return Err(Stopped { answered }),
+                Err(_) => {
+                    self.laws_hold();
+                    return Err(Stopped { answered });
+                }
             }
         }
+        self.laws_hold();
         Ok(replies)
     }
 
