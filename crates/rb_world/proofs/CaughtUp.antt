@@ -29,6 +29,7 @@ use Rattle.rb_site.proofs.Public.Runs
 use Rattle.rb_world.proofs.Token
 use Rattle.rb_world.proofs.Good
 use Rattle.rb_world.proofs.Good.{IsGood}
+use Rattle.rb_world.proofs.Places
 use Rattle.rb_world.proofs.Ready
 
 -- ---- a list of applied operations only grows
@@ -211,7 +212,7 @@ caught_up : (s : Settings) (rest : List Message) (w : World) (i k : ℕ) (t : Mo
     → (u : ModelSite) → slice_get (world_after_all s w (catching_up i known k rest)).sites i ≡ Some u →
     IsWithin (names (shadows_in (front ++ rest))) (names u.ops)
 caught_up s [] w i k t known front extra e g room u there = λ x h.
-    let same : u ≡ t = Token.same_site w i t u g.at there in
+    let same : u ≡ t = Places.same_item (slice_get w.sites i) u t there g.at in
     ap (λ (y : ModelSite). names y.ops x) same ∙ g.has x (ap (λ ms. names (shadows_in ms) x) (sym (append-nil front)) ∙ h)
 caught_up s (TokenOnItsWay m ∷ rest) w i k t known front extra e g room u there =
     regrouped front rest (TokenOnItsWay m) u.ops

@@ -9,6 +9,7 @@ use Rattle.std.proofs.lemmas.Bool.Decides.{nat_tests}
 use Rattle.std.proofs.lemmas.List.{length-append, length-replicate, length-set, length-take-le, take-append-drop, take-append-le}
 use Rattle.std.proofs.lemmas.List.{take_all, take-take}
 use Rattle.std.proofs.lemmas.Option.{slice_get_within}
+use Rattle.std.proofs.Math.Seq.{take-nil}
 use Rattle.rb_money.specs.Settings.{Settings}
 use Rattle.rb_shadow.proofs.Public.Members
 use Rattle.rb_site.specs.declared.event.Event.{Event}
@@ -109,7 +110,7 @@ first_safe s = record { order = order; cuts = cuts }
         let (d, there) = Places.item_at (first_disks s) i (let q : length c ≡ length (first_disks s) = h.sites in
         let k : i < length c = slice_get_within c i b at in omega arith) in
         let cut : IsCutTo d b = h.each i d b there at in
-        cut.is ∙ ap (λ (y : DiskSite). take cut.count y.events) (Places.get_replicate s.sites i none d there) ∙ Places.take_nil cut.count
+        cut.is ∙ ap (λ (y : DiskSite). take cut.count y.events) (Places.get_replicate s.sites i none d there) ∙ take-nil cut.count
 
     cuts : (c : List DiskSite) → AreCuts (first_disks s) c → IsWorldOf s c
     cuts c h = record {

@@ -89,16 +89,12 @@ stays_alike : (s : Settings) (t : ModelSite) (h : List Event) (e : Event) → is
     with_history (after_event s t e) h ≡ with_history t h
 stays_alike s t h e room b =
     ap (λ u. with_history u h) (CaughtUp.after_roomy s t e room)
-    ∙ ap (λ u. with_history u h) (refused_changes_nothing s t e (first _ _ b) (ap is_refused (sym (Ready.reply_roomy s t e room))
-    ∙ second _ _ b))
+    ∙ ap (λ u. with_history u h) (refused_changes_nothing s t e (both _ _ b).0 (ap is_refused (sym (Ready.reply_roomy s t e room))
+    ∙ (both _ _ b).1))
   where
-    first : (b c : Bool) → (b && c) ≡ true → b ≡ true
-    first true c h = refl
-    first false c h = cc
-
-    second : (b c : Bool) → (b && c) ≡ true → c ≡ true
-    second true c h = h
-    second false c h = cc
+    both : (b c : Bool) → (b && c) ≡ true → (b ≡ true) × (c ≡ true)
+    both true c h = (refl, h)
+    both false c h = cc
 
 -- ---- a list of events
 

@@ -1,8 +1,10 @@
 -- Claims that hold of the world after every run.
-use Rattle.std.proofs.Common.{◌≡◌, ◌≢◌, ℕ, ◌+◌, ◌<◌, ◌≤◌, Bool, true, false, cond, not, List, [], ◌∷◌, ◌++◌, refl, ap, sym, ◌∙◌, arith, ◌⊎◌}
+use Rattle.std.proofs.Common.{◌≡◌, ◌≢◌, ℕ, ◌+◌, ◌<◌, ◌≤◌, Bool, true, false, cond, not, List, [], ◌∷◌, ◌++◌, refl, ap, sym, ◌∙◌, arith}
 use Rattle.std.proofs.Common.{inl, inr, subst, Some}
 use Rattle.std.specs.Prelude.{slice_get, max, ◌==◌}
 use Rattle.std.proofs.lemmas.Bool.Decides.{nat_tests}
+use Rattle.std.proofs.lemmas.List.FromFn.{length-map-range_with_len}
+use Rattle.std.proofs.lemmas.Option.{slice_get_within}
 use Rattle.rb_money.specs.Settings.{Settings}
 use Rattle.rb_money.specs.declared.limits.TheConstants.{MOST_SITES}
 use Rattle.rb_shadow.specs.declared.op_name.OpName.{OpName}
@@ -10,7 +12,7 @@ use Rattle.rb_shadow.specs.declared.op_name.OpName.TheVariants.{Blue, Red}
 use Rattle.rb_shadow.specs.declared.colour.Colour.{Colour}
 use Rattle.rb_shadow.specs.declared.colour.Colour.TheVariants.{Blue as BlueColour, Red as RedColour}
 use Rattle.rb_shadow.specs.declared.shadow.Shadow.{Shadow}
-use Rattle.rb_shadow.specs.Operations.{Among, AreSame, EachEntry, blue_count, clock_of, is_red, names, number_of, past, red_count}
+use Rattle.rb_shadow.specs.Operations.{Among, AreSame, EachEntry, blue_count, is_red, names, number_of, past, red_count}
 use Rattle.rb_shadow.specs.Operations.{same_name, colour_in}
 use Rattle.rb_shadow.specs.Laws.{IsPart}
 use Rattle.rb_shadow.specs.Sound.{IsSound, is_foreign}
@@ -26,7 +28,7 @@ use Rattle.rb_token.specs.declared.message.TokenMessage.{TokenMessage}
 use Rattle.rb_token.specs.Token.{Token}
 use Rattle.rb_inbox.specs.Held.{with_held, without}
 use Rattle.rb_inbox.proofs.Public.{kept_among, held_cases}
-use Rattle.rb_scratch.specs.Requests.{Plan, next_name, operation_of}
+use Rattle.rb_scratch.specs.Requests.{next_name}
 use Rattle.rb_scratch.proofs.Public.Made.{IsAllowed, IsMadeAt}
 use Rattle.rb_scratch.proofs.Public.Fits
 use Rattle.rb_scratch.proofs.Public.Makes
@@ -34,14 +36,13 @@ use Rattle.rb_site.specs.declared.message.Message.{Message}
 use Rattle.rb_site.specs.declared.message.Message.TheVariants.{Shadow as ShadowMessage, Token as TokenOnItsWay}
 use Rattle.rb_site.specs.declared.event.Event.{Event}
 use Rattle.rb_site.specs.declared.world_event.WorldEvent.{WorldEvent}
-use Rattle.rb_site.specs.Events.{ModelSite}
+use Rattle.rb_site.specs.Events.{ModelSite, first_site}
 use Rattle.rb_site.specs.Worlds.{AreOwn, World, first_world, made_in, shadows_in, tokens_in, world_of_run}
-use Rattle.rb_site.proofs.Public.Places.{same_number}
 use Rattle.rb_world.specs.Laws.{EachSite}
 use Rattle.rb_world.proofs.Steps
 use Rattle.rb_world.proofs.Steps.{AmongTokens, Keeps, MayApply, MayHold, MayPass, each_moved, moved}
 use Rattle.rb_world.proofs.Token
-use Rattle.rb_world.proofs.Token.{IsHeldAt, IsInOnePlace, IsOnItsWay, red_number}
+use Rattle.rb_world.proofs.Token.{IsInOnePlace, red_number}
 use Rattle.rb_world.proofs.Order
 use Rattle.rb_world.proofs.Order.{IsNew, IsOrderedSet, last_cases, part-last, part-more}
 
@@ -75,32 +76,15 @@ sound_in s w v g h = Pasts.is_sound s (made_in w) v (g.order.pasts v h)
 
 -- ---- what a site makes is new
 
-home_of : (me : ℕ) (us : List Shadow) (p : Plan) → (operation_of me us p).home ≡ me
-unfolding operation_of
-home_of me us p = refl
-
-deps_of : (me : ℕ) (us : List Shadow) (p : Plan) → (operation_of me us p).deps ≡ clock_of us
-unfolding operation_of
-deps_of me us p = refl
-
-name_of : (me : ℕ) (us : List Shadow) (p : Plan) → (operation_of me us p).name ≡ next_name me us (colour_in us p.kind)
-unfolding operation_of
-name_of me us p = refl
+-- what a site makes is what its plan says
+made_as : (s : Settings) (t : ModelSite) (v : Shadow) (made : IsMadeAt s t.me t.ops t.token v) → v ≡ Fits.shadow_of t.me t.ops made.plan
+made_as s t v made = made.is ∙ Fits.operation_is t.me t.ops made.plan
 
 -- who makes a red operation knows every red one
 knows_reds : (w : World) (i : ℕ) (t : ModelSite) → IsInOnePlace w → slice_get w.sites i ≡ Some t → t.token.held ≡ true →
     t.token.needed ≤ red_count t.ops → Token.RedsUpTo (made_in w) (red_count t.ops)
-knows_reds w i t p at held enough = by p.place
-  where
-    by : ((k : ℕ) × (u : ModelSite) × IsHeldAt w k u) ⊎ ((m : TokenMessage) × IsOnItsWay w m) → Token.RedsUpTo (made_in w) (red_count t.ops)
-    by (inl (k, u, o)) = elim (same_number i k) [
-      | inl e ↦
-          let o' : IsHeldAt w i u = subst (λ k. IsHeldAt w k u) e o in
-          let o'' : IsHeldAt w i t = subst (IsHeldAt w i) (Token.same_site w i t u at o'.at) o' in
-          λ v h. let a : red_number v.name ≤ max t.token.needed (red_count t.ops) = o''.reds v h in omega arith
-      | inr ne ↦ absurd (Token.true≢false' t.token.held held (o.alone i t at (λ e. ne (sym e))))
-    ]
-    by (inr (m, on)) = absurd (Token.true≢false' t.token.held held (on.unheld i t at))
+knows_reds w i t p at held enough v h =
+    let a : red_number v.name ≤ max t.token.needed (red_count t.ops) = (Token.held_here w i t p at held).reds v h in omega arith
 
 -- a red operation that the list counts is in it
 red_there : (us : List Shadow) (x : OpName) → IsCounted us → is_red x ≡ true → 1 ≤ number_of x → red_number x ≤ red_count us →
@@ -113,15 +97,13 @@ new_made : (s : Settings) (w : World) (i : ℕ) (t : ModelSite) (v : Shadow) →
 new_made s w i t v g at made = record {
   part = here.part;
   valid = Legal.IsValid-push s t.ops v here.valid (Makes.made_follows s t.me t.ops t.token v g.few low here.valid made);
-  is_past = λ x. sym (ValidClocks.clock_past s t.ops v g.few here.valid (ap (λ (x : Shadow). x.deps) made.is
-      ∙ deps_of t.me t.ops made.plan) x);
+  is_past = λ x. sym (ValidClocks.clock_past s t.ops v g.few here.valid (ap (λ (x : Shadow). x.deps) (made_as s t v made)) x);
   fresh = elim (Members.bool_cases (names all v.name)) [
-    | inl e ↦ absurd (fresh (colour_in t.ops made.plan.kind) v.name (ap (λ (x : Shadow). x.name) made.is
-        ∙ name_of t.me t.ops made.plan) made.fair e)
+    | inl e ↦ absurd (fresh (colour_in t.ops made.plan.kind) v.name (ap (λ (x : Shadow). x.name) (made_as s t v made)) made.fair e)
     | inr e ↦ e
   ];
   reds = λ e u h k. by v.name e made.fair u h k;
-  homes = λ u h e. Members.named t.ops u (here.own u h (e ∙ ap (λ (x : Shadow). x.home) made.is ∙ home_of t.me t.ops made.plan ∙ me));
+  homes = λ u h e. Members.named t.ops u (here.own u h (e ∙ ap (λ (x : Shadow). x.home) (made_as s t v made) ∙ me));
 }
   where
     all : List Shadow
@@ -292,7 +274,7 @@ makes s w i t v g at made = record {
     new = new_made s w i t v g at made
 
     home : v.home ≡ i
-    home = ap (λ (x : Shadow). x.home) made.is ∙ home_of t.me t.ops made.plan ∙ g.place.numbered i t at
+    home = ap (λ (x : Shadow). x.home) (made_as s t v made) ∙ g.place.numbered i t at
 
 -- the message of a token that is passed is within the limits
 passed_within : (s : Settings) (w : World) (i : ℕ) (t : ModelSite) (m : TokenMessage) → IsGood s w → slice_get w.sites i ≡ Some t →
@@ -346,7 +328,7 @@ first_good s some few = record {
   place = Token.first_place s some;
   order = record { unique = tt; in_turn = no_entry _; pasts = λ v h. elim h [ ]; reds = λ u v h. elim h [ ]; homes = λ u v h. elim h [ ] };
   sites = λ i t h. subst (IsInOrder s [] i) (sym (Token.first_is s i t h)) (record {
-    low = (Token.first_sites 0 s.sites i t h).1;
+    low = subst (λ n. i < n) (length-map-range_with_len first_site 0 s.sites) (slice_get_within (first_world s).sites i t h);
     valid = Legal.IsValid-none s;
     own_past = no_entry _;
     part = λ v k. elim k [ ];

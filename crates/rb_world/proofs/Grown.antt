@@ -11,7 +11,7 @@ use Rattle.rb_site.specs.declared.world_event.WorldEvent.{WorldEvent}
 use Rattle.rb_site.specs.declared.world_event.WorldEvent.TheVariants.{At, Deliver}
 use Rattle.rb_site.specs.Events.{ModelSite, after_event, after_events, first_site, sent_at}
 use Rattle.rb_site.specs.Histories.{IsAmong, sends_of}
-use Rattle.rb_site.specs.Worlds.{AreOwn, IsOwn, World, first_world, world_after, world_at, world_of_run}
+use Rattle.rb_site.specs.Worlds.{IsCommand, IsOwn, World, first_world, world_after, world_at, world_of_run}
 use Rattle.rb_site.proofs.Public.Places as Sets
 use Rattle.rb_site.proofs.Public.Places.{same_number}
 use Rattle.rb_site.proofs.Public.Runs
@@ -19,6 +19,7 @@ use Rattle.rb_site.proofs.Public.Stuck
 use Rattle.rb_world.specs.Crashes.{DiskSite, IsSent, sites_from}
 use Rattle.rb_world.specs.CrashLaws.{IsWorldOf}
 use Rattle.rb_world.proofs.Places
+use Rattle.rb_world.proofs.Stepping.{own-push}
 
 -- ---- the event of the world
 
@@ -31,13 +32,13 @@ numbered m (n ∷ ms) (inr h) = let (k, at) = numbered m ms h in (suc k, at)
 -- an event of the world that brings an event to a site
 pub record Brings (s : Settings) (w : World) (i : ℕ) (t : ModelSite) (e : Event) : Type 0 where
   pub event : WorldEvent
-  pub own : AreOwn (event ∷ [])
+  pub own : IsCommand event
   pub is : world_after s w event ≡ world_at s w i (Some e) (Some t)
 
 -- an event of the site's own is brought by itself
 pub brings_own : (s : Settings) (w : World) (i : ℕ) (t : ModelSite) (e : Event) → slice_get w.sites i ≡ Some t → IsOwn e →
     Brings s w i t e
-brings_own s w i t e at own = record { event = At i e; own = (own, tt); is = ap (world_at s w i (Some e)) at }
+brings_own s w i t e at own = record { event = At i e; own = own; is = ap (world_at s w i (Some e)) at }
 
 -- the receipt of a message that was sent is brought by a delivery
 pub brings_message : (s : Settings) (w : World) (i : ℕ) (t : ModelSite) (m : Message) → slice_get w.sites i ≡ Some t →
@@ -49,11 +50,6 @@ brings_message s w i t m at among =
       own = tt;
       is = ap (λ o. world_at s w i (option_map Receive o) (slice_get w.sites i)) there ∙ ap (world_at s w i (Some (Receive m))) at;
     }
-
-own_more : (es : List WorldEvent) (e : WorldEvent) → AreOwn es → AreOwn (e ∷ []) → AreOwn (es ++ e ∷ [])
-own_more [] e h k = k
-own_more (At i x ∷ es) e h k = (h.0, own_more es e h.1 k)
-own_more (Deliver i n ∷ es) e h k = own_more es e h k
 
 -- ---- the sites
 
@@ -153,7 +149,7 @@ pub grown : (s : Settings) (i : ℕ) (w : List DiskSite) (e : Event) (d more : D
     IsWorldOf s (slice_set w i more)
 grown s i w e d more x at longer b = record {
   events = x.events ++ b.event ∷ [];
-  own = own_more x.events b.event x.own b.own;
+  own = own-push x.events b.event x.own b.own;
   sites = ap (λ (v : World). v.sites) is ∙ ap (λ ts. slice_set ts i (after_event s t e)) x.sites ∙ sym set;
   sent = λ m. (to m, from m);
 }

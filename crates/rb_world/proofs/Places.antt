@@ -1,5 +1,5 @@
 -- Lists, by their places.
-use Rattle.std.proofs.Common.{◌≡◌, ℕ, zero, suc, ◌<◌, List, [], ◌∷◌, length, take, refl, ap, arith, Option, Some}
+use Rattle.std.proofs.Common.{◌≡◌, ℕ, zero, suc, ◌<◌, List, [], ◌∷◌, length, refl, ap, arith, Option, Some}
 use Rattle.std.specs.Prelude.{replicate, slice_get, slice_set}
 
 -- what is at one place is one thing
@@ -23,8 +23,3 @@ pub get_replicate : {X : Type 0} (n i : ℕ) (x y : X) → slice_get (replicate 
 get_replicate zero i x y h = cc
 get_replicate (suc n) zero x y h = cc
 get_replicate (suc n) (suc i) x y h = get_replicate n i x y h
-
--- the first items of no items
-pub take_nil : {X : Type 0} (n : ℕ) → take {A = X} n [] ≡ []
-take_nil zero = refl
-take_nil (suc n) = refl

@@ -4,6 +4,7 @@ use Rattle.std.proofs.Common.{◌⊎◌, inl, inr, subst, Option, Some, None}
 use Rattle.std.specs.Prelude.{option_map, slice_get, nat_lt, nat_le, ◌==◌}
 use Rattle.std.proofs.lemmas.Bool.Decides.{nat_tests}
 use Rattle.rb_money.specs.Refusals.{unless}
+use Rattle.rb_money.proofs.Public.Tests
 use Rattle.rb_money.specs.Settings.{Settings}
 use Rattle.rb_money.specs.declared.refusal.Refusal.TheVariants.{BadMessage, Conflict, HistoryFull, InboxFull, NotHeld, NotReady, NotYours}
 use Rattle.rb_shadow.specs.declared.shadow.Shadow.{Shadow}
@@ -119,13 +120,10 @@ site_receives s w i t v g at made = subst (IsTrusting s t v) (sym (ap (λ o. unl
 
     away : find_in t.ops v.name ≡ None → (v.home == t.me) ≡ false
     away e = elim (Members.bool_cases (v.home == t.me)) [
-      | inl k ↦ absurd (Members.true≢false (sym (Members.named t.ops v (here.own v made (home (v.home) t.me k ∙ g.place.numbered i t at)))
+      | inl k ↦ absurd (Members.true≢false (sym (Members.named t.ops v (here.own v made (Tests.number_sound v.home t.me k ∙ g.place.numbered i t at)))
           ∙ Lookups.unnamed t.ops v.name e))
       | inr k ↦ k
     ]
-      where
-        home : (a b : ℕ) → (a == b) ≡ true → a ≡ b
-        home a b h = grind (arith, nat_tests)
 
     by_ops : (o : Option Shadow) → find_in t.ops v.name ≡ o → IsTrusting s t v
         (unless_known v o (cond (v.home == t.me) (Refuses Conflict) (unless_known v (find_in t.held v.name) room)))

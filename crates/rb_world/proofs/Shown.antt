@@ -7,7 +7,6 @@ use Rattle.rb_money.specs.Refusals.{unless}
 use Rattle.rb_money.specs.Settings.{Settings}
 use Rattle.rb_money.specs.declared.refusal.Refusal.TheVariants.{NoSite, NumbersExhausted}
 use Rattle.rb_site.specs.declared.entry.Entry.{Entry}
-use Rattle.rb_site.specs.declared.event.Event.{Event}
 use Rattle.rb_site.specs.declared.event.Event.TheVariants.{Pass, Receive}
 use Rattle.rb_site.specs.declared.message.Message.{Message}
 use Rattle.rb_site.specs.declared.message.Message.TheVariants.{Token as TokenOnItsWay}
@@ -18,11 +17,11 @@ use Rattle.rb_site.proofs.Public.Places as Sets
 use Rattle.rb_site.proofs.Public.Places.{same_number}
 use Rattle.rb_site.proofs.Public.Stuck
 use Rattle.rb_token.specs.Token.{first_token, pass_message}
-use Rattle.rb_world.specs.Crashes.{DiskSite, Goes, IsReported, Reports, Stays, Syncs, TakesStep, first_disks, histories_from}
+use Rattle.rb_world.specs.Crashes.{DiskSite, IsReported, first_disks, histories_from}
 use Rattle.rb_world.specs.CrashLaws.{HidesCrashes, DeeperCrashesShow}
 use Rattle.rb_world.proofs.Places
 use Rattle.rb_world.proofs.DiskStepping
-use Rattle.rb_world.proofs.DiskStepping.{disk}
+use Rattle.rb_world.proofs.DiskStepping.{IsReached, disk}
 
 -- ---- histories of one receipt
 
@@ -138,27 +137,19 @@ pass_sends s two some epochs =
 pub deeper_show : DeeperCrashesShow
 deeper_show s two some epochs = record {
   world = w4;
-  led = Goes t1 (Goes t2 (Goes t3 (Goes t4 Stays)));
+  led = DiskStepping.goes_on s (first_disks s) o.world w4 o.led
+      (DiskStepping.receives s o.world 1 (disk 0 0 []) token_to_1 at1 reported (omega arith));
   number = 0;
-  site = d3;
+  site = passed;
   at = at4;
   kept = 0;
   fewer = omega arith;
   shows = never_sent s (slice_set w4 0 forgotten) token_to_1 1 r few
-      (Sets.get_set_other w4 0 1 forgotten (λ e. cc) ∙ Sets.get_set_same w3 1 (disk 0 0 []) r at1) refl;
+      (Sets.get_set_other w4 0 1 forgotten (λ e. cc) ∙ Sets.get_set_same o.world 1 (disk 0 0 []) r at1) refl;
 }
   where
-    e : Event
-    e = Pass 1
-
-    d1 : DiskSite
-    d1 = disk 0 0 (e ∷ [])
-
-    d2 : DiskSite
-    d2 = disk 1 0 (e ∷ [])
-
-    d3 : DiskSite
-    d3 = disk 1 1 (e ∷ [])
+    passed : DiskSite
+    passed = disk 1 1 (Pass 1 ∷ [])
 
     r : DiskSite
     r = disk 0 0 (Receive token_to_1 ∷ [])
@@ -166,68 +157,37 @@ deeper_show s two some epochs = record {
     forgotten : DiskSite
     forgotten = disk 0 1 []
 
-    w0 : List DiskSite
-    w0 = first_disks s
-
-    w1 : List DiskSite
-    w1 = slice_set w0 0 d1
-
-    w2 : List DiskSite
-    w2 = slice_set w1 0 d2
-
-    w3 : List DiskSite
-    w3 = slice_set w2 0 d3
+    o : IsReached s 0 passed
+    o = DiskStepping.first_reported s 0 (Pass 1) []
+        (DiskStepping.acted s 0 (disk 0 0 []) (Pass 1) tt (omega arith) (DiskStepping.first_reached s 0 (omega arith)))
 
     w4 : List DiskSite
-    w4 = slice_set w3 1 r
+    w4 = slice_set o.world 1 r
 
-    at0 : slice_get w0 0 ≡ Some (disk 0 0 [])
-    at0 = DiskStepping.first_at s 0 (omega arith)
+    at4 : slice_get w4 0 ≡ Some passed
+    at4 = Sets.get_set_other o.world 1 0 r (λ e. cc) ∙ o.at
 
-    at3 : slice_get w3 0 ≡ Some d3
-    at3 = Sets.get_set_same w2 0 d2 d3 (Sets.get_set_same w1 0 d1 d2 (Sets.get_set_same w0 0 (disk 0 0 []) d1 at0))
+    at1 : slice_get o.world 1 ≡ Some (disk 0 0 [])
+    at1 = o.others 1 (λ e. cc) ∙ DiskStepping.first_at s 1 (omega arith)
 
-    at4 : slice_get w4 0 ≡ Some d3
-    at4 = Sets.get_set_other w3 1 0 r (λ e. cc) ∙ at3
-
-    -- the other sites are as they were
-    other : (i : ℕ) → ¬ (i ≡ 0) → slice_get w3 i ≡ slice_get w0 i
-    other i h = Sets.get_set_other w2 0 i d3 h ∙ Sets.get_set_other w1 0 i d2 h ∙ Sets.get_set_other w0 0 i d1 h
-
-    at1 : slice_get w3 1 ≡ Some (disk 0 0 [])
-    at1 = other 1 (λ e. cc) ∙ DiskStepping.first_at s 1 (omega arith)
-
-    reported : IsReported s w3 token_to_1
+    reported : IsReported s o.world token_to_1
     reported = record {
       number = 0;
-      site = d3;
-      at = at3;
+      site = passed;
+      at = o.at;
       sent = subst (λ ms. IsAmong token_to_1 (ms ++ [])) (sym (pass_sends s two some epochs)) (inl refl);
     }
-
-    t1 : TakesStep s w0 w1
-    t1 = DiskStepping.acts s w0 0 (disk 0 0 []) e at0 tt (omega arith)
-
-    t2 : TakesStep s w1 w2
-    t2 = DiskStepping.takes s w1 0 d1 (Syncs 1) (Sets.get_set_same w0 0 (disk 0 0 []) d1 at0) (omega arith, omega arith) tt
-
-    t3 : TakesStep s w2 w3
-    t3 = DiskStepping.takes s w2 0 d2 (Reports 1) (Sets.get_set_same w1 0 d1 d2 (Sets.get_set_same w0 0 (disk 0 0 []) d1 at0))
-        (omega arith, omega arith) tt
-
-    t4 : TakesStep s w3 w4
-    t4 = DiskStepping.receives s w3 1 (disk 0 0 []) token_to_1 at1 reported (omega arith)
 
     -- but for the receipt at site 1 no site has an event
     few : (i : ℕ) (d : DiskSite) → slice_get (slice_set w4 0 forgotten) i ≡ Some d →
         (d.events ≡ []) ⊎ (d.events ≡ Receive token_to_1 ∷ [])
     few i d at = elim (same_number 0 i) [
       | inl q ↦ inl (ap (λ (y : DiskSite). y.events) (Places.same_item (slice_get (slice_set w4 0 forgotten) i) d forgotten at
-          (ap (slice_get (slice_set w4 0 forgotten)) q ∙ Sets.get_set_same w4 0 d3 forgotten at4)))
+          (ap (slice_get (slice_set w4 0 forgotten)) q ∙ Sets.get_set_same w4 0 passed forgotten at4)))
       | inr ne ↦ elim (same_number 1 i) [
         | inl q ↦ inr (ap (λ (y : DiskSite). y.events) (Places.same_item (slice_get w4 i) d r
-            (sym (Sets.get_set_other w4 0 i forgotten ne) ∙ at) (ap (slice_get w4) q ∙ Sets.get_set_same w3 1 (disk 0 0 []) r at1)))
+            (sym (Sets.get_set_other w4 0 i forgotten ne) ∙ at) (ap (slice_get w4) q ∙ Sets.get_set_same o.world 1 (disk 0 0 []) r at1)))
         | inr nor ↦ inl (ap (λ (y : DiskSite). y.events) (Places.get_replicate s.sites i (disk 0 0 []) d
-            (sym (other i ne) ∙ sym (Sets.get_set_other w3 1 i r nor) ∙ sym (Sets.get_set_other w4 0 i forgotten ne) ∙ at)))
+            (sym (o.others i ne) ∙ sym (Sets.get_set_other o.world 1 i r nor) ∙ sym (Sets.get_set_other w4 0 i forgotten ne) ∙ at)))
       ]
     ]

@@ -137,7 +137,8 @@ taken_step s xs ms es ev e x taken = (
 
 -- ---- the world stays the run of its events
 
-own-push : (es : List WorldEvent) (ev : WorldEvent) → AreOwn es → IsCommand ev → AreOwn (es ++ ev ∷ [])
+-- in a list with one command more messages come by deliveries alone still
+pub own-push : (es : List WorldEvent) (ev : WorldEvent) → AreOwn es → IsCommand ev → AreOwn (es ++ ev ∷ [])
 own-push [] (At i e) own h = (h, tt)
 own-push [] (Deliver i k) own h = tt
 own-push (At j d ∷ es) ev own h = (own.0, own-push es ev own.1 h)

@@ -1,9 +1,8 @@
 -- The place of the red token, and the red operations that its holder knows of.
-use Rattle.std.proofs.Common.{◌≡◌, ◌≢◌, ℕ, zero, suc, ◌+◌, ◌<◌, ◌≤◌, Bool, true, false, cond, List, [], ◌∷◌, ◌++◌, refl, ap, sym, ◌∙◌}
+use Rattle.std.proofs.Common.{◌≡◌, ◌≢◌, ℕ, zero, suc, ◌+◌, ◌<◌, ◌≤◌, true, false, cond, List, [], ◌∷◌, ◌++◌, refl, ap, sym, ◌∙◌}
 use Rattle.std.proofs.Common.{arith, ◌⊎◌, inl, inr, subst, Some}
-use Rattle.std.specs.Prelude.{slice_get, map, ◌==◌, max}
+use Rattle.std.specs.Prelude.{slice_get, map, max}
 use Rattle.std.specs.List.{range_with_len}
-use Rattle.std.proofs.lemmas.Bool.Decides.{nat_tests}
 use Rattle.std.proofs.lemmas.List.{append-nil}
 use Rattle.rb_money.specs.Settings.{Settings}
 use Rattle.rb_scratch.proofs.Public.Made.{IsAllowed, IsMadeAt}
@@ -24,8 +23,11 @@ use Rattle.rb_site.specs.Events.{ModelSite, first_site}
 use Rattle.rb_inbox.specs.Held.{with_held, without}
 use Rattle.rb_site.specs.Worlds.{World, shadows_in, tokens_in, made_in, first_world}
 use Rattle.rb_world.specs.Laws.{EachSite, OneToken}
+use Rattle.rb_world.proofs.Places
 use Rattle.rb_world.proofs.Steps.{AmongTokens, MayTake, MayPass, Keeps, moved, each_moved}
+use Rattle.rb_money.proofs.Public.Tests
 use Rattle.rb_site.proofs.Public.Places.{get_set_other, get_set_same, same_number}
+use Rattle.rb_site.proofs.Public.Stuck
 
 -- ---- messages
 
@@ -106,13 +108,19 @@ pub record IsInOnePlace (w : World) : Type 0 where
   pub numbered : EachSite w (λ i t. t.me ≡ i)
   pub place : ((k : ℕ) × (t : ModelSite) × IsHeldAt w k t) ⊎ ((m : TokenMessage) × IsOnItsWay w m)
 
--- nothing is both true and false
-pub true≢false' : (b : Bool) → b ≡ true → b ≡ false → ⊥
-true≢false' b h k = cc
-
--- at a place there is only one site
-pub same_site : (w : World) (k : ℕ) (t u : ModelSite) → slice_get w.sites k ≡ Some t → slice_get w.sites k ≡ Some u → u ≡ t
-same_site w k t u a b = cc
+-- the place of a token that a site has is that site
+pub held_here : (w : World) (i : ℕ) (t : ModelSite) → IsInOnePlace w → slice_get w.sites i ≡ Some t → t.token.held ≡ true →
+    IsHeldAt w i t
+held_here w i t p at held = by p.place
+  where
+    by : ((k : ℕ) × (u : ModelSite) × IsHeldAt w k u) ⊎ ((m : TokenMessage) × IsOnItsWay w m) → IsHeldAt w i t
+    by (inl (k, u, o)) = elim (same_number i k) [
+      | inl e ↦
+          let o' : IsHeldAt w i u = subst (λ k. IsHeldAt w k u) e o in
+          subst (IsHeldAt w i) (Places.same_item (slice_get w.sites i) u t o'.at at) o'
+      | inr ne ↦ absurd (Members.true≢false (sym held ∙ o.alone i t at (λ e. ne (sym e))))
+    ]
+    by (inr (m, on)) = absurd (Members.true≢false (sym held ∙ on.unheld i t at))
 
 -- the site changes, but for its number and its token
 abbrev pub quietly : ModelSite → List Shadow → List Shadow → List Event → ModelSite
@@ -139,7 +147,7 @@ reds_there : (w : World) (t : ModelSite) (os : List Shadow) (ms : List Message) 
     RedsUpTo (made_in w) r → RedsUpTo (shadows_in ms) r
 reds_there w t os ms r few unheld reds v h = elim (few v h) [
   | inl k ↦ reds v k
-  | inr k ↦ elim k [ inl e ↦ omega arith | inr e ↦ absurd (true≢false' t.token.held e.0 unheld) ]
+  | inr k ↦ elim k [ inl e ↦ omega arith | inr e ↦ absurd (Members.true≢false (sym e.0 ∙ unheld)) ]
 ]
 
 quiet : (w : World) (i : ℕ) (t : ModelSite) (os hs : List Shadow) (h : List Event) (ms : List Message) → IsInOnePlace w →
@@ -181,7 +189,7 @@ quiet w i t os hs h ms p at toks more few = record { numbered = numbered_quietly
     by (inl (k, u, o)) = elim (same_number i k) [
       | inl e ↦
           let o' : IsHeldAt w i u = subst (λ k. IsHeldAt w k u) e o in
-          inl (i, n, here (subst (IsHeldAt w i) (same_site w i t u at o'.at) o'))
+          inl (i, n, here (subst (IsHeldAt w i) (Places.same_item (slice_get w.sites i) u t o'.at at) o'))
       | inr ne ↦ inl (k, u, there k u ne o)
     ]
     by (inr (m, o)) = inr (
@@ -277,7 +285,10 @@ taken s w i t m p at may = record { numbered = numbered_quietly w i t n w.messag
 passed : (s : Settings) (w : World) (i : ℕ) (t : ModelSite) (m : TokenMessage) → IsInOnePlace w → slice_get w.sites i ≡ Some t →
     MayPass s t m → IsInOnePlace (moved w i (record t { token = record { epoch = m.epoch; held = false; needed = t.token.needed } })
     (w.messages ++ TokenOnItsWay m ∷ []))
-passed s w i t m p at may = record { numbered = numbered_quietly w i t n ms p.numbered at refl; place = inr (m, by p.place) }
+passed s w i t m p at may = record {
+  numbered = numbered_quietly w i t n ms p.numbered at refl;
+  place = inr (m, goes (held_here w i t p at may.held));
+}
   where
     n : ModelSite
     n = record t { token = record { epoch = m.epoch; held = false; needed = t.token.needed } }
@@ -304,15 +315,6 @@ passed s w i t m p at may = record { numbered = numbered_quietly w i t n ms p.nu
           in let b : m.red ≡ max t.token.needed (red_count t.ops) = may.red in omega arith;
     }
 
-    by : ((k : ℕ) × (u : ModelSite) × IsHeldAt w k u) ⊎ ((m : TokenMessage) × IsOnItsWay w m) → IsOnItsWay (moved w i n ms) m
-    by (inl (k, u, o)) = elim (same_number i k) [
-      | inl e ↦
-          let o' : IsHeldAt w i u = subst (λ k. IsHeldAt w k u) e o in
-          goes (subst (IsHeldAt w i) (same_site w i t u at o'.at) o')
-      | inr ne ↦ absurd (true≢false' t.token.held may.held (o.alone i t at (λ e. ne (sym e))))
-    ]
-    by (inr (o, on)) = absurd (true≢false' t.token.held may.held (on.unheld i t at))
-
 -- each kind of step keeps the token in one place
 pub keeps_place : (s : Settings) → Keeps s IsInOnePlace
 keeps_place s = record {
@@ -329,18 +331,9 @@ keeps_place s = record {
 
 -- ---- before any event
 
--- of sites before any event, numbered on from a first number, the one at a place has that number and the place added,
--- and the place is below how many they are
-pub first_sites : (a n i : ℕ) (t : ModelSite) → slice_get (map first_site (range_with_len a n)) i ≡ Some t →
-    (t ≡ first_site (a + i)) × (i < n)
-first_sites a zero i t h = cc
-first_sites a (suc n) zero t h = (let e : t ≡ first_site a = cc in e ∙ ap first_site (let q : a ≡ a + 0 = omega arith in q), omega arith)
-first_sites a (suc n) (suc i) t h = let r : (t ≡ first_site ((a + 1) + i)) × (i < n) = first_sites (a + 1) n i t h in
-    (r.0 ∙ ap first_site (let q : (a + 1) + i ≡ a + suc i = omega arith in q), let q : i < n = r.1 in omega arith)
-
 -- in the world before any event, what is at a place is the site of that number before any event
 pub first_is : (s : Settings) (i : ℕ) (t : ModelSite) → slice_get (first_world s).sites i ≡ Some t → t ≡ first_site i
-first_is s i t h = (first_sites 0 s.sites i t h).0 ∙ ap first_site (let q : 0 + i ≡ i = omega arith in q)
+first_is s i t h = Stuck.first_sites 0 s.sites i t h ∙ ap first_site (let q : 0 + i ≡ i = omega arith in q)
 
 -- before any event the token is in one place, if there is a site
 pub first_place : (s : Settings) → 1 ≤ s.sites → IsInOnePlace (first_world s)
@@ -352,7 +345,7 @@ first_place s some = record {
     record {
       at = zeroth s.sites some;
       held = refl;
-      alone = λ j u h ne. ap (λ (v : ModelSite). v.token.held) (first_is s j u h) ∙ unequal j ne;
+      alone = λ j u h ne. ap (λ (v : ModelSite). v.token.held) (first_is s j u h) ∙ Tests.unequal j 0 ne;
       latest = λ j u h. let e : u.token.epoch ≡ 0 = ap (λ (v : ModelSite). v.token.epoch) (first_is s j u h) in omega arith;
       stale = λ m h. elim h [ ];
       reds = λ v h. elim h [ ];
@@ -364,21 +357,11 @@ first_place s some = record {
     zeroth zero h = absurd (omega arith)
     zeroth (suc n) h = refl
 
-    unequal : (j : ℕ) → j ≢ 0 → (j == 0) ≡ false
-    unequal j ne = grind (arith, nat_tests)
-
 -- ---- the law
 
 -- if the token is in one place, at most one site has it
 pub one_holder : (s : Settings) (w : World) → IsInOnePlace w → OneToken s w
-one_holder s w p i t at held j u at' held' = by p.place
-  where
-    by : ((k : ℕ) × (u : ModelSite) × IsHeldAt w k u) ⊎ ((m : TokenMessage) × IsOnItsWay w m) → i ≡ j
-    by (inl (k, v, o)) = elim (same_number k i) [
-      | inl e ↦ elim (same_number k j) [
-        | inl q ↦ e ∙ sym q
-        | inr ne ↦ absurd (true≢false' u.token.held held' (o.alone j u at' ne))
-      ]
-      | inr ne ↦ absurd (true≢false' t.token.held held (o.alone i t at ne))
-    ]
-    by (inr (m, on)) = absurd (true≢false' t.token.held held (on.unheld i t at))
+one_holder s w p i t at held j u at' held' = elim (same_number i j) [
+  | inl e ↦ sym e
+  | inr ne ↦ absurd (Members.true≢false (sym held' ∙ (held_here w i t p at held).alone j u at' ne))
+]
