@@ -1,15 +1,13 @@
 -- The code's step is the model's.
 use Rattle.std.proofs.Common.{◌≡◌, ℕ, ◌+◌, ◌<◌, All, length, take, get_or, Bool, true, false, cond, not, ◌&&◌, List, [], ◌∷◌, ◌++◌, refl}
-use Rattle.std.proofs.Common.{◌≤◌, Bor, IfSome, OnErr, OnOk, arith, ap, is_err, sym, subst, ◌∙◌}
+use Rattle.std.proofs.Common.{OnErr, ap, sym, subst, ◌∙◌}
 use Rattle.std.proofs.Common.{Option, Some, None, Result, Ok, Err}
 use Rattle.std.specs.declared.alloc.AllocError.{AllocError}
 use Rattle.std.specs.Prelude.{map, option_map, slice_get, slice_set, is_some}
 use Rattle.std.proofs.lemmas.List.Elements.{All-cons, All-nil, All-set}
 use Rattle.std.proofs.lemmas.List.{length-map, map-set, take_more}
-use Rattle.std.proofs.lemmas.Option.{slice_get-map, slice_get_past, slice_get_read}
-use Rattle.std.specs.Slice.{IsGetResult}
+use Rattle.std.proofs.lemmas.Option.{slice_get-map, slice_get_read}
 use Rattle.rb_money.specs.Settings.{Settings}
-use Rattle.rb_money.specs.declared.limits.TheConstants.{MOST_SITES}
 use Rattle.rb_money.specs.declared.refusal.Refusal.TheVariants.{HistoryFull}
 use Rattle.rb_site.specs.declared.event.Event.{Event}
 use Rattle.rb_site.specs.declared.event.Event.TheVariants.{Receive}
@@ -25,7 +23,7 @@ use Rattle.rb_site.specs.Worlds.{AreOwn, IsCommand, World, arrival, first_world,
 use Rattle.rb_site.specs.Worlds.{reply_in, world_after, world_at}
 use Rattle.rb_site.proofs.Public.Runs
 use Rattle.rb_site.proofs.Public.Seen
-use Rattle.rb_world.specs.Laws.{IsRunOf, SeenWorld, next_replies, next_reply, next_world, next_worlds, opened}
+use Rattle.rb_world.specs.Laws.{IsRunOf, SeenWorld, next_replies, next_reply, next_world, next_worlds}
 
 -- ---- an event and the site that it is for
 
@@ -163,15 +161,6 @@ next_run w ev run command = by (is_recorded w.settings w.world ev) refl
       is = Runs.unrecorded w.settings w.world ev q ∙ run.is;
     }
 
--- before any event the world is the run of no events
-pub first_run : (s : Settings) (sites : ℕ) → sites ≡ s.sites → 2 ≤ sites → sites ≤ MOST_SITES → IsRunOf (opened s)
-first_run s sites same some few = record {
-  some_sites = subst (λ n. 2 ≤ n) same some;
-  few_sites = subst (λ n. n ≤ MOST_SITES) same few;
-  own = tt;
-  is = refl;
-}
-
 -- every site keeps the configuration
 abbrev pub AreOf : Settings → List SeenSite → Type 0
 AreOf s xs = All (λ (y : SeenSite). y.settings ≡ s) xs
@@ -197,37 +186,6 @@ site_at s xs i x below all same = (
   slice_get_read xs (length xs) i x refl below same,
   ap (λ (y : SeenSite). y.settings) same ∙ all i x below,
 )
-
--- ---- a site that is read
-
--- what `get` gives of the sites is the state of the site of that number, if there is one
-pub got : (xs : List SeenSite) (i : ℕ) (r : Option (Bor SeenSite)) → IsGetResult xs i i r
-    → option_map (λ (b : Bor SeenSite). state_of b.now) r ≡ slice_get (map state_of xs) i
-got xs i None looked = sym (slice_get-map state_of xs i ∙ ap (option_map state_of) (slice_get_past xs i looked.3))
-got xs i (Some b) looked =
-    sym (slice_get-map state_of xs i ∙ ap (option_map state_of) (slice_get_read xs (length xs) i b.now refl looked.3.0 looked.1))
-
--- if every site has the configuration, what `get` gives of them has it
-pub got_settings : (s t : Settings) (xs : List SeenSite) (i : ℕ) (r : Option (Bor SeenSite)) → IsGetResult xs i i r → AreOf s xs → s ≡ t
-    → IfSome r (λ (b : Bor SeenSite). b.now.settings ≡ t)
-got_settings s t xs i None looked all same = tt
-got_settings s t xs i (Some b) looked all same = ap (λ (x : SeenSite). x.settings) looked.1 ∙ all i b.now looked.3.0 ∙ same
-
--- ---- memory for a list
-
--- if memory for many was taken behind an empty list, it has capacity for them
-pub reserved : {A : Type 0} (r : Result A AllocError) (len more many room : ℕ) → is_err r ≡ false → OnOk r (len + more ≤ room)
-    → len ≡ 0 → more ≡ many → many ≤ room
-reserved (Ok a) len more many room e h none same = omega arith
-reserved (Err why) len more many room e h none same = cc
-
--- as many as memory was taken for have capacity
-pub few_enough : (len more many count room : ℕ) → len + more ≤ room → count ≡ many → more ≡ many → count ≤ room
-few_enough len more many count room h a b = omega arith
-
--- behind fewer than there is capacity for, one more fits
-pub fits_behind : (n k many room : ℕ) → n ≡ k → k < many → many ≤ room → n < room
-fits_behind n k many room same below enough = omega arith
 
 -- ---- a run so far
 

@@ -3,7 +3,6 @@ use Rattle.std.proofs.Common.{◌≡◌, ◌∙◌, ◌+◌, ◌≤◌, List, []
 use Rattle.rb_site.specs.declared.report.SiteReport.{SiteReport}
 use Rattle.rb_money.specs.declared.limits.TheConstants.{MOST_SITES}
 use Rattle.rb_world.specs.Laws.{IsRunOf, SeenWorld}
-use Rattle.rb_world.specs.Reports.{AreReportsOf}
 use Rattle.rb_world.proofs.Closing.{IsClosing, as_many, closing-first, closing-next, closing-whole}
 use Rattle.rb_world.proofs.Public.{few_sites}
 use Rattle.rb_world.proofs.Stepping.{AreOf}
@@ -39,15 +38,6 @@ sites-preserved g c =
           c.in-Some.site c.close.result c.in-Some.ensures.items c.sites.invariant.0 c.close.ensures)),
       omega arith,
     )
-
-pub returns-clause-reports : goal.returns-clause-reports
-returns-clause-reports g c =
-    let none : vec_len c.sites.sites ≡ 0 = c.in_default.ensures.cases.0 in
-    let P : List SiteReport → Type 0 = λ rs. AreReportsOf g.E.KeepsEntry.KEEPS c.args.self.settings c.args.self.world.sites rs in
-    subst P (sym c.reverse.ensures.items)
-    (closing-whole g.E.KeepsEntry.KEEPS c.args.self.settings c.args.self.world.sites c.sites.reports.items
-    c.sites.sites.items (sym c.sites.sites.ok.0
-    ∙ none) c.sites.invariant.0)
 
 pub returns-clause-few : goal.returns-clause-few
 returns-clause-few g c =
