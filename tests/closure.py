@@ -3,7 +3,7 @@
 toolchain's own are left. A statement is a function with a contract, as World::run, or a definition.
 
 usage: closure.py                  the headline's: the clauses of the first table of docs/PROVED.md
-       closure.py STATEMENT..      that of others, as Ledger::apply, rb_site::Site::open, run_script, Funds
+       closure.py STATEMENT..      that of others, by all clauses: Ledger::apply, rb_site::Site::open, run_script, Funds
        closure.py --all            every definition with the comment above it, in four parts: those of the headline, of
                                    the program's text, of other public contracts, and of inner contracts
        closure.py --write          writes docs/MODEL.md: the definitions of the headline, each with the comment above it
@@ -18,9 +18,9 @@ usage: closure.py                  the headline's: the clauses of the first tabl
                                    nothing of the search for one; this is silent if all is well
 
 The tables of promises are that of docs/PROVED.md and, in each crate's README.md, the one whose first column is "What is
-proved": its functions are the crate's own. A row names clauses of its functions, and rests on what these name, and the
-functions' signatures and `requires`; it rests on all clauses of a function of which it names none. An item that begins
-with 'Conditions:' lists the functions that have one.
+proved": its functions are the crate's own. A row rests on the clauses that it names, or on all of a function of which
+it names none, with the functions' signatures and `requires`. An item that begins with 'Conditions:' lists the functions
+that have one.
 
 Words are resolved by the 'use' lines of their file. A type of the code is resolved to the types of its fields, and one
 that clients see as a value of a model to that value.

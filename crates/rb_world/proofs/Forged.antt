@@ -1,66 +1,47 @@
 -- A site's replies and its state but for the history don't hang on refused messages.
 use Rattle.std.proofs.Common.{◌≡◌, ℕ, ◌+◌, ◌≤◌, Bool, true, false, cond, not, ◌&&◌, List, [], ◌∷◌, ◌++◌, length, refl, ap, sym, ◌∙◌, arith}
-use Rattle.std.proofs.Common.{subst, Option, Some, None, length-append}
+use Rattle.std.proofs.Common.{subst, length-append}
 use Rattle.std.specs.Prelude.{nat_le, ◌==◌}
-use Rattle.rb_money.specs.Refusals.{unless}
 use Rattle.rb_money.specs.Settings.{Settings}
-use Rattle.rb_money.specs.declared.refusal.Refusal.{Refusal}
-use Rattle.rb_money.specs.declared.refusal.Refusal.TheVariants.{BadMessage, Conflict, InboxFull}
-use Rattle.rb_shadow.specs.declared.shadow.Shadow.{Shadow}
-use Rattle.rb_shadow.specs.Operations.{find_in, is_eligible, same_shadow}
+use Rattle.rb_money.specs.declared.refusal.Refusal.TheVariants.{BadMessage, InboxFull}
+use Rattle.rb_shadow.specs.Operations.{find_in, is_eligible}
 use Rattle.rb_shadow.specs.Sound.{fault_of}
 use Rattle.rb_token.specs.Token.{refusal_of_token}
 use Rattle.rb_site.specs.declared.message.Message.TheVariants.{Shadow as ShadowMessage, Token as TokenOnItsWay}
 use Rattle.rb_site.specs.declared.event.Event.{Event}
 use Rattle.rb_site.specs.declared.event.Event.TheVariants.{Receive}
 use Rattle.rb_site.specs.declared.reply.Reply.{Reply}
-use Rattle.rb_site.specs.declared.reply.Reply.TheVariants.{Already, Stale}
+use Rattle.rb_site.specs.declared.reply.Reply.TheVariants.{Stale}
 use Rattle.rb_site.proofs.Public.Outcomes.{same_outcome, with_history, changed-with_history}
-use Rattle.rb_site.specs.Events.{Answers, Holds, ModelSite, Outcome, Refuses, Takes, after_event, after_events, changed, first_site}
-use Rattle.rb_site.specs.Events.{is_full, outcome_of, replies_to_events, reply_of, reply_to, unless_known}
+use Rattle.rb_site.specs.Events.{Answers, Holds, ModelSite, Outcome, Takes, after_event, after_events, changed, first_site}
+use Rattle.rb_site.specs.Events.{is_full, outcome_of, replies_to_events, reply_of, reply_to}
 use Rattle.rb_world.specs.Laws.{AreAlike, is_receive, is_refused, is_refused_receive, other_replies, without_refused}
 use Rattle.rb_world.proofs.CaughtUp
 use Rattle.rb_world.proofs.Ready
+use Rattle.rb_world.proofs.Steps.{past_known, past_refusal, past_test}
 
 -- ---- a refused Receive changes nothing
 
 abbrev Lets : Outcome → Type 0
 Lets o = (s : Settings) (t : ModelSite) → is_refused (reply_of s t.ops o) ≡ true → changed t o ≡ t
 
-lets_if : (b : Bool) (why : Refusal) (next : Outcome) → Lets next → Lets (cond b (Refuses why) next)
-lets_if true why next h s t e = refl
-lets_if false why next h s t e = h s t e
-
-lets_known : (v : Shadow) (o : Option Shadow) (next : Outcome) → Lets next → Lets (unless_known v o next)
-lets_known v None next h s t e = h s t e
-lets_known v (Some u) next h s t e = by (same_shadow u v) e
-  where
-    by : (b : Bool) → is_refused (reply_of s t.ops (cond b (Answers (Already v.name)) (Refuses Conflict))) ≡ true →
-        changed t (cond b (Answers (Already v.name)) (Refuses Conflict)) ≡ t
-    by true k = refl
-    by false k = refl
-
-lets_refusal : {E : Type 0} (refused : E → Refusal) (o : Option E) (next : Outcome) → Lets next →
-    Lets (unless (λ why. Refuses (refused why)) o next)
-lets_refusal refused None next h s t e = h s t e
-lets_refusal refused (Some why) next h s t e = refl
-
 refused_changes_nothing : (s : Settings) (t : ModelSite) (e : Event) → is_receive e ≡ true →
     is_refused (reply_of s t.ops (outcome_of s t e)) ≡ true → changed t (outcome_of s t e) ≡ t
 unfolding outcome_of
 refused_changes_nothing s t (Receive (ShadowMessage v)) h k =
-    lets_refusal BadMessage (fault_of s v) (unless_known v (find_in t.ops v.name) held) (lets_known v (find_in t.ops v.name) held
-    (lets_if (v.home == t.me) Conflict (unless_known v (find_in t.held v.name) room) (lets_known v (find_in t.held v.name) room
-    (lets_if (nat_le s.limits.inbox (length t.held) && not (is_eligible t.ops v)) InboxFull (Holds v) (λ z u q. cc))))) s t k
-  where
-    room : Outcome
-    room = cond (nat_le s.limits.inbox (length t.held) && not (is_eligible t.ops v)) (Refuses InboxFull) (Holds v)
-
-    held : Outcome
-    held = cond (v.home == t.me) (Refuses Conflict) (unless_known v (find_in t.held v.name) room)
+    let lets : Lets (outcome_of s t (Receive (ShadowMessage v))) =
+    past_refusal Lets BadMessage (fault_of s v) _ (λ why z u q. refl) (λ a.
+    past_known Lets v (find_in t.ops v.name) _ (λ z u q. refl) (λ z u q. refl) (λ b.
+    past_test Lets (v.home == t.me) _ _ (λ z u q. refl) (λ c.
+    past_known Lets v (find_in t.held v.name) _ (λ z u q. refl) (λ z u q. refl) (λ d.
+    past_test Lets (nat_le s.limits.inbox (length t.held) && not (is_eligible t.ops v)) InboxFull (Holds v) (λ z u q. refl)
+    (λ e z u q. cc))))) in
+    lets s t k
 refused_changes_nothing s t (Receive (TokenOnItsWay m)) h k =
-    lets_refusal (λ why. why) (refusal_of_token s.limits t.me m) (cond (nat_le m.epoch t.token.epoch) (Answers (Stale m.epoch)) (Takes m))
-    (last (nat_le m.epoch t.token.epoch)) s t k
+    let lets : Lets (outcome_of s t (Receive (TokenOnItsWay m))) =
+    past_refusal Lets (λ why. why) (refusal_of_token s.limits t.me m) _ (λ why z u q. refl) (λ a.
+    last (nat_le m.epoch t.token.epoch)) in
+    lets s t k
   where
     last : (b : Bool) → Lets (cond b (Answers (Stale m.epoch)) (Takes m))
     last true z u q = refl

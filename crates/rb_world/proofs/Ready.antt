@@ -120,8 +120,8 @@ site_receives s w i t v g at made = subst (IsTrusting s t v) (sym (ap (λ o. unl
 
     away : find_in t.ops v.name ≡ None → (v.home == t.me) ≡ false
     away e = elim (Members.bool_cases (v.home == t.me)) [
-      | inl k ↦ absurd (Members.true≢false (sym (Members.named t.ops v (here.own v made (Tests.number_sound v.home t.me k ∙ g.place.numbered i t at)))
-          ∙ Lookups.unnamed t.ops v.name e))
+      | inl k ↦ absurd (Members.true≢false (sym (Members.named t.ops v
+          (here.own v made (Tests.number_sound v.home t.me k ∙ g.place.numbered i t at))) ∙ Lookups.unnamed t.ops v.name e))
       | inr k ↦ k
     ]
 

@@ -1,8 +1,9 @@
 -- A crash below what was reported can show.
-use Rattle.std.proofs.Common.{◌≡◌, ℕ, zero, suc, ◌+◌, ◌≤◌, false, cond, ◌||◌, List, [], ◌∷◌, ◌++◌, refl, ap, sym, subst, ◌∙◌, arith}
-use Rattle.std.proofs.Common.{◌⊎◌, inl, inr, Some, None}
+use Rattle.std.proofs.Common.{◌≡◌, ℕ, zero, suc, ◌+◌, ◌<◌, ◌≤◌, false, cond, ◌||◌, List, [], ◌∷◌, ◌++◌, refl, ap, sym, subst, ◌∙◌, arith}
+use Rattle.std.proofs.Common.{◌⊎◌, inl, inr, length, Some, None}
 use Rattle.std.specs.Prelude.{map, nat_le, nat_lt, slice_get, slice_set}
 use Rattle.std.proofs.lemmas.Bool.Decides.{nat_tests}
+use Rattle.std.proofs.lemmas.Option.{slice_get_within}
 use Rattle.rb_money.specs.Refusals.{unless}
 use Rattle.rb_money.specs.Settings.{Settings}
 use Rattle.rb_money.specs.declared.refusal.Refusal.TheVariants.{NoSite, NumbersExhausted}
@@ -35,28 +36,17 @@ history_at s i (suc k) (x ∷ w) d at =
     history_at s (i + 1) k w d at
     ∙ ap (λ j. Some (with_replies s (first_site j) d.events)) (let q : (i + 1) + k ≡ i + suc k = omega arith in q)
 
--- the site of a history
-record IsHistoryOf (s : Settings) (i k : ℕ) (w : List DiskSite) (h : List Entry) : Type 0 where
-  site : DiskSite
-  at : slice_get w k ≡ Some site
-  is : h ≡ with_replies s (first_site (i + k)) site.events
+length-histories : (s : Settings) (i : ℕ) (w : List DiskSite) → length (histories_from s i w) ≡ length w
+length-histories s i [] = refl
+length-histories s i (d ∷ w) = ap suc (length-histories s (i + 1) w)
 
-history_back : (s : Settings) (i k : ℕ) (w : List DiskSite) (h : List Entry) → slice_get (histories_from s i w) k ≡ Some h →
-    IsHistoryOf s i k w h
-history_back s i k [] h at = cc
-history_back s i zero (x ∷ w) h at = record {
-  site = x;
-  at = refl;
-  is = (let e : h ≡ with_replies s (first_site i) x.events = cc in e)
-      ∙ ap (λ j. with_replies s (first_site j) x.events) (let q : i ≡ i + 0 = omega arith in q);
-}
-history_back s i (suc k) (x ∷ w) h at =
-    let o : IsHistoryOf s (i + 1) k w h = history_back s (i + 1) k w h at in
-    record {
-      site = o.site;
-      at = o.at;
-      is = o.is ∙ ap (λ j. with_replies s (first_site j) o.site.events) (let q : (i + 1) + k ≡ i + suc k = omega arith in q);
-    }
+-- the site of a history
+history_back : (s : Settings) (k : ℕ) (w : List DiskSite) (h : List Entry) → slice_get (histories_from s 0 w) k ≡ Some h →
+    (d : DiskSite) × (slice_get w k ≡ Some d) × (h ≡ with_replies s (first_site (0 + k)) d.events)
+history_back s k w h at =
+    let few : k < length (histories_from s 0 w) = slice_get_within (histories_from s 0 w) k h at in
+    let (d, there) = Places.item_at w k (omega (arith, length-histories s 0 w)) in
+    (d, there, Places.same_item (slice_get (histories_from s 0 w) k) h _ at (history_at s 0 k w d there))
 
 -- if sites have nothing but the receipt of one message, which so none of them sent, the histories are no world's
 never_sent : (s : Settings) (w : List DiskSite) (m : Message) (k : ℕ) (b : DiskSite) →
@@ -92,13 +82,13 @@ never_sent s w m k b few at one = Stuck.stuck_final s hs fronts (record {
 
     cut : (i : ℕ) (h : List Entry) → slice_get hs i ≡ Some h → IsCut s fronts i h
     cut i h there =
-        let o : IsHistoryOf s 0 i w h = history_back s 0 i w h there in
+        let (d, at, is) = history_back s i w h there in
         record {
           front = [];
           there = Lists.map_at none hs i h there;
           rest = h;
           goes_on = refl;
-          blocked = subst (IsBlocked s fronts) (sym o.is) (blocked i o.site o.at);
+          blocked = subst (IsBlocked s fronts) (sym is) (blocked i d at);
         }
 
     left : ¬ (slice_get fronts k ≡ Some (with_replies s (first_site (0 + k)) b.events))

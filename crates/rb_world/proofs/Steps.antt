@@ -113,25 +113,25 @@ Comes s ms t (Applies v) = MayApply s t v
 Comes s ms t (Takes m) = MayTake ms t m
 Comes s ms t (Passes m) = MayPass s t m
 
--- a test that refuses leaves what holds if it doesn't
-past_test : (s : Settings) (ms : List Message) (t : ModelSite) (b : Bool) (why : Refusal) (next : Outcome) → (b ≡ false → Comes s ms t next)
-    → Comes s ms t (cond b (Refuses why) next)
-past_test s ms t true why next h = tt
-past_test s ms t false why next h = h refl
+-- what holds of a refusal, and of what comes if a test doesn't refuse, holds behind the test
+pub past_test : (P : Outcome → Type 0) (b : Bool) (why : Refusal) (next : Outcome) → P (Refuses why) → (b ≡ false → P next)
+    → P (cond b (Refuses why) next)
+past_test P true why next r h = r
+past_test P false why next r h = h refl
 
-past_refusal : {E : Type 0} (s : Settings) (ms : List Message) (t : ModelSite) (refused : E → Refusal) (o : Option E) (next : Outcome) →
-    (o ≡ None → Comes s ms t next) → Comes s ms t (unless (λ why. Refuses (refused why)) o next)
-past_refusal s ms t refused (Some why) next h = tt
-past_refusal s ms t refused None next h = h refl
+pub past_refusal : {E : Type 0} (P : Outcome → Type 0) (refused : E → Refusal) (o : Option E) (next : Outcome) →
+    ((why : Refusal) → P (Refuses why)) → (o ≡ None → P next) → P (unless (λ why. Refuses (refused why)) o next)
+past_refusal P refused (Some why) next r h = r (refused why)
+past_refusal P refused None next r h = h refl
 
-past_known : (s : Settings) (ms : List Message) (t : ModelSite) (v : Shadow) (o : Option Shadow) (next : Outcome) →
-    (o ≡ None → Comes s ms t next) → Comes s ms t (unless_known v o next)
-past_known s ms t v None next h = h refl
-past_known s ms t v (Some u) next h = at (same_shadow u v)
+pub past_known : (P : Outcome → Type 0) (v : Shadow) (o : Option Shadow) (next : Outcome) → P (Answers (Already v.name)) →
+    P (Refuses Conflict) → (o ≡ None → P next) → P (unless_known v o next)
+past_known P v None next a r h = h refl
+past_known P v (Some u) next a r h = at (same_shadow u v)
   where
-    at : (b : Bool) → Comes s ms t (cond b (Answers (Already v.name)) (Refuses Conflict))
-    at true = tt
-    at false = tt
+    at : (b : Bool) → P (cond b (Answers (Already v.name)) (Refuses Conflict))
+    at true = a
+    at false = r
 
 past_check : (s : Settings) (ms : List Message) (t : ModelSite) (v : Shadow) (o : Option Refusal) → (o ≡ None → MayApply s t v) →
     Comes s ms t (outcome_of_check v o)
@@ -143,11 +143,11 @@ comes_shadow : (s : Settings) (ms : List Message) (t : ModelSite) (v : Shadow) �
     Comes s ms t (outcome_of s t (Receive (ShadowMessage v)))
 unfolding outcome_of
 comes_shadow s ms t v sent =
-    past_refusal s ms t BadMessage (fault_of s v) _ (λ _.
-    past_known s ms t v (find_in t.ops v.name) _ (λ a.
-    past_test s ms t (v.home == t.me) _ _ (λ b.
-    past_known s ms t v (find_in t.held v.name) _ (λ c.
-    past_test s ms t (nat_le s.limits.inbox (length t.held) && not (is_eligible t.ops v)) InboxFull (Holds v) (λ d.
+    past_refusal (Comes s ms t) BadMessage (fault_of s v) _ (λ why. tt) (λ _.
+    past_known (Comes s ms t) v (find_in t.ops v.name) _ tt tt (λ a.
+    past_test (Comes s ms t) (v.home == t.me) _ _ tt (λ b.
+    past_known (Comes s ms t) v (find_in t.held v.name) _ tt tt (λ c.
+    past_test (Comes s ms t) (nat_le s.limits.inbox (length t.held) && not (is_eligible t.ops v)) InboxFull (Holds v) tt (λ d.
     let r : MayHold ms t v = record {
       sent = sent;
       fresh = Lookups.unnamed t.ops v.name a;
@@ -159,7 +159,7 @@ comes_token : (s : Settings) (ms : List Message) (t : ModelSite) (m : TokenMessa
     Comes s ms t (outcome_of s t (Receive (TokenOnItsWay m)))
 unfolding outcome_of
 comes_token s ms t m sent =
-    past_refusal s ms t (λ why. why) (refusal_of_token s.limits t.me m) _ (λ a.
+    past_refusal (Comes s ms t) (λ why. why) (refusal_of_token s.limits t.me m) _ (λ why. tt) (λ a.
     at (nat_le m.epoch t.token.epoch) refl (not_true (m.to == t.me) (past_first (not (m.to == t.me)) _ _ a).0))
   where
     at : (b : Bool) → nat_le m.epoch t.token.epoch ≡ b → (m.to == t.me) ≡ true → Comes s ms t (cond b (Answers (Stale m.epoch)) (Takes m))
@@ -171,14 +171,14 @@ comes_apply : (s : Settings) (ms : List Message) (t : ModelSite) (o : Option Sha
     (Refuses NotHeld))
 comes_apply s ms t None found = tt
 comes_apply s ms t (Some v) found =
-    past_test s ms t (not (is_eligible t.ops v)) _ _ (λ a.
+    past_test (Comes s ms t) (not (is_eligible t.ops v)) _ _ tt (λ a.
     past_check s ms t v (refusal_of_sound s t.ops v) (λ b.
     record { held = found v refl; eligible = not_true _ a; right = b }))
 
 comes_pass : (s : Settings) (ms : List Message) (t : ModelSite) (to : ℕ) → Comes s ms t (outcome_of s t (Pass to))
 unfolding outcome_of
 comes_pass s ms t to =
-    past_refusal s ms t (λ why. why) (refusal_of_pass s.sites s.limits t.me t.token to) _ (λ e.
+    past_refusal (Comes s ms t) (λ why. why) (refusal_of_pass s.sites s.limits t.me t.token to) _ (λ why. tt) (λ e.
     let a : ((nat_le s.sites to || (to == t.me)) ≡ false) × _ = past_first (nat_le s.sites to || (to == t.me)) _ _ e in
     let b : (nat_lt s.limits.epoch (t.token.epoch + 1) ≡ false) × _ = past_first (nat_lt s.limits.epoch (t.token.epoch + 1)) _ _ a.1 in
     let c : (not t.token.held ≡ false) × _ = past_first (not t.token.held) _ _ b.1 in
@@ -192,30 +192,25 @@ comes_pass s ms t to =
       red = refl;
     })
 
-comes_made : (s : Settings) (ms : List Message) (t : ModelSite) (q : Result Shadow Refusal) →
-    ((v : Shadow) → q ≡ Ok v → IsMadeAt s t.me t.ops t.token v) → Comes s ms t (and_then Refuses q Makes)
-comes_made s ms t (Ok v) h = h v refl
-comes_made s ms t (Err why) h = tt
-
--- what comes of a batch is made one after another
-comes_batch : (s : Settings) (ms : List Message) (t : ModelSite) (q : Result (List Shadow) Refusal) →
-    ((vs : List Shadow) → q ≡ Ok vs → AreMadeAt s t.me t.ops t.token vs) → Comes s ms t (and_then Refuses q MakesAll)
-comes_batch s ms t (Ok vs) h = h vs refl
-comes_batch s ms t (Err why) h = tt
+comes_made : {A : Type 0} (s : Settings) (ms : List Message) (t : ModelSite) (next : A → Outcome) (q : Result A Refusal) →
+    ((a : A) → q ≡ Ok a → Comes s ms t (next a)) → Comes s ms t (and_then Refuses q next)
+comes_made s ms t next (Ok a) h = h a refl
+comes_made s ms t next (Err why) h = tt
 
 -- what is known of each event's outcome
 pub comes : (s : Settings) (ms : List Message) (t : ModelSite) (e : Event) → IsFrom ms e → Comes s ms t (outcome_of s t e)
 unfolding outcome_of
-comes s ms t (Submit r) h = comes_made s ms t _ (λ v k. made_is s t.me t.ops t.token r v k)
-comes s ms t (Batch rs) h = past_test s ms t _ _ _ (λ a. comes_batch s ms t _ (λ vs k. batch_is s t.me t.ops t.token 0 rs vs k))
+comes s ms t (Submit r) h = comes_made s ms t Makes _ (λ v k. made_is s t.me t.ops t.token r v k)
+comes s ms t (Batch rs) h = past_test (Comes s ms t) _ _ _ tt (λ a.
+    comes_made s ms t MakesAll _ (λ vs k. batch_is s t.me t.ops t.token 0 rs vs k))
 comes s ms t (Receive (ShadowMessage v)) h = comes_shadow s ms t v (sent_among (ShadowMessage v) ms h)
 comes s ms t (Receive (TokenOnItsWay m)) h = comes_token s ms t m (sent_among (TokenOnItsWay m) ms h)
 comes s ms t (Apply x) h = comes_apply s ms t (find_in t.held x) (λ v k. (Lookups.found t.held x v k).0)
 comes s ms t (Pass to) h = comes_pass s ms t to
-comes s ms t (Balance a) h = past_test s ms t (not (is_account s a)) _ _ (λ b. tt)
-comes s ms t (AsOf a n) h = past_test s ms t (not (is_account s a)) _ _
-    (λ b. past_test s ms t (nat_lt (length t.ops) n) PositionBeyond (Answers (BalanceIs (cents (bal s (take n t.ops) a)))) (λ c. tt))
-comes s ms t (AskStatement a) h = past_test s ms t (not (is_account s a)) _ _ (λ b. tt)
+comes s ms t (Balance a) h = past_test (Comes s ms t) (not (is_account s a)) _ _ tt (λ b. tt)
+comes s ms t (AsOf a n) h = past_test (Comes s ms t) (not (is_account s a)) _ _ tt (λ b.
+    past_test (Comes s ms t) (nat_lt (length t.ops) n) PositionBeyond (Answers (BalanceIs (cents (bal s (take n t.ops) a)))) tt (λ c. tt))
+comes s ms t (AskStatement a) h = past_test (Comes s ms t) (not (is_account s a)) _ _ tt (λ b. tt)
 
 -- ---- a step of the world
 
