@@ -1,17 +1,16 @@
 -- The refusals that the model gives fit a line.
-use Rattle.rb_history.proofs.Words.{◌≤◌, ◌+◌, ◌^◌, ℕ, Bool, true, false, cond, not, ◌||◌, List, [], ◌∷◌, ◌++◌, length, Option, Some, None}
-use Rattle.rb_history.proofs.Words.{Result, Ok, Err, arith, ◌==◌, ◌&&◌, IfErr, IfSome, is_some, nat_le, nat_lt, and_then, number_of_refusal}
-use Rattle.rb_history.proofs.Words.{unless, IsConfigured, Settings, is_account, is_amount, MOST_CENTS, Limits, Refusal, AlreadyCancelled}
-use Rattle.rb_history.proofs.Words.{BadAmount, BadMessage, BadRate, BatchRefused, Conflict, DeltaTooLarge, NeedToken, NoSite}
-use Rattle.rb_history.proofs.Words.{NotCancellable, NotReady, NotYours, NumbersExhausted, RedBehind, SameAccount, UnknownAccount}
+use Rattle.rb_history.proofs.Words.{◌≤◌, ◌+◌, ◌^◌, ℕ, Bool, true, false, cond, not, List, [], ◌∷◌, ◌++◌, length, Option, Some, None}
+use Rattle.rb_history.proofs.Words.{Result, Ok, Err, arith, ◌&&◌, IfErr, IfSome, is_some, nat_lt, and_then, number_of_refusal}
+use Rattle.rb_history.proofs.Words.{unless, IsConfigured, Settings, Limits, Refusal, AlreadyCancelled}
+use Rattle.rb_history.proofs.Words.{BadMessage, BatchRefused, Conflict, NeedToken}
+use Rattle.rb_history.proofs.Words.{NotCancellable, NotReady, NumbersExhausted, RedBehind, UnknownAccount}
 use Rattle.rb_history.proofs.Words.{UnknownOperation, WouldOverdraw, colour_in, find_in, is_cancelled, is_eligible, is_red}
-use Rattle.rb_history.proofs.Words.{may_be_cancelled, names, red_count, same_colour, same_shadow, shown_colour, target_of, bal, entry_of}
-use Rattle.rb_history.proofs.Words.{number_of, receiver_of, cancels_unseen, fault_of, is_clock, is_foreign, is_miscoloured, is_misdirected}
-use Rattle.rb_history.proofs.Words.{limit_of, may_be_nothing, CancelKind, Shadow, has_wrong_target, overdraws, refusal_of_sound, IsValid}
-use Rattle.rb_history.proofs.Words.{first_cancel_from, batch_of, cause_of, made_in_batch, Plan, allowed, allowed_red, interest_on, made_of}
+use Rattle.rb_history.proofs.Words.{may_be_cancelled, names, red_count, same_colour, same_shadow, shown_colour, target_of}
+use Rattle.rb_history.proofs.Words.{fault_of, rules}
+use Rattle.rb_history.proofs.Words.{CancelKind, Shadow, has_wrong_target, overdraws, refusal_of_sound, IsValid}
+use Rattle.rb_history.proofs.Words.{first_cancel_from, batch_of, cause_of, made_in_batch, Plan, allowed, allowed_red, made_of}
 use Rattle.rb_history.proofs.Words.{operation_of, plan_of, Request, Deposit, Withdraw, Interest, Cancel, Transfer, Token, refusal_of_pass}
 use Rattle.rb_history.proofs.Words.{refusal_of_red, refusal_of_token, TokenMessage, IsCause, IsRefusal}
-use Rattle.rb_money.specs.declared.rate.TheConstants.{MOST_RATE}
 use Rattle.rb_scratch.specs.declared.run_fault.RunFault.{RunFault}
 use Rattle.rb_scratch.specs.declared.run_fault.RunFault.TheVariants.{Declined as DeclinedFault, Refused as RefusedFault}
 use Rattle.rb_history.proofs.FitsLaws.{IsByte, IsWord}
@@ -37,13 +36,9 @@ some_if P false why next h k = k
 
 plan_fits : (s : Settings) → IsConfigured s → (us : List Shadow) (r : Request) → IsValid s us → IfErr (plan_of s us r) IsRefusal
 unfolding plan_of
-plan_fits s c us (Deposit a n) valid =
-    err_if (not (is_account s a)) UnknownAccount _ tt (err_if (not (is_amount n)) BadAmount (Ok _) tt tt)
-plan_fits s c us (Withdraw a n) valid =
-    err_if (not (is_account s a)) UnknownAccount _ tt (err_if (not (is_amount n)) BadAmount (Ok _) tt tt)
-plan_fits s c us (Interest a rate) valid =
-    err_if (not (is_account s a)) UnknownAccount _ tt (err_if (nat_lt MOST_RATE rate) BadRate _ tt
-    (err_if (nat_lt MOST_CENTS (interest_on (bal s us) a rate)) DeltaTooLarge (Ok _) tt tt))
+plan_fits s c us (Deposit a n) valid = search (err_if, rules)
+plan_fits s c us (Withdraw a n) valid = search (err_if, rules)
+plan_fits s c us (Interest a rate) valid = search (err_if, rules)
 plan_fits s c us (Cancel x) valid = by (find_in us x)
   where
     made : Shadow → Result Plan Refusal
@@ -55,9 +50,7 @@ plan_fits s c us (Cancel x) valid = by (find_in us x)
     by None = tt
     by (Some t) = err_if (not (may_be_cancelled t.kind)) NotCancellable _ tt
         (err_if (is_cancelled us x) (AlreadyCancelled (first_cancel_from 1 us x)) (Ok _) (cancel_fits s c us x valid) tt)
-plan_fits s c us (Transfer a b n) valid =
-    err_if (not (is_account s a)) UnknownAccount _ tt (err_if (not (is_account s b)) UnknownAccount _ tt
-    (err_if (not (is_amount n)) BadAmount _ tt (err_if (a.0 == b.0) SameAccount (Ok _) tt tt)))
+plan_fits s c us (Transfer a b n) valid = search (err_if, rules)
 
 red_fits : (t : Token) (reds : ℕ) (next : Result Shadow Refusal) → IsWord reds → IsWord t.needed → IfErr next IsRefusal
     → IfErr (unless Err (refusal_of_red t reds) next) IsRefusal
@@ -116,16 +109,7 @@ batch_fits s me us t index (r ∷ rs) few =
 -- what is wrong with a shadow by itself
 pub fault_fits : (s : Settings) (v : Shadow) → IfSome (fault_of s v) IsByte
 unfolding fault_of
-fault_fits s v =
-    some_if IsByte (nat_le s.sites v.home || is_foreign v.name v.home) 1 _ (omega arith)
-    (some_if IsByte (number_of v.name == 0 || nat_lt (limit_of s.limits v.name) (number_of v.name)) 2 _ (omega arith)
-    (some_if IsByte (nat_le (length s.starts) v.account.0 || is_misdirected (length s.starts) v.account (receiver_of v.kind)) 3 _ (omega
-    arith)
-    (some_if IsByte (nat_lt MOST_CENTS v.amount || (v.amount == 0 && not (may_be_nothing v.kind))) 4 _ (omega arith)
-    (some_if IsByte (is_miscoloured v.kind v.name) 5 _ (omega arith) (some_if IsByte (cancels_unseen s.sites v.kind v.deps) 6 _ (omega
-    arith)
-    (some_if IsByte (not (is_clock s.sites s.limits v.deps) || not (entry_of v.deps v.name + 1 == number_of v.name)) 7 None (omega arith)
-    tt))))))
+fault_fits s v = search (some_if, rules)
 
 -- why a held operation isn't applied
 pub check_fits : (s : Settings) (us : List Shadow) (v : Shadow) → IfSome (refusal_of_sound s us v) IsRefusal
@@ -143,12 +127,8 @@ check_fits s us v =
 
 -- why a token's message is refused
 pub token_fits : (limits : Limits) (me : ℕ) (m : TokenMessage) → IfSome (refusal_of_token limits me m) IsRefusal
-token_fits limits me m =
-    some_if IsRefusal (not (m.to == me)) NotYours _ tt
-    (some_if IsRefusal (nat_lt limits.epoch m.epoch || nat_lt limits.red m.red) (BadMessage 2) None (omega arith) tt)
+token_fits limits me m = search (some_if, rules)
 
 -- why the token isn't passed
 pub pass_fits : (sites : ℕ) (limits : Limits) (me : ℕ) (t : Token) (to : ℕ) → IfSome (refusal_of_pass sites limits me t to) IsRefusal
-pass_fits sites limits me t to =
-    some_if IsRefusal (nat_le sites to || (to == me)) NoSite _ tt
-    (some_if IsRefusal (nat_lt limits.epoch (t.epoch + 1)) NumbersExhausted _ tt (some_if IsRefusal (not t.held) NeedToken None tt tt))
+pass_fits sites limits me t to = search (some_if, rules)

@@ -1,8 +1,7 @@
 -- Each command that is read from a line is an event of a site's own that fits, or a delivery.
-use Rattle.rb_history.proofs.Words.{◌^◌, codes, Option, Some, None, ◌==◌, IfSome, is_utf8, Data, get, read, Settings, Submit, Batch, Apply}
-use Rattle.rb_history.proofs.Words.{Pass, Balance, AsOf, Statement, At, Deliver, IsOwn, command_at, command_for, command_of, event_of}
-use Rattle.rb_history.proofs.Words.{teller_event_of, IsEvent, place_at, request_of, requests_at, IsFittingCommand, ReadCommandsFit, name_at}
-use Rattle.rb_history.proofs.Words.{number_below, size_of}
+use Rattle.rb_history.proofs.Words.{◌^◌, codes, Option, Some, None, ◌==◌, IfSome, is_utf8, Data, get, read, Settings}
+use Rattle.rb_history.proofs.Words.{At, Deliver, IsOwn, command_at, command_for, command_of, event_of, teller_event_of}
+use Rattle.rb_history.proofs.Words.{IsEvent, IsFittingCommand, ReadCommandsFit, number_below, size_of, rules}
 use Rattle.rb_history.specs.OnLines.{command_on}
 use Rattle.rb_history.proofs.EventsFit.{command as event_fits}
 use Rattle.rb_history.proofs.FitsLaws.{fits_either, fits_if, fits_made, fits_map, fits_next, fits_some}
@@ -11,17 +10,10 @@ use Rattle.rb_history.proofs.PartsFit.{asked}
 -- ---- no command's event is the receipt of a message
 
 call_own : (s : Settings) (d : Data) → IfSome (teller_event_of s d) IsOwn
-call_own s d =
-    fits_either IsOwn (get (codes "balance") d) _ _ (λ v. fits_made IsOwn Balance (place_at s v) (λ a. tt))
-    (fits_either IsOwn (get (codes "asof") d) _ _ (λ v. asked IsOwn s (2 ^ 32) AsOf v (λ a n there small. tt))
-    (fits_either IsOwn (get (codes "statement") d) _ _ (λ v. fits_made IsOwn Statement (place_at s v) (λ a. tt))
-    (fits_made IsOwn Submit (request_of s d) (λ r. tt))))
+call_own s d = search (fits_either, fits_made, asked, rules)
 
 event_own : (s : Settings) (d : Data) → IfSome (event_of s d) IsOwn
-event_own s d =
-    fits_either IsOwn (get (codes "batch") d) _ _ (λ v. fits_made IsOwn Batch (requests_at s v) (λ rs. tt))
-    (fits_either IsOwn (get (codes "apply") d) _ _ (λ v. fits_made IsOwn Apply (name_at v) (λ x. tt))
-    (fits_either IsOwn (get (codes "pass") d) _ _ (λ v. fits_made IsOwn Pass (number_below (2 ^ 8) v) (λ n. tt)) (call_own s d)))
+event_own s d = search (fits_either, fits_made, call_own, rules)
 
 -- ---- commands
 

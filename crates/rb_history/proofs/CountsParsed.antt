@@ -60,9 +60,9 @@ pub fit_more : (P : ℕ → Type 0) (counts : List ℕ) (least site n : ℕ) →
     → drop least counts ≡ replicate (MOST_SITES - least) 0 → P 0 → P n → Each P (take least counts)
     → Each P (take (site + 1) (set counts site n))
 fit_more P counts least site n long low near none o p h =
-    subst (Each P) (sym (one_further counts least site n long low near none))
-    (each_more P (take least counts ++ replicate (site - least) 0) n
-    (each_both P (take least counts) (replicate (site - least) 0) h (each_replicate P (site - least) 0 o)) p)
+    each_more P (take least counts ++ replicate (site - least) 0) n _
+    (one_further counts least site n long low near none)
+    (each_both P (take least counts) (replicate (site - least) 0) h (each_replicate P (site - least) 0 o)) p
 
 -- what holds of 0 and of the counts so far holds of all, if all others are 0
 pub fit_all : (P : ℕ → Type 0) (counts : List ℕ) (least : ℕ) → drop least counts ≡ replicate (MOST_SITES - least) 0 → P 0

@@ -10,9 +10,9 @@ BeginsWith written text left comma xs = (later : List Data) (rest : List ℕ) �
 
 -- one item more is read
 pub one_more : {A : Type 0} (written : A → Data) (text left comma behind next : List ℕ) (xs : List A) (x : A)
-    → BeginsWith written text left comma xs → left ≡ comma ++ behind → behind ≡ compact_text (written x) ++ next
-    → BeginsWith written text next (codes ",") (xs ++ x ∷ [])
-one_more written text left comma behind next xs x so e f later rest g =
+    (new : List A) → new ≡ xs ++ x ∷ [] → BeginsWith written text left comma xs → left ≡ comma ++ behind
+    → behind ≡ compact_text (written x) ++ next → BeginsWith written text next (codes ",") new
+one_more written text left comma behind next xs x new is so e f later rest g =
     let this = compact_text (written x) in
     let more = rest_text (codes ",") later in
     let here : left ≡ rest_text comma (written x ∷ later) ++ rest = e
@@ -20,7 +20,8 @@ one_more written text left comma behind next xs x so e f later rest g =
     ∙ sym (append_assoc comma (this ++ more) rest) in
     so (written x ∷ later) rest here
     ∙ ap (λ l. rest_text [] l ++ rest)
-    (sym (append_assoc (map written xs) (written x ∷ []) later) ∙ ap (λ l. l ++ later) (sym (map-append written xs (x ∷ []))))
+    (sym (append_assoc (map written xs) (written x ∷ []) later)
+    ∙ ap (λ l. l ++ later) (sym (map-append written xs (x ∷ [])) ∙ ap (map written) (sym is)))
 
 -- all items are read if the list's end comes
 pub all_read : {A : Type 0} (written : A → Data) (text left comma rest : List ℕ) (xs : List A) → BeginsWith written text left comma xs
@@ -31,6 +32,7 @@ all_read written text left comma rest xs so e =
     ∙ sym (append_assoc items (codes "]") rest) ∙ ap (λ l. l ++ rest) (whole_text (map written xs))
 
 -- what holds of each item and of one more holds of each of the longer list
-pub each_more : {A : Type 0} (P : A → Type 0) (xs : List A) (x : A) → Each P xs → P x → Each P (xs ++ x ∷ [])
-each_more P [] x h p = (p, tt)
-each_more P (y ∷ xs) x h p = (h.0, each_more P xs x h.1 p)
+pub each_more : {A : Type 0} (P : A → Type 0) (xs : List A) (x : A) (new : List A) → new ≡ xs ++ x ∷ [] → Each P xs
+    → P x → Each P new
+each_more P [] x new is h p = rw is (p, tt)
+each_more P (y ∷ xs) x new is h p = rw is (h.0, each_more P xs x (xs ++ x ∷ []) refl h.1 p)

@@ -1,8 +1,8 @@
 -- The one member of an object, in its object, and beside a command's site.
-use Rattle.rb_history.proofs.Words.{◌≡◌, ◌<◌, ◌^◌, ℕ, List, ◌++◌, Option, None, Some, codes, decimal, refl, sym, ap, subst, ◌∙◌}
+use Rattle.rb_history.proofs.Words.{◌≡◌, ◌<◌, ◌^◌, ℕ, List, ◌++◌, Option, None, Some, codes, decimal, refl, ap, subst}
 use Rattle.rb_history.proofs.Words.{append_assoc, arith, option_and_then, option_map, escape_byte, Data, object, put, no_members, of_json}
 use Rattle.rb_history.proofs.Words.{compact_text, outline, IsConfigured, Settings, is_below, Deposit, IsOwn, Event, Submit, Receive, At}
-use Rattle.rb_history.proofs.Words.{Deliver, BeginsWithMember, BeginsWithOwn, behind_quote, command_at, command_for, event_json, event_at}
+use Rattle.rb_history.proofs.Words.{Deliver, BeginsWithMember, BeginsWithOwn, command_at, command_for, event_json, event_at}
 use Rattle.rb_history.proofs.Words.{EndsLine, behind_site, number_json, one_json}
 use Rattle.rb_history.proofs.EntryBack.{event_back}
 use Rattle.rb_history.proofs.EntryText.{IsText, event_text, number_text}
@@ -11,13 +11,7 @@ use Rattle.rb_history.proofs.UsualLines.{Spells, any_line}
 -- a member between the brackets of its object is the object
 pub in_object : (d : Data) (text inside behind rest : List ℕ) → text ≡ codes "{\"" ++ inside → BeginsWithMember d inside behind
     → behind ≡ codes "}" ++ rest → text ≡ compact_text d ++ rest
-in_object d text inside behind rest e m f =
-    let key = behind_quote m.key in
-    let value = compact_text m.value in
-    let whole : codes "{\"" ++ (key ++ (codes ":" ++ (value ++ (codes "}" ++ rest))))
-    ≡ (codes "{\"" ++ (key ++ (codes ":" ++ (value ++ codes "}")))) ++ rest = simp append_assoc in
-    e ∙ ap (λ l. codes "{\"" ++ l) (m.written ∙ ap (λ l. key ++ (codes ":" ++ (value ++ l))) f) ∙ whole
-    ∙ ap (λ o. compact_text o ++ rest) (sym m.object)
+in_object d text inside behind rest e m f = rw (e, m.written, f, m.object) (simp append_assoc)
 
 -- if an object of one member is read from its own text, so is the member's value
 value_read : (key : List ℕ) (value : Data) (o : Option Data)

@@ -1,6 +1,7 @@
 -- The value that is read is the one that was written.
-use Rattle.rb_history.proofs.Words.{ℕ, List, ◌++◌, Option, ◌≡◌, [], ◌∷◌, Some, None, IfSome, refl, sym, ap, ◌∙◌, ◌≤◌, append-nil}
-use Rattle.rb_history.proofs.Words.{append_assoc, option_map, option_and_then, Data, IsName, candidate, name_of, name_text, OpName, tokens}
+use Rattle.rb_history.proofs.Words.{ℕ, suc, List, length, drop, get_or, ◌+◌, ◌<◌, ◌++◌, Option, ◌≡◌, [], ◌∷◌, Some}
+use Rattle.rb_history.proofs.Words.{None, IfSome, refl, sym, ap, ◌∙◌, ◌≤◌, add-one, append-nil, drop-cons, option_map}
+use Rattle.rb_history.proofs.Words.{option_and_then, Data, IsName, candidate, name_of, name_text, OpName, tokens}
 use Rattle.rb_history.proofs.Words.{json_tokens, HasNumbers, read, of_json, max_depth, compact_text, outline}
 use Rattle.rb_shadow.proofs.Public.NameOf.{value_is, candidate_is}
 use Rattle.json.specs.Json as json
@@ -14,24 +15,14 @@ abbrev pub with_front : {A : Type 0} → List A → Option (List A) → Option (
 with_front front o = option_map (λ later. front ++ later) o
 
 -- if nothing is read so far, all is still to be read
-pub nothing_read : {A : Type 0} (left : Option (List A)) → with_front [] left ≡ left
-nothing_read None = refl
-nothing_read (Some later) = refl
+pub nothing_read : {A : Type 0} (front : List A) (left : Option (List A)) → front ≡ [] → with_front front left ≡ left
+nothing_read front None none = refl
+nothing_read front (Some later) none = ap (λ l. Some (l ++ later)) none
 
--- what is read with one more before what is still to be read
-abbrev one_before : {A : Type 0} → Option A → Option (List A) → Option (List A)
-one_before one left = option_and_then (λ x. option_map (λ later. x ∷ later) left) one
-
-front_more : {A : Type 0} (done : List A) (x : A) (left : Option (List A)) → with_front (done ++ (x ∷ [])) left
-    ≡ with_front done (one_before (Some x) left)
-front_more done x None = refl
-front_more done x (Some later) = ap Some (append_assoc done (x ∷ []) later)
-
--- one more that is read is then at the end of what is read so far
-pub next_read : {A : Type 0} (done new : List A) (x : A) (one : Option A) (left whole : Option (List A)) → new ≡ done ++ (x ∷ [])
-    → one ≡ Some x → with_front done (one_before one left) ≡ whole → with_front new left ≡ whole
-next_read done new x one left whole e is h =
-    ap (λ l. with_front l left) e ∙ front_more done x left ∙ ap (λ o. with_front done (one_before o left)) (sym is) ∙ h
+-- the items from a place on begin with the item there
+pub item_here : {A : Type 0} (xs : List A) (i : ℕ) (x : A) → i < length xs → x ≡ get_or xs i x
+    → drop i xs ≡ x ∷ drop (i + 1) xs
+item_here xs i x within is = rw add-one (drop-cons xs i x within ∙ ap (λ y. y ∷ drop (suc i) xs) (sym is))
 
 -- an operation's name is read from its own text
 pub back : (x : OpName) → IsName x → name_of (name_text x) ≡ Some x

@@ -6,10 +6,8 @@ use Rattle.rb_history.proofs.KindWords.{no_word}
 unknown : (c : goal.After-from_residual) (label : Label) → c.args.word.now ≡ word_of label → ⊥
 unknown c label e = c.strip_word.ensures.none c.in_err-label.was label [] (e ∙ sym (append-nil (word_of label)))
 
--- src/label.rt:39:29
 pub returns-in_err-label-clause-value : goal.returns-in_err-label-clause-value
 returns-in_err-label-clause-value c = c.from_residual.ensures ∙ sym (no_word c.args.word.now (unknown c))
 
--- src/label.rt:39:29
 pub returns-in_err-label-clause-only : goal.returns-in_err-label-clause-only
 returns-in_err-label-clause-only c = λ label e. absurd (unknown c label e)

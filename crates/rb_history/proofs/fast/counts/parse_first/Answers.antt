@@ -1,5 +1,5 @@
-use Rattle.rb_history.proofs.Words.{◌≡◌, ◌<◌, ◌^◌, ℕ, take, [], codes, refl, sym, subst, arith, rules, take_all, take_more_set, number_json}
-use Rattle.rb_history.proofs.Words.{Each}
+use Rattle.rb_history.proofs.Words.{take, ◌≡◌, ◌<◌, ◌^◌, ℕ, [], codes, refl, subst, arith, rules, take_all}
+use Rattle.rb_history.proofs.Words.{take_more_set, number_json, Each}
 use Rattle.rb_history.proofs.ListRead.{BeginsWith, all_read, each_more, one_more}
 use Rattle.rb_history.proofs.fast.counts.parse_first.Goals as goal
 
@@ -13,26 +13,23 @@ loop-site-init c =
     record {
       left = search rules;
       sites = search rules;
-      fit = subst (Each IsWord) (sym more) (each_more IsWord [] made.first tt made.ensures.0);
-      read = subst (BeginsWith number_json text made.left.now (codes ",")) (sym more)
-          (one_more number_json text text [] text made.left.now [] made.first (λ later rest e. e) refl made.ensures.1);
+      fit = each_more IsWord [] made.first _ more tt made.ensures.0;
+      read = one_more number_json text text [] text made.left.now [] made.first _ more
+          (λ later rest e. e) refl made.ensures.1;
     }
 
 pub loop-site-preserved : goal.loop-site-preserved
 loop-site-preserved c =
-    let text = c.args.text.now in
-    let counts = c.loop-site.counts in
-    let site = c.loop-site.site in
     let made = c.in_ok-count in
-    let more = take_more_set counts site made.count (omega (arith, c.loop-site.invariant.sites)) in
+    let sites = c.loop-site.invariant.sites in
+    let more = take_more_set c.loop-site.counts c.loop-site.site made.count (omega (arith, sites)) in
     let IsWord : ℕ → Type 0 = λ n. n < 2 ^ 32 in
     record {
       left = search rules;
       sites = search rules;
-      fit = subst (Each IsWord) (sym more) (each_more IsWord (take site counts) made.count c.loop-site.invariant.fit made.ensures.0);
-      read = subst (BeginsWith number_json text made.rest.now (codes ",")) (sym more)
-          (one_more number_json text c.loop-site.left.now (codes ",") c.in_ok-parse_prefix.field-0.now made.rest.now
-          (take site counts) made.count c.loop-site.invariant.read c.in_ok-parse_prefix.ensures made.ensures.1);
+      fit = each_more IsWord _ _ _ more c.loop-site.invariant.fit made.ensures.0;
+      read = one_more number_json c.args.text.now c.loop-site.left.now (codes ",") _ _ _ _ _ more
+          c.loop-site.invariant.read c.in_ok-parse_prefix.ensures made.ensures.1;
     }
 
 pub returns : goal.returns
@@ -42,6 +39,5 @@ returns c =
     let all : take c.loop-site.site counts ≡ counts = take_all c.loop-site.site counts (omega (arith, c.loop-site.invariant.sites)) in
     let read = subst (BeginsWith number_json c.args.text.now c.loop-site.left.now (codes ",")) all c.loop-site.invariant.read in (
       subst (Each IsWord) all c.loop-site.invariant.fit,
-      all_read number_json c.args.text.now c.loop-site.left.now (codes ",") c.in_ok-rest.rest.now counts read
-          c.in_ok-rest.ensures,
+      all_read number_json c.args.text.now _ (codes ",") _ counts read c.in_ok-rest.ensures,
     )

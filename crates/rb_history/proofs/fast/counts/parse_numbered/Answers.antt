@@ -1,4 +1,4 @@
-use Rattle.rb_history.proofs.Words.{◌<◌, ◌^◌, ℕ, take, codes, sym, subst, arith, rules, numbered_from, numbered_json}
+use Rattle.rb_history.proofs.Words.{◌<◌, ◌^◌, ℕ, subst, arith, rules, numbered_from, numbered_json}
 use Rattle.rb_history.proofs.CountsParsed.{fit_all, fit_more, numbered_all, numbered_more}
 use Rattle.rb_history.proofs.ListRead.{BeginsWith, all_read, one_more}
 use Rattle.rb_history.proofs.Numbered.{none_behind}
@@ -20,7 +20,6 @@ sites-init c = record {
 
 pub sites-preserved : goal.sites-preserved
 sites-preserved c =
-    let text = c.args.text.now in
     let counts = c.sites.counts in
     let least = c.sites.least in
     let site = c.in_ok-site.site in
@@ -36,9 +35,8 @@ sites-preserved c =
       sites = search rules;
       none = none_behind counts least site n near.0 near.1 inv.none;
       fit = fit_more IsWord counts least site n inv.sites near.0 near.1 inv.none (omega arith) some.1 inv.fit;
-      read = subst (BeginsWith numbered_json text c.in_ok-site.rest.now (codes ",")) (sym more)
-          (one_more numbered_json text c.sites.left.now c.sites.comma.now c.in_ok-parse_prefix.field-0.now c.in_ok-site.rest.now
-          (numbered_from 0 (take least counts)) (site, n) inv.read c.in_ok-parse_prefix.ensures c.in_ok-site.ensures.written);
+      read = one_more numbered_json c.args.text.now c.sites.left.now c.sites.comma.now _ _ _ (site, n) _ more inv.read
+          c.in_ok-parse_prefix.ensures c.in_ok-site.ensures.written;
     }
 
 pub sites-smaller : goal.sites-smaller
@@ -54,6 +52,5 @@ returns-in-Some c =
     record {
       sites = inv.sites;
       fit = fit_all IsWord counts least inv.none (omega arith) inv.fit;
-      written = all_read numbered_json text c.sites.left.now c.sites.comma.now c.in-Some.rest.now
-          (numbered_from 0 counts) read c.in-Some.ensures;
+      written = all_read numbered_json text _ c.sites.comma.now _ (numbered_from 0 counts) read c.in-Some.ensures;
     }

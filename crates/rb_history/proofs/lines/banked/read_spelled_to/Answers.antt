@@ -1,5 +1,4 @@
-use Rattle.std.proofs.Common.{sym, ◌∙◌}
-use Rattle.serde_json.specs.View.{view}
+use Rattle.rb_history.proofs.Words.{sym, ◌∙◌, view}
 use Rattle.rb_history.proofs.Banked.{reads_alike, some_name, to_named}
 use Rattle.rb_history.proofs.lines.banked.read_spelled_to.Goals as goal
 

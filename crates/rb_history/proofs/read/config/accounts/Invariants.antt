@@ -1,7 +1,4 @@
-use Rattle.std.proofs.Common.{◌≡◌, drop}
-use Rattle.std.specs.Prelude.{map}
-use Rattle.serde_json.specs.View.{items_view}
-use Rattle.rb_history.specs.Configurations.{accounts_in}
+use Rattle.rb_history.proofs.Words.{◌≡◌, drop, map, items_view, accounts_in}
 use Rattle.rb_money.specs.Faults.{account_of}
 use Rattle.rb_history.proofs.Reading.{with_front}
 use Rattle.rb_history.proofs.read.config.accounts.Given as goal

@@ -1,9 +1,5 @@
-use Rattle.std.proofs.Common.{◌≡◌, ℕ, List, Some, None, length, ap, sym, ◌∙◌, rules}
-use Rattle.std.specs.Prelude.{◌==◌, if◌then◌else◌, option_and_then}
-use Rattle.rb_money.specs.declared.limits.TheConstants.{MOST_SITES_OF_VERSION_1}
-use Rattle.serde_json.specs.Find.{as_array}
-use Rattle.serde_json.specs.View.{items_view, view}
-use Rattle.rb_history.specs.Counts.{counts_in}
+use Rattle.rb_history.proofs.Words.{◌≡◌, ℕ, List, Some, None, length, ap, sym, ◌∙◌, rules, ◌==◌, if◌then◌else◌}
+use Rattle.rb_history.proofs.Words.{option_and_then, MOST_SITES_OF_VERSION_1, as_array, items_view, view, counts_in}
 use Rattle.rb_history.proofs.CountsLength.{other_length}
 use Rattle.rb_history.proofs.read.counts.first_counts.Goals as goal
 

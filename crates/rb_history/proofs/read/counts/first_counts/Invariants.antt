@@ -1,7 +1,4 @@
-use Rattle.std.proofs.Common.{◌≡◌, length, take, drop}
-use Rattle.rb_money.specs.declared.limits.TheConstants.{MOST_SITES_OF_VERSION_1}
-use Rattle.serde_json.specs.View.{items_view}
-use Rattle.rb_history.specs.Counts.{counts_in}
+use Rattle.rb_history.proofs.Words.{◌≡◌, length, take, drop, MOST_SITES_OF_VERSION_1, items_view, counts_in}
 use Rattle.rb_history.proofs.Reading.{with_front}
 use Rattle.rb_history.proofs.read.counts.first_counts.Given as goal
 

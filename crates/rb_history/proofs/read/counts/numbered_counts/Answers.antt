@@ -1,8 +1,5 @@
-use Rattle.std.proofs.Common.{◌≡◌, ◌+◌, ◌∷◌, Some, drop, suc, take, ap, sym, ◌∙◌, add-one, arith, drop-cons, rules}
-use Rattle.std.proofs.lemmas.List.{drop_all}
-use Rattle.serde_json.specs.View.{items_view}
-use Rattle.rb_history.proofs.Reading.{nothing_read, with_front}
-use Rattle.rb_history.specs.Counts.{numbered_in}
+use Rattle.rb_history.proofs.Words.{Some, take, [], ap, sym, ◌∙◌, arith, refl, rules, drop_all, items_view, numbered_in}
+use Rattle.rb_history.proofs.Reading.{item_here, nothing_read, with_front}
 use Rattle.rb_history.proofs.Numbered.{all_read, none_behind, value_read}
 use Rattle.rb_history.proofs.read.counts.numbered_counts.Goals as goal
 
@@ -11,7 +8,7 @@ loop-item-init c = record {
   few = omega arith;
   sites = search rules;
   none = search rules;
-  read = nothing_read (numbered_in 0 (items_view c.args.items.now));
+  read = nothing_read [] (numbered_in 0 (items_view c.args.items.now)) refl;
 }
 
 pub loop-item-preserved : goal.loop-item-preserved
@@ -21,15 +18,14 @@ loop-item-preserved c =
     let items = c.args.items.now in
     let i = c.loop-item.item-index in
     let made = c.in_ok-site in
-    let here : drop i items ≡ c.item-item.result ∷ drop (i + 1) items = rw add-one
-    (drop-cons items i c.item-item.result (omega arith) ∙ ap (λ v. v ∷ drop (suc i) items) (sym c.item-item.is)) in
     let near = made.ensures.near in
     record {
       few = omega (arith, near);
       sites = search rules;
       none = none_behind counts least made.site made.count near.0 near.1 c.loop-item.invariant.none;
       read = value_read counts least made.site made.count items i c.item-item.result _ c.loop-item.invariant.sites near.0 near.1
-          c.loop-item.invariant.none here (sym made.ensures.read) c.loop-item.invariant.read;
+          c.loop-item.invariant.none (item_here items i _ (omega arith) c.item-item.is)
+          (sym made.ensures.read) c.loop-item.invariant.read;
     }
 
 pub returns : goal.returns

@@ -1,9 +1,5 @@
-use Rattle.std.proofs.Common.{◌≡◌, ◌≤◌, ◌-◌, length, take, drop}
-use Rattle.std.specs.Prelude.{replicate}
-use Rattle.rb_money.specs.declared.limits.TheConstants.{MOST_SITES}
-use Rattle.serde_json.specs.View.{items_view}
+use Rattle.rb_history.proofs.Words.{◌≡◌, ◌≤◌, ◌-◌, length, take, drop, replicate, MOST_SITES, items_view, numbered_in}
 use Rattle.rb_history.proofs.Reading.{with_front}
-use Rattle.rb_history.specs.Counts.{numbered_in}
 use Rattle.rb_history.proofs.read.counts.numbered_counts.Given as goal
 
 abbrev pub invariant-loop-item : goal.invariant-loop-item

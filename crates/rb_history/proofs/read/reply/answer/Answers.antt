@@ -1,9 +1,6 @@
-use Rattle.std.proofs.Common.{◌≡◌, refl, sym, subst, ◌∙◌, rules}
-use Rattle.serde_json.specs.Data.{Data}
-use Rattle.serde_json.specs.View.{view}
+use Rattle.rb_history.proofs.Words.{◌≡◌, refl, sym, subst, ◌∙◌, rules, Data, view, size_of, answer_of, made_parsed}
+use Rattle.rb_history.proofs.Words.{short_of, statement_parsed}
 use Rattle.rb_history.specs.Lines.{Gives}
-use Rattle.rb_history.specs.Values.{size_of}
-use Rattle.rb_history.specs.RepliesRead.{answer_of, made_parsed, short_of, statement_parsed}
 use Rattle.rb_history.proofs.read.reply.answer.Goals as goal
 
 -- an object of one member, of two or of three

@@ -1,6 +1,4 @@
-use Rattle.std.proofs.Common.{◌≡◌, drop}
-use Rattle.serde_json.specs.View.{items_view}
-use Rattle.rb_history.specs.RepliesRead.{names_in}
+use Rattle.rb_history.proofs.Words.{◌≡◌, drop, items_view, names_in}
 use Rattle.rb_history.proofs.Reading.{with_front}
 use Rattle.rb_history.proofs.read.reply.names.Given as goal
 

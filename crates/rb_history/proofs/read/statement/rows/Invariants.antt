@@ -1,6 +1,4 @@
-use Rattle.std.proofs.Common.{◌≡◌, drop}
-use Rattle.serde_json.specs.View.{items_view}
-use Rattle.rb_history.specs.RepliesRead.{rows_in}
+use Rattle.rb_history.proofs.Words.{◌≡◌, drop, items_view, rows_in}
 use Rattle.rb_history.proofs.Reading.{with_front}
 use Rattle.rb_history.proofs.read.statement.rows.Given as goal
 

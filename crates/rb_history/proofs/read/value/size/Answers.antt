@@ -1,6 +1,5 @@
-use Rattle.std.proofs.Common.{◌≡◌, Some, rules, sym, ◌∙◌}
-use Rattle.serde_json.specs.Find.{as_object}
-use Rattle.serde_json.specs.View.{view, members_view}
+use Rattle.rb_history.proofs.Words.{◌≡◌, Some, rules, sym, ◌∙◌, as_object, view}
+use Rattle.serde_json.specs.View.{members_view}
 use Rattle.serde_json.proofs.Views.{members_len-members_view}
 use Rattle.rb_history.proofs.Shapes.{size_is}
 use Rattle.rb_history.proofs.read.value.size.Goals as goal

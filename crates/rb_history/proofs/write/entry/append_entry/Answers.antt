@@ -1,5 +1,5 @@
-use Rattle.rb_history.proofs.Words.{◌≡◌, ◌++◌, List, ℕ, codes, decimal, append_assoc, ◌∙◌, compact_text, event_json, reply_json}
-use Rattle.rb_history.proofs.AskedText.{id_text, line_parts}
+use Rattle.rb_history.proofs.Words.{append_assoc, sym}
+use Rattle.rb_history.proofs.AskedText.{line_parts}
 use Rattle.rb_history.proofs.Public.Appended.{both, failed, then}
 use Rattle.rb_history.proofs.write.entry.append_entry.Goals as goal
 
@@ -25,23 +25,13 @@ returns-in_err-append_value c =
     let four = both c.args.out.now.items _ _ _ _ three c.in_ok-append-2.ensures in
     failed _ c.args.out.now.items _ _ _ _ c.from_residual-in_err-append_value.ensures.0 four c.in_err-append_value.ensures
 
--- the parts of an entry's line, one added after another
-entry_text : (event id reply site : List ℕ)
-    → ((((codes "{\"event\":" ++ event) ++ id) ++ codes ",\"reply\":") ++ reply)
-    ++ (codes ",\"site\":" ++ (site ++ codes "}"))
-    ≡ codes "{\"event\":"
-    ++ (event ++ (id ++ (codes ",\"reply\":" ++ (reply ++ (codes ",\"site\":" ++ (site ++ codes "}"))))))
-entry_text event id reply site = simp append_assoc
-
 pub returns : goal.returns
 returns c =
     let old = c.args.out.now.items in
-    let event = compact_text (event_json c.args.config.now c.args.entry.now.event) in
-    let reply = compact_text (reply_json c.args.entry.now.reply) in
     let two = both old _ _ _ _ c.in_ok-append.ensures c.in_ok-append_event.ensures in
     let three = both old _ _ _ _ two c.in_ok-append_id.ensures in
     let four = both old _ _ _ _ three c.in_ok-append-2.ensures in
     let five = both old _ _ _ _ four c.in_ok-append_value.ensures in
-    then _ old _ _ _ _ _ five c.append_number.ensures
-    (entry_text event (id_text c.args.id.now) reply (decimal c.args.site) ∙ line_parts c.args.config.now c.args.site
-    (record { id = c.args.id.now; entry = c.args.entry.now }) c.requires)
+    let whole = line_parts c.args.config.now c.args.site (record { id = c.args.id.now; entry = c.args.entry.now })
+    c.requires in
+    then _ old _ _ _ _ _ five c.append_number.ensures (rw (sym whole) (simp append_assoc))

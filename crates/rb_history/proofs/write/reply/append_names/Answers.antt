@@ -1,42 +1,34 @@
 use Rattle.rb_history.proofs.Words.{◌++◌, [], ap, codes, cond, add-one, drop-cons, arith, escape_byte, Blue, name_json, map}
-use Rattle.rb_history.proofs.Public.Appended.{failed_first, front_of_front, front_of_sum}
+use Rattle.rb_history.proofs.Public.Appended.{failed_first, front_of_sum}
 use Rattle.rb_history.proofs.Public.Listed.{item_written, list_between, rest_text}
+use Rattle.rb_history.proofs.Behind.{failed_behind, front_more}
 use Rattle.rb_history.proofs.write.reply.append_names.Goals as goal
 
 pub loop-name-init : goal.loop-name-init
 loop-name-init c = record {
-  front = front_of_sum c.args.out.now.items c.append.new.out.items _ c.in_ok-append.ensures;
+  front = front_of_sum _ _ _ c.in_ok-append.ensures;
   written = ap (λ l. l ++ rest_text [] (map name_json c.args.names.now)) c.in_ok-append.ensures;
 }
 
 pub returns-in_err-append : goal.returns-in_err-append
-returns-in_err-append c =
-    failed_first c.from_residual.result c.args.out.now.items c.append.new.out.items _ c.from_residual.ensures.0 c.in_err-append.ensures
+returns-in_err-append c = failed_first _ _ _ _ c.from_residual.ensures.0 c.in_err-append.ensures
 
 pub loop-name-preserved : goal.loop-name-preserved
 loop-name-preserved c =
-    let out = c.loop-name.out.items in
-    let new = c.append_listed_name.new.out.items in
     let names = c.args.names.now in
     let i = c.loop-name.name-index in
-    let comma = cond c.loop-name.comma (codes ",") [] in
     record {
-      front = front_of_front c.args.out.now.items out new c.loop-name.invariant.front
-          (front_of_sum out new _ c.in_ok-append_listed_name.ensures);
-      written = item_written name_json out new comma _ names i _ (rw add-one (drop-cons names i (Blue 0 0) (omega arith)))
+      front = front_more _ _ _ _ c.loop-name.invariant.front c.in_ok-append_listed_name.ensures;
+      written = item_written name_json _ _ _ _ names i _ (rw add-one (drop-cons names i (Blue 0 0) (omega arith)))
           c.in_ok-append_listed_name.ensures c.loop-name.invariant.written;
     }
 
 pub returns : goal.returns
 unfolding escape_byte
 returns c =
-    list_between name_json c.append-2.result c.args.out.now.items c.loop-name.out.items c.append-2.new.out.items
-    (cond c.loop-name.comma (codes ",") []) (codes "{\"names\":[") (codes "}") c.args.names.now c.loop-name.name-index (omega arith)
-    c.loop-name.invariant.written c.append-2.ensures
+    list_between name_json _ c.args.out.now.items _ _ (cond c.loop-name.comma (codes ",") []) (codes "{\"names\":[")
+    (codes "}") c.args.names.now c.loop-name.name-index (omega arith) c.loop-name.invariant.written c.append-2.ensures
 
 pub returns-in_err-append_listed_name : goal.returns-in_err-append_listed_name
-returns-in_err-append_listed_name c =
-    let old = c.args.out.now.items in
-    let new = c.append_listed_name.new.out.items in
-    failed_first c.from_residual-in_err-append_listed_name.result old new _ c.from_residual-in_err-append_listed_name.ensures.0
-    (front_of_front old c.loop-name.out.items new c.loop-name.invariant.front c.in_err-append_listed_name.ensures)
+returns-in_err-append_listed_name c = failed_behind _ _ _ _ _ c.from_residual-in_err-append_listed_name.ensures.0
+    c.loop-name.invariant.front c.in_err-append_listed_name.ensures
