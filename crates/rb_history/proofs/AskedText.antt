@@ -60,7 +60,4 @@ pub line_written : (s : Settings) (site : ℕ) (x : AskedEntry) (line text behin
     → BeginsWithId x.id behind rest → rest ≡ end_text x.entry.reply site
     → line ≡ compact_text (asked_entry_json s site x)
 line_written s site x line text behind rest begun event id ended =
-    let front = λ (l : List ℕ). codes "{\"event\":" ++ (compact_text (event_json s x.entry.event) ++ l) in
-    begun ∙ ap (λ l. codes "{\"event\":" ++ l) event
-    ∙ ap front (begins_text x.id behind rest id ∙ ap (λ l. id_text x.id ++ l) ended)
-    ∙ line_parts s site x (id_or_none x.id behind rest id)
+    rw (begun, event, begins_text x.id behind rest id, ended) (line_parts s site x (id_or_none x.id behind rest id))

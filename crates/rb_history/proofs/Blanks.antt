@@ -1,16 +1,13 @@
 -- Tokens are read alike, whatever follows them, and blanks between them aren't read.
-use Rattle.std.proofs.Common.{◌≡◌, ◌<◌, ◌≤◌, ◌+◌, ◌^◌, ◌||◌, ◌==◌, ℕ, zero, suc, Bool, true, false, cond, List, [], ◌∷◌, ◌++◌, length}
-use Rattle.std.proofs.Common.{take, drop, get_or, decimal, refl, sym, ap, ap₂, ◌∙◌, append_assoc, append-nil, arith, subst}
-use Rattle.std.proofs.lemmas.Bool.{true≢false, eqb-true, or_right}
-use Rattle.std.proofs.lemmas.List.{take_more, take-append-drop}
-use Rattle.std.proofs.Math.Seq.{take-add}
+use Rattle.rb_history.proofs.Words.{◌≡◌, ◌<◌, ◌≤◌, ◌+◌, ◌^◌, ◌||◌, ◌==◌, ℕ, zero, suc, Bool, true, false, cond, List}
+use Rattle.rb_history.proofs.Words.{[], ◌∷◌, ◌++◌, length, take, drop, get_or, decimal, refl, sym, ap, ap₂, ◌∙◌}
+use Rattle.rb_history.proofs.Words.{append_assoc, append-nil, arith, subst, true≢false, eqb-true, or_right, take_more}
+use Rattle.rb_history.proofs.Words.{take-append-drop, take-add, tokens, escape, IsNumber-decimal}
 use Rattle.json.specs.Token.{number, string}
 use Rattle.json.specs.Text.{content, plain}
 use Rattle.json.specs.Word.{is_operator, is_space, ends_word}
 use Rattle.json.specs.Lex.{Lexeme, Mode, token, quote, backslash, operator, space, other, lex, lex_byte, between, in_string}
-use Rattle.json.specs.Lex.{operator_lexeme, string_token, fresh, punctuate, tokens}
-use Rattle.json.specs.Print.{escape}
-use Rattle.json.proofs.Printed.Decimals.{IsNumber-decimal}
+use Rattle.json.specs.Lex.{operator_lexeme, string_token, fresh, punctuate}
 use Rattle.json.proofs.Printed.Numbers.{lex-number}
 use Rattle.json.proofs.Printed.Strings.{content-escape, lex-escape}
 use Rattle.rb_history.specs.Blanks.{AreTokens, JoinsTokens}

@@ -1,16 +1,14 @@
 -- The refusals that the model gives fit a line.
-use Rattle.rb_history.proofs.Words.{◌≤◌, ◌+◌, ◌^◌, ℕ, Bool, true, false, cond, not, List, [], ◌∷◌, ◌++◌, length, Option, Some, None}
-use Rattle.rb_history.proofs.Words.{Result, Ok, Err, arith, ◌&&◌, IfErr, IfSome, is_some, nat_lt, and_then, number_of_refusal}
-use Rattle.rb_history.proofs.Words.{unless, IsConfigured, Settings, Limits, Refusal, AlreadyCancelled}
-use Rattle.rb_history.proofs.Words.{BadMessage, BatchRefused, Conflict, NeedToken}
-use Rattle.rb_history.proofs.Words.{NotCancellable, NotReady, NumbersExhausted, RedBehind, UnknownAccount}
-use Rattle.rb_history.proofs.Words.{UnknownOperation, WouldOverdraw, colour_in, find_in, is_cancelled, is_eligible, is_red}
-use Rattle.rb_history.proofs.Words.{may_be_cancelled, names, red_count, same_colour, same_shadow, shown_colour, target_of}
-use Rattle.rb_history.proofs.Words.{fault_of, rules}
-use Rattle.rb_history.proofs.Words.{CancelKind, Shadow, has_wrong_target, overdraws, refusal_of_sound, IsValid}
-use Rattle.rb_history.proofs.Words.{first_cancel_from, batch_of, cause_of, made_in_batch, Plan, allowed, allowed_red, made_of}
-use Rattle.rb_history.proofs.Words.{operation_of, plan_of, Request, Deposit, Withdraw, Interest, Cancel, Transfer, Token, refusal_of_pass}
-use Rattle.rb_history.proofs.Words.{refusal_of_red, refusal_of_token, TokenMessage, IsCause, IsRefusal}
+use Rattle.rb_history.proofs.Words.{◌≤◌, ◌+◌, ◌^◌, ℕ, Bool, true, false, cond, not, List, [], ◌∷◌, ◌++◌, length, Option}
+use Rattle.rb_history.proofs.Words.{Some, None, Result, Ok, Err, arith, ◌&&◌, IfErr, IfSome, is_some, nat_lt, and_then}
+use Rattle.rb_history.proofs.Words.{number_of_refusal, unless, IsConfigured, Settings, Limits, Refusal}
+use Rattle.rb_history.proofs.Words.{AlreadyCancelled, BatchRefused, Conflict, NeedToken, NotCancellable, NotReady}
+use Rattle.rb_history.proofs.Words.{NumbersExhausted, RedBehind, UnknownAccount, UnknownOperation, WouldOverdraw}
+use Rattle.rb_history.proofs.Words.{find_in, is_cancelled, is_red, may_be_cancelled, names, red_count, same_shadow}
+use Rattle.rb_history.proofs.Words.{target_of, fault_of, rules, CancelKind, Shadow, overdraws, refusal_of_sound}
+use Rattle.rb_history.proofs.Words.{IsValid, first_cancel_from, batch_of, cause_of, made_in_batch, Plan, allowed}
+use Rattle.rb_history.proofs.Words.{allowed_red, made_of, operation_of, plan_of, Request, Cancel, Token}
+use Rattle.rb_history.proofs.Words.{refusal_of_pass, refusal_of_red, refusal_of_token, TokenMessage, IsCause, IsRefusal}
 use Rattle.rb_scratch.specs.declared.run_fault.RunFault.{RunFault}
 use Rattle.rb_scratch.specs.declared.run_fault.RunFault.TheVariants.{Declined as DeclinedFault, Refused as RefusedFault}
 use Rattle.rb_history.proofs.FitsLaws.{IsByte, IsWord}
@@ -36,9 +34,6 @@ some_if P false why next h k = k
 
 plan_fits : (s : Settings) → IsConfigured s → (us : List Shadow) (r : Request) → IsValid s us → IfErr (plan_of s us r) IsRefusal
 unfolding plan_of
-plan_fits s c us (Deposit a n) valid = search (err_if, rules)
-plan_fits s c us (Withdraw a n) valid = search (err_if, rules)
-plan_fits s c us (Interest a rate) valid = search (err_if, rules)
 plan_fits s c us (Cancel x) valid = by (find_in us x)
   where
     made : Shadow → Result Plan Refusal
@@ -50,7 +45,7 @@ plan_fits s c us (Cancel x) valid = by (find_in us x)
     by None = tt
     by (Some t) = err_if (not (may_be_cancelled t.kind)) NotCancellable _ tt
         (err_if (is_cancelled us x) (AlreadyCancelled (first_cancel_from 1 us x)) (Ok _) (cancel_fits s c us x valid) tt)
-plan_fits s c us (Transfer a b n) valid = search (err_if, rules)
+plan_fits s c us _ valid = search (err_if, rules)
 
 red_fits : (t : Token) (reds : ℕ) (next : Result Shadow Refusal) → IsWord reds → IsWord t.needed → IfErr next IsRefusal
     → IfErr (unless Err (refusal_of_red t reds) next) IsRefusal
@@ -114,11 +109,7 @@ fault_fits s v = search (some_if, rules)
 -- why a held operation isn't applied
 pub check_fits : (s : Settings) (us : List Shadow) (v : Shadow) → IfSome (refusal_of_sound s us v) IsRefusal
 check_fits s us v =
-    by (names us v.name) (unless (λ u. same_shadow u v) (find_in us v.name) false) _
-    (some_if IsRefusal (not (is_eligible us v)) NotReady _ tt
-    (some_if IsRefusal (has_wrong_target us v (target_of v.kind)) (BadMessage 6) _ (omega arith)
-    (some_if IsRefusal (not (same_colour (shown_colour v.name) (colour_in us v.kind))) (BadMessage 5) _ (omega arith)
-    (some_if IsRefusal (overdraws s us v) WouldOverdraw None tt tt))))
+    by (names us v.name) (unless (λ u. same_shadow u v) (find_in us v.name) false) _ (search (some_if, rules))
   where
     by : (a b : Bool) (o : Option Refusal) → IfSome o IsRefusal → IfSome (cond a (cond b (Some NotReady) (Some Conflict)) o) IsRefusal
     by true true o h = tt

@@ -73,7 +73,8 @@ kind_fits s c us v (Transfer to) valid target near =
     inl (omega arith)
 kind_fits s c us v _ valid target near = tt
 
-passed : (b : Bool) → not b ≡ false → b ≡ true
+-- what isn't refuted
+pub passed : (b : Bool) → not b ≡ false → b ≡ true
 passed true e = refl
 passed false e = absurd (cc)
 

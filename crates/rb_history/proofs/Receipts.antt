@@ -3,7 +3,7 @@ use Rattle.rb_history.proofs.Words.{◌≡◌, ℕ, ◌<◌, ◌^◌, List, ◌+
 use Rattle.rb_history.proofs.Words.{members_text, Settings, Place, name_text, label_of, word_of, Shadow, Receive, ShadowMessage, Reply}
 use Rattle.rb_history.proofs.Words.{reply_json, blue_json, event_json, last_members, account_behind_quote, behind_quote, BeginsWithCounts}
 use Rattle.rb_history.proofs.Words.{IsKnown, IsShadow}
-use Rattle.rb_history.specs.Receipts.{BeginsWithBack, shadow_back, shadow_front}
+use Rattle.rb_history.specs.Receipts.{BeginsWithBack, shadow_front}
 use Rattle.rb_history.specs.declared.fast.shadow.Back.{Back}
 
 -- the shadow of its parts
@@ -22,15 +22,6 @@ parts_text : (account amount blue red home kind name last rest : List ℕ)
     ",\"home\":" ++ (home ++ (codes ",\"kind\":\"" ++ (kind ++ (codes ",\"name\":\"" ++ (name ++ last)))))))))))) ++ codes
     "}")) ++ rest
 parts_text account amount blue red home kind name last rest = simp append_assoc
-
--- its parts are the text of its event
-pub event_parts : (s : Settings) (account : Place) (amount : ℕ) (blue : List ℕ) (b : Back) (rest : List ℕ)
-    → shadow_front s account amount ++ (compact_text (blue_json s.version blue) ++ (shadow_back s b ++ rest))
-    ≡ compact_text (event_json s (Receive (ShadowMessage (shadow_of account amount blue b)))) ++ rest
-unfolding escape_byte
-event_parts s account amount blue b rest =
-    parts_text (account_behind_quote s account) (decimal amount) (compact_text (blue_json s.version blue)) (decimal b.red) (decimal b.home)
-    (behind_quote (word_of (label_of b.kind))) (behind_quote (name_text b.name)) (members_text true (last_members s b.kind)) rest
 
 -- parts that fit are a shadow that does
 pub shadow_fits : (s : Settings) (account : Place) (amount : ℕ) (blue list behind rest : List ℕ) (b : Back) → IsKnown s account
@@ -52,9 +43,12 @@ shadow_fits s account amount blue list behind rest b known fits counts back = re
 pub event_written : (s : Settings) (account : Place) (amount : ℕ) (blue text list behind rest : List ℕ) (b : Back)
     → text ≡ shadow_front s account amount ++ list → BeginsWithCounts s.version blue list behind → BeginsWithBack s b behind rest
     → text ≡ compact_text (event_json s (Receive (ShadowMessage (shadow_of account amount blue b)))) ++ rest
+unfolding escape_byte
 event_written s account amount blue text list behind rest b e counts back =
     e ∙ ap (λ l. shadow_front s account amount ++ l) (counts.written ∙ ap (λ l. compact_text (blue_json s.version blue) ++ l) back.written)
-    ∙ event_parts s account amount blue b rest
+    ∙ parts_text (account_behind_quote s account) (decimal amount) (compact_text (blue_json s.version blue)) (decimal b.red)
+    (decimal b.home) (behind_quote (word_of (label_of b.kind))) (behind_quote (name_text b.name))
+    (members_text true (last_members s b.kind)) rest
 
 -- the text of an entry behind its event
 abbrev pub end_text : Reply → ℕ → List ℕ

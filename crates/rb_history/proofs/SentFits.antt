@@ -19,10 +19,9 @@ use Rattle.rb_scratch.proofs.Public.Made.{AreMadeAt, IsMadeAt, batch_is, made_is
 use Rattle.rb_scratch.proofs.Public.Makes.{made_follows}
 use Rattle.rb_site.specs.Histories.{IsAmong, sends_of}
 use Rattle.rb_site.proofs.Public.Stuck.{among-cases}
-use Rattle.rb_history.proofs.MadeFit.{made_fits}
 use Rattle.rb_history.proofs.CausesFit.{batch_fits, check_fits, fault_fits, pass_fits, request_fits, token_fits}
 use Rattle.rb_history.proofs.FitsLaws.{IsWord}
-use Rattle.rb_history.proofs.MadeFit.{facts_name}
+use Rattle.rb_history.proofs.MadeFit.{facts_name, made_fits, passed}
 use Rattle.rb_history.proofs.StatementsFit.{balance_fits}
 
 -- what holds of a site, whatever its events: its list is valid, what it holds is sound, and the token is within the
@@ -255,13 +254,9 @@ keeps s c t g (Batch rs) =
     if_not s t (not (nat_le 1 (length rs) && nat_le (length rs) MOST_REQUESTS)) BadBatch _ g tt (λ e.
     tries s c t g rs (batch_of s t.me t.ops t.token 0 rs) refl (batch_fits s t.me t.ops t.token 0 rs (few_requests e)))
   where
-    within : (b : Bool) → not b ≡ false → b ≡ true
-    within true e = refl
-    within false e = absurd (cc)
-
     few_requests : not (nat_le 1 (length rs) && nat_le (length rs) MOST_REQUESTS) ≡ false → 0 + length rs ≤ 2 ^ 8
     few_requests e =
-        let low = (and_parts (nat_le 1 (length rs)) (nat_le (length rs) MOST_REQUESTS) (within _ e)).1 in
+        let low = (and_parts (nat_le 1 (length rs)) (nat_le (length rs) MOST_REQUESTS) (passed _ e)).1 in
         let most : length rs ≤ MOST_REQUESTS = grind (arith, nat_tests) in
         omega arith
 keeps s c t g (Receive (ShadowMessage v)) =

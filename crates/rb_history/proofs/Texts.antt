@@ -7,10 +7,9 @@ use Rattle.rb_history.proofs.Words.{CancelKind, TransferKind, Shadow, Event, Sub
 use Rattle.rb_history.proofs.Words.{ShadowMessage, TokenOnItsWay, list_json, number_json, blue_json, numbered_from, numbered_json}
 use Rattle.rb_history.proofs.Words.{accounts_of, config_json, start_json, account_json, asked_entry_json, deps_json, event_json}
 use Rattle.rb_history.proofs.Words.{last_members, request_json, shadow_json, AskedEntry, IsIdOrNone}
-use Rattle.rb_history.proofs.Utf8.{HasTexts, ItemsHaveTexts, MembersHaveTexts, label_utf8, list_texts, name_utf8, reply_texts}
-use Rattle.rb_history.proofs.Utf8.{text_utf8}
+use Rattle.rb_history.proofs.Utf8.{HasTexts, ItemsHaveTexts, MembersHaveTexts, label_utf8, list_texts, name_utf8}
+use Rattle.rb_history.proofs.Utf8.{reply_texts, text_utf8, ascii_all}
 use Rattle.rb_history.proofs.Public.IdText.{id_utf8}
-use Rattle.rb_history.proofs.Utf8.{ascii_all}
 
 -- an account's name is ASCII
 byte_ascii : (b : ℕ) → is_name_byte b ≡ true → nat_lt b 128 ≡ true

@@ -5,11 +5,11 @@ use Rattle.rb_history.proofs.Words.{IsUtf8-append, IsUtf8-nil, are_ascii, IsUtf8
 use Rattle.rb_history.proofs.Words.{unsigned, negative, float, Data, null, number, string, array, object, Items, no_items, item, Members}
 use Rattle.rb_history.proofs.Words.{no_members, member, items_of, comma_if, number_text, compact_text, items_text, members_text}
 use Rattle.rb_history.proofs.Words.{CauseDeclined, CauseRefused, Refusal, AlreadyCancelled, RedBehind, BatchRefused, BadMessage, name_text}
-use Rattle.rb_history.proofs.Words.{OpName, Blue, Red, Label, Reply, Made, Names, Held, Already, Taken, Stale, Applied, Passed, Refused}
+use Rattle.rb_history.proofs.Words.{OpName, Blue, Red, Label, Reply, Made, Names, Held, Already, Applied, Refused}
 use Rattle.rb_history.proofs.Words.{Row, line, reply_json, refusal_json, row_json, word_of, name_json, ◌&&◌, ap₂, and_parts, list_all}
 use Rattle.serde_json.specs.Data.{boolean}
 use Rattle.rb_shadow.specs.declared.label.Label.TheVariants.{Deposit}
-use Rattle.rb_site.specs.declared.reply.Reply.TheVariants.{Balance, Statement}
+use Rattle.rb_site.specs.declared.reply.Reply.TheVariants.{Statement}
 
 either_all : (p : ℕ → Bool) (b : Bool) (xs ys : List ℕ) → list_all p xs ≡ true → list_all p ys ≡ true → list_all p (cond b xs ys) ≡ true
 either_all p true xs ys h k = h
@@ -129,13 +129,10 @@ reply_texts (Made name kind) = (refl, label_utf8 kind, (refl, name_utf8 name, tt
 reply_texts (Names names) = (refl, list_texts name_json name_utf8 names, tt)
 reply_texts (Held name) = (refl, name_utf8 name, tt)
 reply_texts (Already name) = (refl, name_utf8 name, tt)
-reply_texts (Taken epoch) = (refl, tt, tt)
-reply_texts (Stale epoch) = (refl, tt, tt)
 reply_texts (Applied name) = (refl, name_utf8 name, tt)
-reply_texts (Passed epoch) = (refl, tt, tt)
-reply_texts (Balance cents) = (refl, tt, tt)
 reply_texts (Statement shown) = (refl, tt, (refl, list_texts row_json row_texts shown.rows, (refl, tt, tt)))
 reply_texts (Refused why) = refusal_texts why
+reply_texts _ = (refl, tt, tt)
 
 -- a reply's line is UTF-8
 pub line_utf8 : (r : Reply) → IsUtf8 (line r)

@@ -1,4 +1,4 @@
-use Rattle.rb_history.proofs.Words.{◌≡◌, ◌++◌, ℕ, List, Option, Some, None, codes, length, ap, sym, subst, ◌∙◌, rules, IfSome, compact_text}
+use Rattle.rb_history.proofs.Words.{◌≡◌, ◌++◌, ℕ, List, codes, length, ap, sym, subst, ◌∙◌, rules, IfSome_then, compact_text}
 use Rattle.rb_history.proofs.Words.{MOST_SITES_OF_VERSION_1, blue_json, widened, BeginsWithCounts, BeginsWithNumbered}
 use Rattle.rb_history.proofs.CountsBack.{widened_fits, widened_further, widened_json, widened_length}
 use Rattle.rb_history.proofs.fast.counts.parse_counts.Goals as goal
@@ -20,11 +20,6 @@ returns-then-version-eq1 c =
     subst (λ v. BeginsWithCounts v c.widened.result text rest) (sym one) (subst (λ ns. BeginsWithCounts 1 ns text rest)
     (sym c.widened.ensures) written)
 
--- what is known of a value that there is
-if_some : {A : Type 0} {P Q : A → Type 0} (o : Option A) → ((x : A) → P x → Q x) → IfSome o P → IfSome o Q
-if_some (Some x) f h = f x h
-if_some None f h = tt
-
 -- counts with their numbers, in a version that has them
 numbered : (version : ℕ) (ns text list rest : List ℕ) → (version ≡ 1 → ⊥) → text ≡ codes "[" ++ list → BeginsWithNumbered ns list rest
     → BeginsWithCounts version ns text rest
@@ -37,5 +32,6 @@ numbered version ns text list rest other e n = record {
 }
 
 pub returns : goal.returns
-returns c = if_some c.parse_numbered.result (λ rest n. numbered c.args.version c.parse_numbered.new.counts c.args.text.now
-    c.in_ok-list.list.now rest.now c.if-version-eq1.false c.in_ok-list.ensures n) c.parse_numbered.ensures
+returns c = IfSome_then c.parse_numbered.result c.parse_numbered.ensures (λ rest n.
+    numbered c.args.version c.parse_numbered.new.counts c.args.text.now c.in_ok-list.list.now rest.now
+    c.if-version-eq1.false c.in_ok-list.ensures n)
