@@ -28,21 +28,17 @@ reads_alike r id asked same other also e f h =
 -- an event by itself that is no receipt is the same to a bank
 pub own_named : (s : Settings) (bank : List ℕ) (d : Data) (x : AskedEvent) → asked_event_at s d ≡ Some x
     → is_receipt x.event ≡ false → event_named s bank d ≡ Some x
-own_named s bank d x is own =
-    ap (λ o. event_or o (if has_bank bank d then event_beside s d else None)) is
-    ∙ ap (λ b. if b then None else Some x) own
+own_named s bank d x is own = rw (is, own) refl
 
 -- a receipt by itself is of another bank
 pub receipt_named : (s : Settings) (bank : List ℕ) (d : Data) (x : AskedEvent) → asked_event_at s d ≡ Some x
     → is_receipt x.event ≡ true → is_other_named s bank d ≡ true
-receipt_named s bank d x is receipt =
-    ap (λ o. unwrap_or (option_map (λ y. is_receipt y.event) o) (has_other_bank bank d)) is ∙ receipt
+receipt_named s bank d x is receipt = rw is receipt
 
 -- an object that is no event by itself is of another bank if it has another name
 pub other_alone : (s : Settings) (bank : List ℕ) (d : Data) → asked_event_at s d ≡ None
     → is_other_named s bank d ≡ has_other_bank bank d
-other_alone s bank d none =
-    ap (λ o. unwrap_or (option_map (λ y. is_receipt y.event) o) (has_other_bank bank d)) none
+other_alone s bank d none = rw none refl
 
 -- and is an event to a bank if it is one beside the bank's name
 pub beside_alone : (s : Settings) (bank : List ℕ) (d : Data) → asked_event_at s d ≡ None
@@ -78,10 +74,7 @@ receipt_line s (b ∷ bs) line x is receipt some = by (read line) is
 pub no_value : (s : Settings) (bank line : List ℕ) → read line ≡ None
     → (event_to s bank line ≡ None) × (is_of_other s bank line ≡ false)
 no_value s [] line none = (ap (option_and_then (asked_event_at s)) none, refl)
-no_value s (b ∷ bs) line none = (
-  ap (option_and_then (event_named s (b ∷ bs))) none,
-  ap (λ o. unwrap_or (option_map (is_other_named s (b ∷ bs)) o) false) none,
-)
+no_value s (b ∷ bs) line none = (rw none refl, rw none refl)
 
 -- what a line's value is to a bank without a name
 pub to_none : (s : Settings) (bank line : List ℕ) (d : Data) → bank ≡ [] → read line ≡ Some d
@@ -93,7 +86,4 @@ to_none s (b ∷ bs) line d none is = absurd (cc)
 pub to_named : (s : Settings) (bank line : List ℕ) (d : Data) → (bank ≡ [] → ⊥) → read line ≡ Some d
     → (event_to s bank line ≡ event_named s bank d) × (is_of_other s bank line ≡ is_other_named s bank d)
 to_named s [] line d some is = absurd (some refl)
-to_named s (b ∷ bs) line d some is = (
-  ap (option_and_then (event_named s (b ∷ bs))) is,
-  ap (λ o. unwrap_or (option_map (is_other_named s (b ∷ bs)) o) false) is,
-)
+to_named s (b ∷ bs) line d some is = (rw is refl, rw is refl)

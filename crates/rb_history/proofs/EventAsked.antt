@@ -56,10 +56,7 @@ no_id s key value e back same =
 found_beside : (s : Settings) (key : List ℕ) (value : Data) (t : List ℕ) (e : Event)
     → event_at s (one_json key value) ≡ Some e → is_id t ≡ true → may_have_id e ≡ true
     → beside s key value (id_at (string t)) ≡ Some (with_id t e)
-found_beside s key value t e back is may =
-    ap (beside s key value) (id_read t is)
-    ∙ ap (option_and_then (λ made. if may_have_id made then Some (with_id t made) else None)) back
-    ∙ ap (λ b. if b then Some (with_id t e) else None) may
+found_beside s key value t e back is may = rw (id_read t is, back, may) refl
 
 -- with the id put to the member of the event
 put_last : (s : Settings) (key : List ℕ) (value : Data) (t : List ℕ) (e : Event)

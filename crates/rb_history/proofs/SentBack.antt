@@ -1,9 +1,9 @@
 -- The line of a message to the sites of a bank is read by them as the message.
-use Rattle.rb_history.proofs.Words.{◌≡◌, List, ℕ, None, Some, true, [], ◌∷◌, ◌++◌, codes, drop, inr, refl, sym, ap, ◌∙◌, append_assoc}
-use Rattle.rb_history.proofs.Words.{arith, bytes_eq, bytes_eq-Decides, if◌then◌else◌, option_and_then, option_map, string, object, member}
+use Rattle.rb_history.proofs.Words.{◌≡◌, List, ℕ, Some, true, [], ◌∷◌, ◌++◌, codes, drop, inr, refl, sym, ap, ◌∙◌, append_assoc}
+use Rattle.rb_history.proofs.Words.{arith, bytes_eq, bytes_eq-Decides, option_and_then, string, object, member}
 use Rattle.rb_history.proofs.Words.{read, compact_text, members_text, IsConfigured, Settings, Event, Receive, Message, ShadowMessage}
 use Rattle.rb_history.proofs.Words.{TokenOnItsWay, MessagesAreRead, event_named, event_to, is_receipt, receipt_member, sent_json}
-use Rattle.rb_history.proofs.Words.{event_json, shadow_json, token_json, IsEvent, event_at, is_id}
+use Rattle.rb_history.proofs.Words.{event_json, shadow_json, token_json, IsEvent, is_id}
 use Rattle.rb_history.proofs.BankText.{member_behind, receipt_text, sent_line}
 use Rattle.rb_history.proofs.EntryBack.{event_back}
 use Rattle.rb_history.proofs.EntryText.{event_text}
@@ -20,11 +20,9 @@ same_text t = (bytes_eq-Decides t t).1 refl
 sent_named : (s : Settings) → IsConfigured s → (bank : List ℕ) (m : Message) → IsEvent s (Receive m)
     → event_named s bank (object (member (codes "bank") (string bank) (receipt_member s m))) ≡ Some (without_id (Receive m))
 sent_named s c bank (ShadowMessage v) fits =
-    ap (λ b. if b then option_map without_id (event_at s (event_json s (Receive (ShadowMessage v)))) else None) (same_text bank)
-    ∙ ap (option_map without_id) (event_back s c (Receive (ShadowMessage v)) fits)
+    rw (same_text bank, event_back s c (Receive (ShadowMessage v)) fits) refl
 sent_named s c bank (TokenOnItsWay m) fits =
-    ap (λ b. if b then option_map without_id (event_at s (event_json s (Receive (TokenOnItsWay m)))) else None) (same_text bank)
-    ∙ ap (option_map without_id) (event_back s c (Receive (TokenOnItsWay m)) fits)
+    rw (same_text bank, event_back s c (Receive (TokenOnItsWay m)) fits) refl
 
 -- its text is read as the object
 sent_text : (s : Settings) (bank : List ℕ) (m : Message) → IsEvent s (Receive m)
