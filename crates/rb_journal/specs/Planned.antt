@@ -1,5 +1,5 @@
 -- Calls on a file that somebody else makes, one after another.
-use Rattle.std.specs.Prelude.{ℕ, Bool, true, List, [], length}
+use Rattle.std.specs.Prelude.{ℕ, Bool, true, false, List, [], length}
 use Rattle.rb_journal.specs.Calls.{NotedCall}
 use Rattle.rb_journal.specs.declared.call.Call.{Call}
 use Rattle.rb_journal.specs.declared.call.Call.TheVariants.{Write, Cut, Sync, Keep, PutOut}
@@ -23,6 +23,9 @@ sync_event ok = (3, 0, ok, [])
 
 abbrev pub output_event : ℕ → List ℕ → NotedCall
 output_event n bytes = (4, n, true, bytes)
+
+abbrev pub failed_event : List ℕ → NotedCall
+failed_event bytes = (5, 0, false, bytes)
 
 abbrev pub kept_event : Bool → List ℕ → NotedCall
 kept_event ok bytes = (6, 0, ok, bytes)

@@ -124,6 +124,8 @@ pub fn open_disk<R: Files<File = fs::File> + Clock + AllocGlobal + Copy, P: Prin
     if new && !bytes.is_empty() {
         return Err(OpenError::NotEmpty);
     }
+    let mut log = CallLog::new();
+    log.note_opened(&bytes);
     let disk = Disk {
         rt: *rt,
         file,
@@ -133,7 +135,7 @@ pub fn open_disk<R: Files<File = fs::File> + Clock + AllocGlobal + Copy, P: Prin
         out,
         out_descriptor,
         failed: None,
-        log: CallLog::opened(&bytes),
+        log,
     };
     Ok((disk, bytes))
 }
@@ -219,8 +221,11 @@ impl<R: Files<File = fs::File> + Clock + Eprint + AllocGlobal, P: Print> Host fo
 
     fn write_again(&mut self, bytes: &[u8]) -> Result<(), HostError> {
         let done = self.make_durable(bytes);
-        self.log
-            .written_again(bytes, is_done(&mut self.failed, done))
+        if !is_done(&mut self.failed, done) {
+            return self.log.synced(false);
+        }
+        self.log.note_found(bytes);
+        Ok(())
     }
 
     fn write_at(&mut self, at: usize, bytes: &[u8]) -> Result<(), HostError> {
@@ -256,7 +261,15 @@ impl<R: Files<File = fs::File> + Clock + Eprint + AllocGlobal, P: Print> Host fo
     }
 
     fn put_out(&mut self, bytes: &[u8]) -> Result<usize, HostError> {
-        let count = put_out(&self.rt, &self.out, bytes);
-        self.log.output(bytes, count)
+        match put_out(&self.rt, &self.out, bytes) {
+            Some(count) => {
+                self.log.put_out(bytes, count);
+                Ok(count)
+            }
+            None => {
+                self.log.output_failed(bytes);
+                Err(HostError::OutputFailed)
+            }
+        }
     }
 }

@@ -134,6 +134,7 @@ impl Host for Memory {
 
     fn put_out(&mut self, bytes: &[u8]) -> Result<usize, HostError> {
         self.output.extend_from_slice(bytes)?;
-        self.log.output(bytes, Some(bytes.len()))
+        self.log.put_out(bytes, bytes.len());
+        Ok(bytes.len())
     }
 }

@@ -135,6 +135,7 @@ impl Host for Planned {
     fn put_out(&mut self, bytes: &[u8]) -> Result<usize, HostError> {
         let copy = bytes.to_vec(self.alloc)?;
         self.calls.insert(0, Call::PutOut { bytes: copy })?;
-        self.log.output(bytes, Some(bytes.len()))
+        self.log.put_out(bytes, bytes.len());
+        Ok(bytes.len())
     }
 }
