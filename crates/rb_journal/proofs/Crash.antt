@@ -1,14 +1,14 @@
 -- The files that a crash leaves in each step of an append and of a repair, for a file's lines.
 use Rattle.std.proofs.Common.{◌≡◌, ◌⊎◌, inl, inr, ℕ, ◌+◌, ◌-◌, ◌<◌, ◌≤◌, List, [], ◌∷◌, ◌++◌, length, take, drop, refl, sym, ◌∙◌}
-use Rattle.std.proofs.Common.{ap, arith, append_assoc, length-append, length-drop, take-append-drop}
+use Rattle.std.proofs.Common.{ap, arith, append_assoc, length-append, length-drop, subst, take-append-drop, ⊎_elim}
 use Rattle.std.specs.List.{concat}
 use Rattle.std.proofs.Math.Seq.{take-append-add}
 use Rattle.std.proofs.lemmas.List.Folds.{concat-append}
-use Rattle.std.proofs.lemmas.List.{drop_all, take_at, drop_at, take_all, take-take, take-append-le, length-take, append-nil}
+use Rattle.std.proofs.lemmas.List.{drop_all, take_at, drop_at, take_all, append-nil}
 use Rattle.rb_journal.specs.Host.{IsWritten, Torn, TornByte, TornRange, Cut}
 use Rattle.rb_journal.specs.Journal.{IsAppended, HasClosedGate, IsRepaired}
 use Rattle.rb_journal.specs.Lines.{recovered, IsBatch, at_rest}
-use Rattle.rb_journal.proofs.Public.Lines.{recovered-append, parts, front_nothing, closed}
+use Rattle.rb_journal.proofs.Public.Lines.{begins, recovered-append, parts, front_nothing, closed}
 
 -- bytes that are written where a file ends are added to it
 pub written_at_end : (old : List ℕ) (at : ℕ) (bytes new : List ℕ) → at ≡ length old → IsWritten old at bytes new → new ≡ old ++ bytes
@@ -16,26 +16,48 @@ written_at_end old at bytes new is holds =
     holds ∙ ap (λ (l : List ℕ). l ++ bytes ++ drop (at + length bytes) old) (take_all at old (omega (arith, is)))
     ∙ ap (λ (l : List ℕ). old ++ bytes ++ l) (drop_all (at + length bytes) old (omega (arith, is))) ∙ append-nil (old ++ bytes)
 
-byte_length : (at b most : ℕ) (d c : List ℕ) → at + 1 ≤ most → length d ≤ most → TornByte at b d c → length c ≤ most
-byte_length at b most d c le few (inl same) = omega (arith, few, ap length same)
-byte_length at b most d c le few (inr (inl written)) =
-    omega (
-      arith,
-      few,
-      le,
-      ap length written,
-      length-append (take at d ++ b ∷ []) (drop (at + length (b ∷ [])) d),
-      length-append (take at d) (b ∷ []),
-      length-take at d,
-      length-drop (at + length (b ∷ [])) d,
-    )
-byte_length at b most d c le few (inr (inr (end, nul))) = omega (arith, le, end, ap length nul, length-append d (0 ∷ []))
+-- of a write that a crash cuts short nothing may be there
+pub torn_not : (at : ℕ) (bytes c : List ℕ) → Torn at bytes c c
+torn_not at [] c = record { before = refl; after = refl; no_shorter = omega arith; no_longer = omega arith }
+torn_not at (b ∷ []) c = inl refl
+torn_not at (b ∷ e ∷ bytes) c = record { before = refl; after = refl; no_shorter = omega arith; no_longer = omega arith }
 
--- a file after a write that a crash cuts short is no longer than it was, or than the end of what was written
-pub torn_length : (at most : ℕ) (bytes d c : List ℕ) → at + length bytes ≤ most → length d ≤ most → Torn at bytes d c → length c ≤ most
-torn_length at most [] d c le few torn = omega (arith, le, few, torn.no_longer)
-torn_length at most (b ∷ []) d c le few torn = byte_length at b most d c le few torn
-torn_length at most (b ∷ e ∷ bytes) d c le few torn = omega (arith, le, few, torn.no_longer)
+range_behind : (at n : ℕ) (old new : List ℕ) → at ≡ length old → TornRange at n old new
+    → (more : List ℕ) × (new ≡ old ++ more) × (length more ≤ n)
+range_behind at n old new is torn = (
+  drop at new,
+  sym (take-append-drop at new) ∙ ap (λ (l : List ℕ). l ++ drop at new) (torn.before ∙ take_all at old (omega (arith, is))),
+  omega (arith, torn.no_longer, is, length-drop at new),
+)
+
+-- of a write behind a file that a crash cuts short no more bytes are there than were to be written
+pub torn_behind : (at : ℕ) (bytes old new : List ℕ) → at ≡ length old → Torn at bytes old new
+    → (more : List ℕ) × (new ≡ old ++ more) × (length more ≤ length bytes)
+torn_behind at [] old new is torn = range_behind at 0 old new is torn
+torn_behind at (b ∷ []) old new is (inl same) = ([], same ∙ sym (append-nil old), omega arith)
+torn_behind at (b ∷ []) old new is (inr (inl written)) = (b ∷ [], written_at_end old at (b ∷ []) new is written, omega arith)
+torn_behind at (b ∷ []) old new is (inr (inr (end, nul))) = (0 ∷ [], nul, omega arith)
+torn_behind at (b ∷ e ∷ bytes) old new is torn = range_behind at (length (b ∷ e ∷ bytes)) old new is torn
+
+module _ (front rest : List ℕ) (at a b : ℕ) (is : length front ≡ at) where
+  -- a byte that is written in the place of another
+  pub over_byte : (new : List ℕ) → IsWritten (front ++ a ∷ rest) at (b ∷ []) new → new ≡ front ++ b ∷ rest
+  over_byte new holds =
+      let next : drop (at + 1) (front ++ a ∷ rest) ≡ rest =
+      ap (λ (l : List ℕ). drop (at + 1) l) (sym (append_assoc front (a ∷ []) rest))
+      ∙ drop_at (front ++ a ∷ []) rest (at + 1) (omega (arith, is, length-append front (a ∷ []))) in
+      holds ∙ rw (take_at front (a ∷ rest) at is, next) (append_assoc front (b ∷ []) rest)
+
+  -- if a crash cuts that short, one of them is there
+  pub torn_over : (new : List ℕ) → TornByte at b (front ++ a ∷ rest) new → (new ≡ front ++ a ∷ rest) ⊎ (new ≡ front ++ b ∷ rest)
+  torn_over new (inl same) = inl same
+  torn_over new (inr (inl written)) = inr (over_byte new written)
+  torn_over new (inr (inr (end, nul))) = absurd (omega (arith, is, end, length-append front (a ∷ rest)))
+
+-- the first byte of a batch is the open gate
+gate_is : (batch : List ℕ) → IsBatch batch → 1 ≤ length batch → batch ≡ 123 ∷ drop 1 batch
+gate_is [] all some = absurd (omega arith)
+gate_is (b ∷ bytes) all some = ap (λ (n : ℕ). n ∷ bytes) (begins b bytes all)
 
 module _ (file : List ℕ) where
   abbrev lines : List (List ℕ)
@@ -56,82 +78,51 @@ module _ (file : List ℕ) where
   pub length-at_rest : length (at_rest lines) ≡ length text + 1
   length-at_rest = omega (arith, length-append text (32 ∷ []))
 
-  -- a file at rest is no longer than the lines and the gate
-  pub shut_at_rest : take (length text + 1) (at_rest lines) ≡ at_rest lines
-  shut_at_rest = take_all (length text + 1) (at_rest lines) (omega (arith, length-at_rest))
-
-  -- a write behind the gate keeps it closed
-  range_shut : (at n : ℕ) (d c : List ℕ) → length text + 1 ≤ at → take (length text + 1) d ≡ at_rest lines → TornRange at n d c →
-      take (length text + 1) c ≡ at_rest lines
-  range_shut at n d c le shut torn =
-      sym (take-take (length text + 1) at c le) ∙ ap (λ (l : List ℕ). take (length text + 1) l) torn.before
-      ∙ take-take (length text + 1) at d le ∙ shut
-
-  -- a file whose gate is closed is no shorter than the lines and the gate
-  long : (d : List ℕ) → take (length text + 1) d ≡ at_rest lines → length text + 1 ≤ length d
-  long d shut = omega (arith, length-at_rest, ap length shut, length-take (length text + 1) d)
-
-  byte_shut : (at b : ℕ) (d c : List ℕ) → length text + 1 ≤ at → take (length text + 1) d ≡ at_rest lines → TornByte at b d c →
-      take (length text + 1) c ≡ at_rest lines
-  byte_shut at b d c le shut (inl same) = ap (λ (l : List ℕ). take (length text + 1) l) same ∙ shut
-  byte_shut at b d c le shut (inr (inl written)) =
-      let front : List ℕ = take at d ++ b ∷ [] in
-      let some : length text + 1 ≤ length (take at d) = omega (arith, le, long d shut, length-take at d) in
-      let more : length text + 1 ≤ length front = omega (arith, some, length-append (take at d) (b ∷ [])) in
-      ap (λ (l : List ℕ). take (length text + 1) l) written
-      ∙ take-append-le (length text + 1) front (drop (at + length (b ∷ [])) d) more
-      ∙ take-append-le (length text + 1) (take at d) (b ∷ []) some ∙ take-take (length text + 1) at d le ∙ shut
-  byte_shut at b d c le shut (inr (inr (end, nul))) =
-      ap (λ (l : List ℕ). take (length text + 1) l) nul ∙ take-append-le (length text + 1) d (0 ∷ []) (long d shut) ∙ shut
-
-  pub stays_shut : (at : ℕ) (bytes d c : List ℕ) → length text + 1 ≤ at → take (length text + 1) d ≡ at_rest lines → Torn at bytes d c →
-      take (length text + 1) c ≡ at_rest lines
-  stays_shut at [] d c le shut torn = range_shut at 0 d c le shut torn
-  stays_shut at (b ∷ []) d c le shut torn = byte_shut at b d c le shut torn
-  stays_shut at (b ∷ e ∷ bytes) d c le shut torn = range_shut at (length (b ∷ e ∷ bytes)) d c le shut torn
-
-  -- the gate is closed, and no more bytes are behind it than the rest of the file is long
-  pub shut_closed : (c : List ℕ) (most : ℕ) → take (length text + 1) c ≡ at_rest lines → length c ≤ length text + 1 + most
-      → HasClosedGate lines most c
-  shut_closed c most shut few = (
-    drop (length text + 1) c,
-    sym (take-append-drop (length text + 1) c) ∙ ap (λ (l : List ℕ). l ++ drop (length text + 1) c) shut,
-    omega (arith, few, length-drop (length text + 1) c),
-  )
-
-  -- then it is read as the lines
+  -- a file whose gate is closed is read as the lines
   pub closed_is : (c : List ℕ) (most : ℕ) → HasClosedGate lines most c → recovered c ≡ lines
   closed_is c most (bytes, is, few) =
       ap recovered (is ∙ append_assoc text (32 ∷ []) bytes)
       ∙ behind_nothing (32 ∷ bytes) (closed 32 bytes (λ is. absurd (omega arith)))
 
-  module _ (batch tail : List ℕ) (is : batch ≡ 123 ∷ tail) (all : IsBatch batch) where
-    abbrev staged : List ℕ
-    staged = text ++ 32 ∷ (tail ++ 32 ∷ [])
+  module _ (batch : List ℕ) (all : IsBatch batch) (some : 1 ≤ length batch) where
+    -- what is written behind the gate: the batch without its first byte, and a gate of its own
+    abbrev rest : List ℕ
+    rest = drop 1 batch ++ 32 ∷ []
 
-    -- the gate is inside the staged file
-    pub length-staged : length text < length staged
-    length-staged = omega (arith, length-append text (32 ∷ (tail ++ 32 ∷ [])))
+    length-rest : length rest ≡ length batch
+    length-rest = omega (arith, some, length-append (drop 1 batch) (32 ∷ []), length-drop 1 batch)
 
-    front : take (length text) staged ≡ text
-    front = take_at text (32 ∷ (tail ++ 32 ∷ [])) (length text) refl
+    -- a write of it that a crash cuts short leaves the gate closed
+    pub torn_rest : (at : ℕ) (bytes old new : List ℕ) → at ≡ length text + 1 → bytes ≡ rest → old ≡ at_rest lines
+        → Torn at bytes old new → IsAppended lines batch new
+    torn_rest at bytes old new is are was torn =
+        let more = torn_behind at bytes old new (omega (arith, is, ap length was, length-at_rest)) torn in
+        inl (more.0, more.1 ∙ ap (λ (l : List ℕ). l ++ more.0) was, omega (arith, more.2, ap length are, length-rest))
 
-    back : drop (length text + 1) staged ≡ tail ++ 32 ∷ []
-    back =
-        ap (λ (l : List ℕ). drop (length text + 1) l) (sym (append_assoc text (32 ∷ []) (tail ++ 32 ∷ [])))
-        ∙ drop_at (at_rest lines) (tail ++ 32 ∷ []) (length text + 1) length-at_rest
+    -- the whole write leaves it behind the gate
+    pub written_rest : (at : ℕ) (bytes old new : List ℕ) → at ≡ length text + 1 → bytes ≡ rest → old ≡ at_rest lines
+        → IsWritten old at bytes new → new ≡ text ++ 32 ∷ rest
+    written_rest at bytes old new is are was written =
+        written_at_end old at bytes new (omega (arith, is, ap length was, length-at_rest)) written
+        ∙ rw (was, are) (append_assoc text (32 ∷ []) rest)
 
     -- once the gate is opened the file is at rest with the batch
-    pub written_gate : (c : List ℕ) → IsWritten staged (length text) (123 ∷ []) c → c ≡ at_rest (lines ++ recovered batch)
-    written_gate c holds =
-        let was : c ≡ text ++ (123 ∷ []) ++ (tail ++ 32 ∷ []) =
-        holds ∙ ap (λ (l : List ℕ). l ++ (123 ∷ []) ++ drop (length text + 1) staged) front
-        ∙ ap (λ (l : List ℕ). text ++ (123 ∷ []) ++ l) back in
-        let with_batch : text ++ (123 ∷ []) ++ (tail ++ 32 ∷ []) ≡ (text ++ batch) ++ 32 ∷ [] =
-        append_assoc text (123 ∷ []) (tail ++ 32 ∷ []) ∙ ap (λ (l : List ℕ). text ++ (l ++ 32 ∷ [])) (sym is)
-        ∙ sym (append_assoc text batch (32 ∷ [])) in
-        was ∙ with_batch ∙ ap (λ (l : List ℕ). (text ++ l) ++ 32 ∷ []) (sym all)
-        ∙ ap (λ (l : List ℕ). l ++ 32 ∷ []) (sym (concat-append lines (recovered batch)))
+    opened : text ++ 123 ∷ rest ≡ at_rest (lines ++ recovered batch)
+    opened =
+        ap (λ (l : List ℕ). text ++ (l ++ 32 ∷ [])) (sym (gate_is batch all some)) ∙ sym (append_assoc text batch (32 ∷ []))
+        ∙ ap (λ (l : List ℕ). l ++ 32 ∷ []) (ap (λ (l : List ℕ). text ++ l) (sym all) ∙ sym (concat-append lines (recovered batch)))
+
+    pub written_gate : (at : ℕ) (old new : List ℕ) → at ≡ length text → old ≡ text ++ 32 ∷ rest
+        → IsWritten old at (123 ∷ []) new → new ≡ at_rest (lines ++ recovered batch)
+    written_gate at old new is was written =
+        over_byte text rest at 32 123 (sym is) new (subst (λ (l : List ℕ). IsWritten l at (123 ∷ []) new) was written) ∙ opened
+
+    -- the write that opens it leaves it closed, or the file at rest with the batch
+    pub torn_gate : (at : ℕ) (old new : List ℕ) → at ≡ length text → old ≡ text ++ 32 ∷ rest → TornByte at 123 old new
+        → IsAppended lines batch new
+    torn_gate at old new is was torn = ⊎_elim
+        (λ same. inl (rest, same ∙ sym (append_assoc text (32 ∷ []) rest), omega (arith, length-rest))) (λ now. inr (now ∙ opened))
+        (torn_over text rest at 32 123 (sym is) new (subst (λ (l : List ℕ). TornByte at 123 l new) was torn))
 
     -- then it is read as the lines and the batch
     pub after_gate : recovered (at_rest (lines ++ recovered batch)) ≡ lines ++ recovered batch
@@ -145,16 +136,6 @@ module _ (file : List ℕ) where
     pub length-after : length (concat (lines ++ recovered batch)) ≡ length text + length batch
     length-after = ap length (concat-append lines (recovered batch)) ∙ length-append text (concat (recovered batch))
         ∙ ap (λ (l : List ℕ). length text + length l) all
-
-    -- the write that opens the gate leaves it closed, or the file at rest with the batch
-    pub torn_gate : (c : List ℕ) → Torn (length text) (123 ∷ []) staged c → IsAppended lines batch c
-    torn_gate c (inl same) = inl (
-      tail ++ 32 ∷ [],
-      same ∙ sym (append_assoc text (32 ∷ []) (tail ++ 32 ∷ [])),
-      omega (arith, ap length is, length-append tail (32 ∷ [])),
-    )
-    torn_gate c (inr (inl written)) = inr (written_gate c written)
-    torn_gate c (inr (inr (end, nul))) = absurd (omega (arith, end, length-staged))
 
     -- so all of the batch is there or none of it
     pub all_or_none : (c : List ℕ) → IsAppended lines batch c → (recovered c ≡ lines) ⊎ (recovered c ≡ lines ++ recovered batch)
@@ -177,13 +158,14 @@ module _ (file : List ℕ) where
   fits = omega (arith, ap length (parts file).split, length-append text (parts file).end)
 
   -- the write of the gate leaves the lines, with the gate or a NUL behind them, or with nothing
-  pub torn_end : (c : List ℕ) → Torn (length text) (32 ∷ []) text c → IsRepaired file c
-  torn_end c (inl same) = inl (record {
-    no_shorter = omega (arith, ap length same);
-    front = ap (λ (n : ℕ). take n file) (ap length same) ∙ cut_done ∙ sym same;
+  pub torn_end : (at : ℕ) (old new : List ℕ) → at ≡ length text → old ≡ text → TornByte at 32 old new → IsRepaired file new
+  torn_end at old new is was (inl same) = inl (record {
+    no_shorter = omega (arith, ap length (same ∙ was));
+    front = ap (λ (n : ℕ). take n file) (ap length (same ∙ was)) ∙ cut_done ∙ sym (same ∙ was);
   })
-  torn_end c (inr (inl written)) = inr (inl (written_at_end text (length text) (32 ∷ []) c refl written))
-  torn_end c (inr (inr (end, nul))) = inr (inr nul)
+  torn_end at old new is was (inr (inl written)) = inr (inl (written_at_end old at (32 ∷ []) new (is ∙ ap length (sym was)) written
+      ∙ ap (λ (l : List ℕ). l ++ 32 ∷ []) was))
+  torn_end at old new is was (inr (inr (end, nul))) = inr (inr (nul ∙ ap (λ (l : List ℕ). l ++ 0 ∷ []) was))
 
   -- what a repair leaves is read as the lines
   pub repaired_is : (c : List ℕ) → IsRepaired file c → recovered c ≡ lines

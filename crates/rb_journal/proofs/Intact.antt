@@ -1,15 +1,14 @@
 -- Files that aren't damaged: what is behind their lines.
-use Rattle.std.proofs.Common.{◌≡◌, ◌⊎◌, inl, inr, ℕ, zero, suc, ◌-◌, List, [], ◌∷◌, ◌++◌, length, get_or, take, drop}
-use Rattle.std.proofs.Common.{refl, sym, ◌∙◌, ap, subst, arith, append_assoc, append-nil, take_while}
+use Rattle.std.proofs.Common.{◌≡◌, ◌⊎◌, inl, inr, ℕ, zero, suc, ◌-◌, ◌≤◌, List, [], ◌∷◌, ◌++◌, length, get_or, take, drop}
+use Rattle.std.proofs.Common.{refl, sym, ◌∙◌, ap, subst, arith, append_assoc, append-nil}
 use Rattle.std.specs.Prelude.{◌≢◌, All}
 use Rattle.std.specs.List.{concat}
-use Rattle.std.proofs.lemmas.Bool.{cases_eq, eq-eqb}
 use Rattle.std.proofs.lemmas.List.{drop_at}
 use Rattle.std.proofs.lemmas.List.Elements.{All-take}
-use Rattle.rb_journal.specs.Lines.{lines_in, joined, is_open, recovered, at_rest, behind_lines, MayBeBehind, IsIntact}
+use Rattle.rb_journal.specs.Lines.{recovered, at_rest, behind_lines, MayBeBehind, IsBatch, IsIntact}
 use Rattle.rb_journal.specs.Journal.{IsAppended, HasClosedGate, IsRepaired}
-use Rattle.rb_journal.proofs.Public.Lines.{parts, recovered-append, whole-lf, whole-other, open-true, closed, short_nothing, front_nothing}
-use Rattle.rb_journal.proofs.Crash.{cut_is}
+use Rattle.rb_journal.proofs.Public.Lines.{parts, recovered-append, closed, short_nothing, front_nothing, front_of_line}
+use Rattle.rb_journal.proofs.Crash.{after_gate, cut_is}
 
 -- what is read as nothing, behind the lines of a file, is what is behind the lines of both
 pub behind_is : (file rest : List ℕ) → recovered rest ≡ [] → behind_lines (concat (recovered file) ++ rest) ≡ rest
@@ -60,36 +59,6 @@ repaired_intact file c was (inl cut) =
 
 -- ---- the first byte behind the lines says whether a file is damaged
 
-none_joined : (b : ℕ) (lines : List (List ℕ)) → joined b lines ≡ [] → lines ≡ []
-none_joined b [] none = refl
-none_joined b (line ∷ lines) none = absurd (cc (none))
-
--- bytes without a whole line have no LF
-no_lf : (bytes : List ℕ) → lines_in bytes ≡ [] → All (λ c. c ≢ 10) bytes
-no_lf [] none = λ k d within. absurd (omega arith)
-no_lf (b ∷ bytes) none = elim (cases_eq b 10) [
-  | inl is ↦ let some : (10 ∷ []) ∷ lines_in bytes ≡ [] = sym (whole-lf b bytes is) ∙ none in absurd (cc (some))
-  | inr other ↦
-      let rest = no_lf bytes (none_joined b (lines_in bytes) (sym (whole-other b bytes other) ∙ none)) in
-      each other rest
-]
-  where
-    each : (b ≡ 10 → ⊥) → All (λ c. c ≢ 10) bytes → All (λ c. c ≢ 10) (b ∷ bytes)
-    each other rest zero d within = other
-    each other rest (suc k) d within = rest k d (omega arith)
-
-not_whole : (b : ℕ) (lines : List (List ℕ)) → b ≡ 123 → take_while is_open (joined b lines) ≡ [] → lines ≡ []
-not_whole b [] is none = refl
-not_whole b (line ∷ lines) is none =
-    let some : (b ∷ line) ∷ take_while is_open lines ≡ [] = sym (open-true (b ∷ line) lines (eq-eqb b 123 is)) ∙ none in
-    absurd (cc (some))
-
--- `{` behind the lines begins a line that isn't whole
-front_of_line : (b : ℕ) (bytes : List ℕ) → b ≡ 123 → recovered (b ∷ bytes) ≡ [] → All (λ c. c ≢ 10) bytes
-front_of_line b bytes is none =
-    let other : b ≡ 10 → ⊥ = λ lf. absurd (omega (arith, lf, is)) in
-    no_lf bytes (not_whole b (lines_in bytes) is (ap (λ ls. take_while is_open ls) (sym (whole-other b bytes other)) ∙ none))
-
 -- the first of some bytes says whether they may be behind lines
 pub by_first : (rest : List ℕ) → recovered rest ≡ []
     → (get_or rest 0 0 ≡ 0) ⊎ (get_or rest 0 0 ≡ 32) ⊎ (get_or rest 0 0 ≡ 123) → MayBeBehind rest
@@ -99,8 +68,11 @@ by_first (b ∷ rest) none (inr (inl space)) = inl space
 by_first (b ∷ rest) none (inr (inr opens)) = inr (inr (opens, front_of_line b rest opens none))
 
 -- what an append leaves isn't damaged
-pub appended_intact : (file batch c : List ℕ) → recovered (at_rest (recovered file ++ recovered batch)) ≡ recovered file ++ recovered batch
-    → IsAppended (recovered file) batch c → IsIntact c
-appended_intact file batch c after (inl shut) = closed_intact file c (length batch) shut
-appended_intact file batch c after (inr is) =
-    subst IsIntact (sym is) (subst (λ ls. IsIntact (at_rest ls)) after (at_rest_intact (at_rest (recovered file ++ recovered batch))))
+pub appended_intact : (file batch : List ℕ) → IsBatch batch → 1 ≤ length batch → (c : List ℕ) → IsAppended (recovered file) batch c
+    → IsAppended (recovered file) batch c × IsIntact c
+appended_intact file batch all some c (inl shut) = (inl shut, closed_intact file c (length batch) shut)
+appended_intact file batch all some c (inr is) = (
+  inr is,
+  subst IsIntact (sym is) (subst (λ ls. IsIntact (at_rest ls)) (after_gate file batch all some)
+      (at_rest_intact (at_rest (recovered file ++ recovered batch)))),
+)

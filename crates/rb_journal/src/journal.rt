@@ -4,7 +4,7 @@
 ghost use Rattle.std.specs.Prelude.{◌≡◌, ◌⊎◌, ◌+◌, ◌<◌, ◌≤◌, ◌^◌, ◌++◌, [], ◌∷◌, List, ℕ, length, take, IfOk, IfErr};
 ghost use Rattle.std.specs.Prelude.{◌↔◌, drop, OnOk, IsErrOf, IsTrue, MatchOption, MatchResult};
 ghost use Rattle.std.specs.List.{concat};
-ghost use Rattle.rb_journal.specs.Host.{Cut, IsWritten, LeavesOnly, MayBeCut, Only, Outputs, TornByte};
+ghost use Rattle.rb_journal.specs.Host.{Cut, IsWritten, LeavesOnly, MayBeCut, Only, Outputs, Torn};
 ghost use Rattle.rb_journal.specs.Host.{HasCause, IsDiskError, OutputCause};
 ghost use Rattle.rb_journal.specs.Quiet.{Quiet};
 ghost use Rattle.rb_journal.specs.Lines.{recovered, at_rest, IsBatch, IsDamaged, IsIntact, MayBeBehind};
@@ -105,10 +105,10 @@ impl<H: Host> Journal<H> {
             return Err(HostError::Full);
         }
         batch.push(b' ')?;
-        let staged = stage(&mut self.host, self.end, &batch[1..]);
+        let staged = write_synced(&mut self.host, self.end + 1, &batch[1..]);
         batch.truncate(len);
         staged?;
-        write_byte(&mut self.host, self.end, b'{')?;
+        write_synced(&mut self.host, self.end, &[b'{'])?;
         self.end += len;
         Ok(())
     }
@@ -142,23 +142,6 @@ impl<H: Host> Journal<H> {
         self.append(batch)?;
         put_out_all(&mut self.host, reply)
     }
-}
-
-// Writes what follows a batch's first byte, its closed gate too, after the closed gate that is there.
-fn stage<H: Host>(host: &mut H, end: usize, rest: &[u8]) -> Result<(), HostError>
-    requires usable { H.is_usable host.old }
-    requires rest { H.content host.old ≡ at_rest (recovered (H.content host.old)) }
-    requires end { end ≡ length (concat (recovered (H.content host.old))) }
-    requires durable { Only (H.content host.old) (H.may_leave host.old) }
-    requires fits { end < 2 ^ 62 }
-
-    ensures quiet { Quiet H.Host (HasClosedGate (recovered (H.content host.old)) (length rest.now)) host.old host.new
-        result }
-    ensures staged { OnOk result (H.content host.new ≡ concat (recovered (H.content host.old)) ++ 32 ∷ rest.now) }
-    ensures durable { OnOk result (Only (H.content host.new) (H.may_leave host.new)) }
-{
-    host.write_at(end + 1, rest)?;
-    host.sync()
 }
 
 // Puts out all of the bytes.
@@ -221,17 +204,18 @@ fn cut_off<H: Host>(host: &mut H, lines: u64, end: usize, rest: &[u8]) -> Result
     host.sync()
 }
 
-/// Writes one byte, and waits until it is on the disk.
-pub(crate) fn write_byte<H: Host>(host: &mut H, at: usize, byte: u8) -> Result<(), HostError>
+/// Writes bytes, and waits until they are on the disk.
+#[tactic(auto, using(crate::proofs::Crash::torn_not))]
+pub(crate) fn write_synced<H: Host>(host: &mut H, at: usize, bytes: &[u8]) -> Result<(), HostError>
     requires usable { H.is_usable host.old }
     requires place { at ≤ length (H.content host.old) }
-    ensures quiet { Quiet H.Host (λ c. (d : List ℕ) × H.may_leave host.old d × TornByte at byte d c) host.old host.new
+    ensures quiet { Quiet H.Host (λ c. (d : List ℕ) × H.may_leave host.old d × Torn at bytes.now d c) host.old host.new
         result }
-    ensures written { OnOk result (IsWritten (H.content host.old) at (byte ∷ []) (H.content host.new)) }
+    ensures written { OnOk result (IsWritten (H.content host.old) at bytes.now (H.content host.new)) }
     ensures durable { OnOk result (Only (H.content host.new) (H.may_leave host.new)) }
     ensures kept { H.kept host.new ≡ H.kept host.old }
 {
-    host.write_at(at, &[byte])?;
+    host.write_at(at, bytes)?;
     host.sync()
 }
 
@@ -251,7 +235,7 @@ fn repair<H: Host>(host: &mut H, bytes: &[u8], lines: u64, end: usize) -> Result
     host.write_again(bytes)?;
     cut_off(host, lines, end, &bytes[end..])?;
     // The cut has to be on the disk first: after a gate that is torn open, what was there would count.
-    write_byte(host, end, b' ')
+    write_synced(host, end, &[b' '])
 }
 
 // The number of lines in these bytes of a file, and their end, in bytes from its start.

@@ -6,7 +6,7 @@ ghost use Rattle.rb_journal.specs.Host.{IsDiskError, LeavesOnly, Only};
 ghost use Rattle.rb_journal.specs.Lines.{recovered, sealed, IsSealed};
 ghost use Rattle.rb_journal.specs.Journal.{IsSealedOrNot, IsSettled};
 
-use crate::journal::write_byte;
+use crate::journal::write_synced;
 use crate::{Host, HostError, Journal, end_of_lines};
 
 /// Whether a file of these bytes is sealed: lines, and after them the seal and nothing else.
@@ -42,7 +42,7 @@ impl<H: Host> Journal<H> {
             (λ e. IsDiskError (H.faults self.host) (H.faults e.1) e.0) }
     {
         let Journal { mut host, end } = self;
-        match write_byte(&mut host, end, b'\t') {
+        match write_synced(&mut host, end, &[b'\t']) {
             Ok(()) => Ok(host),
             Err(error) => Err((error, host)),
         }

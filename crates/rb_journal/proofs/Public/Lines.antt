@@ -1,9 +1,11 @@
 -- The lines of bytes that are joined, cut or begun.
 use Rattle.std.proofs.Common.{◌≡◌, ℕ, zero, suc, ◌<◌, true, false, List, [], ◌∷◌, ◌++◌, length, get_or, take, drop, take_while, inl, inr}
-use Rattle.std.proofs.Common.{refl, sym, ◌∙◌, ap, subst, append_assoc, arith}
-use Rattle.std.specs.List.{concat}
+use Rattle.std.proofs.Common.{refl, sym, ◌∙◌, ap, subst, append_assoc, take-append-drop, arith}
+use Rattle.std.specs.Prelude.{◌≢◌, All}
+use Rattle.std.specs.List.{concat, prefix_len}
 use Rattle.std.proofs.lemmas.Bool.{cases_eq, cases_Bool, cond-true, cond-false, eq-eqb, ne_eqb}
 use Rattle.std.proofs.lemmas.List.{append-nil, append_cancel_left}
+use Rattle.std.proofs.lemmas.List.Elements.{All-cons, All-take}
 use Rattle.std.proofs.lemmas.List.Folds.{concat-append}
 use Rattle.std.proofs.lemmas.List.Sums.{take_while-cons}
 use Rattle.rb_journal.specs.Lines.{joined, lines_in, is_open, recovered, IsBatch, IsLine}
@@ -108,15 +110,9 @@ whole_front (b ∷ bytes) = elim (cases_eq b 10) [
 ]
 
 open_front : (lines : List (List ℕ)) → (end : List ℕ) × (concat lines ≡ concat (take_while is_open lines) ++ end)
-open_front [] = ([], refl)
-open_front (line ∷ lines) = elim (cases_Bool (is_open line)) [
-  | inl is ↦ (
-    (open_front lines).0,
-    ap (λ (l : List ℕ). line ++ l) (open_front lines).1 ∙ sym (append_assoc line (concat (take_while is_open lines)) (open_front lines).0)
-        ∙ ap (λ (ls : List (List ℕ)). concat ls ++ (open_front lines).0) (sym (open-true line lines is)),
-  )
-  | inr is ↦ (concat (line ∷ lines), ap (λ (ls : List (List ℕ)). concat ls ++ concat (line ∷ lines)) (sym (open-false line lines is)))
-]
+open_front lines =
+    let n = prefix_len is_open lines in
+    (concat (drop n lines), ap concat (sym (take-append-drop n lines)) ∙ concat-append (take n lines) (drop n lines))
 
 -- a file is its lines, and an end that is read as nothing
 pub record Parts (file : List ℕ) : Type 0 where
@@ -135,44 +131,6 @@ parts file =
     let twice : recovered file ++ [] ≡ recovered file ++ recovered end =
     append-nil (recovered file) ∙ ap recovered split ∙ recovered-append file end in
     record { end = end; split = split; nothing = sym (append_cancel_left (recovered file) [] (recovered end) twice) }
-
--- the first line of a prefix of bytes is the first of all, if there is one
-abbrev SameFirst : List (List ℕ) → List (List ℕ) → Type 0
-SameFirst [] all = Unit {0}
-SameFirst (line ∷ lines) [] = ⊥
-SameFirst (line ∷ lines) (other ∷ others) = line ≡ other
-
-same_joined : (b : ℕ) (some all : List (List ℕ)) → SameFirst some all → SameFirst (joined b some) (joined b all)
-same_joined b [] all same = tt
-same_joined b (line ∷ lines) [] same = absurd same
-same_joined b (line ∷ lines) (other ∷ others) same = ap (λ (l : List ℕ). b ∷ l) same
-
-same_first : (n : ℕ) (bytes : List ℕ) → SameFirst (lines_in (take n bytes)) (lines_in bytes)
-same_first zero bytes = tt
-same_first (suc n) [] = tt
-same_first (suc n) (b ∷ bytes) = elim (cases_eq b 10) [
-  | inl is ↦
-      let P : List (List ℕ) → Type 0 = λ some. SameFirst some (lines_in (b ∷ bytes)) in
-      let Q : List (List ℕ) → Type 0 = λ all. SameFirst ((10 ∷ []) ∷ lines_in (take n bytes)) all in
-      subst P (sym (whole-lf b (take n bytes) is)) (subst Q (sym (whole-lf b bytes is)) refl)
-  | inr other ↦
-      let P : List (List ℕ) → Type 0 = λ some. SameFirst some (lines_in (b ∷ bytes)) in
-      let Q : List (List ℕ) → Type 0 = λ all. SameFirst (joined b (lines_in (take n bytes))) all in
-      subst P (sym (whole-other b (take n bytes) other)) (subst Q (sym (whole-other b bytes other))
-      (same_joined b (lines_in (take n bytes)) (lines_in bytes) (same_first n bytes)))
-]
-
-none_open : (some all : List (List ℕ)) → SameFirst some all → take_while is_open all ≡ [] → take_while is_open some ≡ []
-none_open [] all same none = refl
-none_open (line ∷ lines) [] same none = absurd same
-none_open (line ∷ lines) (other ∷ others) same none = elim (cases_Bool (is_open other)) [
-  | inl is ↦ let some : other ∷ take_while is_open others ≡ [] = sym (open-true other others is) ∙ none in absurd (cc (some))
-  | inr is ↦ open-false line lines (ap is_open same ∙ is)
-]
-
--- nor is a prefix of such an end read as anything
-pub front_nothing : (n : ℕ) (end : List ℕ) → recovered end ≡ [] → recovered (take n end) ≡ []
-front_nothing n end none = none_open (lines_in (take n end)) (lines_in end) (same_first n end) none
 
 closed_joined : (b : ℕ) (lines : List (List ℕ)) → (b ≡ 123 → ⊥) → take_while is_open (joined b lines) ≡ []
 closed_joined b [] shut = refl
@@ -226,6 +184,43 @@ no_line [] others = refl
 no_line (b ∷ bytes) others =
     whole-other b bytes (others 0 (omega arith)) ∙ ap (λ (ls : List (List ℕ)). joined b ls)
     (no_line bytes (λ k below. others (suc k) (omega arith)))
+
+none_joined : (b : ℕ) (lines : List (List ℕ)) → joined b lines ≡ [] → lines ≡ []
+none_joined b [] none = refl
+none_joined b (line ∷ lines) none = absurd (cc (none))
+
+-- bytes without a whole line have no LF
+no_lf : (bytes : List ℕ) → lines_in bytes ≡ [] → All (λ c. c ≢ 10) bytes
+no_lf [] none = λ k d within. absurd (omega arith)
+no_lf (b ∷ bytes) none = elim (cases_eq b 10) [
+  | inl is ↦ let some : (10 ∷ []) ∷ lines_in bytes ≡ [] = sym (whole-lf b bytes is) ∙ none in absurd (cc (some))
+  | inr other ↦ All-cons (λ c. c ≢ 10) b bytes other
+      (no_lf bytes (none_joined b (lines_in bytes) (sym (whole-other b bytes other) ∙ none)))
+]
+
+not_whole : (b : ℕ) (lines : List (List ℕ)) → b ≡ 123 → take_while is_open (joined b lines) ≡ [] → lines ≡ []
+not_whole b [] is none = refl
+not_whole b (line ∷ lines) is none =
+    let some : (b ∷ line) ∷ take_while is_open lines ≡ [] = sym (open-true (b ∷ line) lines (eq-eqb b 123 is)) ∙ none in
+    absurd (cc (some))
+
+-- `{` behind the lines begins a line that isn't whole
+pub front_of_line : (b : ℕ) (bytes : List ℕ) → b ≡ 123 → recovered (b ∷ bytes) ≡ [] → All (λ c. c ≢ 10) bytes
+front_of_line b bytes is none =
+    let other : b ≡ 10 → ⊥ = λ lf. absurd (omega (arith, lf, is)) in
+    no_lf bytes (not_whole b (lines_in bytes) is (ap (λ ls. take_while is_open ls) (sym (whole-other b bytes other)) ∙ none))
+
+-- a prefix of bytes that are read as nothing is read as nothing
+pub front_nothing : (n : ℕ) (end : List ℕ) → recovered end ≡ [] → recovered (take n end) ≡ []
+front_nothing zero end none = refl
+front_nothing (suc n) [] none = refl
+front_nothing (suc n) (b ∷ bytes) none = elim (cases_eq b 123) [
+  | inl is ↦
+      let one = All-take (λ c. c ≢ 10) n bytes (front_of_line b bytes is none) in
+      ap (λ (ls : List (List ℕ)). take_while is_open ls) (whole-other b (take n bytes) (λ lf. absurd (omega (arith, lf, is)))
+      ∙ ap (λ (ls : List (List ℕ)). joined b ls) (no_line (take n bytes) (λ k below. one k 0 below)))
+  | inr shut ↦ closed b (take n bytes) shut
+]
 
 one_whole : (line : List ℕ) → ((k : ℕ) → k < length line → get_or line k 0 ≡ 10 → ⊥) →
     lines_in (line ++ 10 ∷ []) ≡ (line ++ 10 ∷ []) ∷ []

@@ -1,12 +1,12 @@
 -- Files that are sealed.
-use Rattle.std.proofs.Common.{◌≡◌, ◌⊎◌, ◌+◌, inl, inr, ℕ, List, [], ◌∷◌, ◌++◌, length, drop, refl, ◌∙◌, ap, subst, arith}
+use Rattle.std.proofs.Common.{◌≡◌, ◌⊎◌, ⊎_elim, inl, inr, ℕ, List, [], ◌∷◌, ◌++◌, length, drop, refl, sym, ◌∙◌, ap, subst, arith}
 use Rattle.std.specs.List.{concat}
-use Rattle.std.proofs.lemmas.List.{append-nil, drop_all, drop_at, take_all, take_at}
+use Rattle.std.proofs.lemmas.List.{append-nil, drop_at, take_all}
 use Rattle.rb_journal.specs.Host.{IsWritten, TornByte}
 use Rattle.rb_journal.specs.Journal.{IsRepaired}
 use Rattle.rb_journal.specs.Lines.{at_rest, recovered, sealed, behind_lines, IsIntact, IsSealed, MayBeBehind}
 use Rattle.rb_journal.proofs.Public.Lines.{recovered-append, short_nothing}
-use Rattle.rb_journal.proofs.Crash.{fits, length-at_rest}
+use Rattle.rb_journal.proofs.Crash.{fits, over_byte, torn_over}
 
 -- a sealed file is read as its lines
 pub sealed_is : (file : List ℕ) → recovered (sealed (recovered file)) ≡ recovered file
@@ -18,22 +18,13 @@ sealed_is file =
 pub sealed_at : (file c : List ℕ) (at : ℕ) → file ≡ at_rest (recovered file) → at ≡ length (concat (recovered file))
     → IsWritten file at (9 ∷ []) c → c ≡ sealed (recovered file)
 sealed_at file c at rest is written =
-    let text : List ℕ = concat (recovered file) in
-    let holds = subst (λ (l : List ℕ). IsWritten l (length text) (9 ∷ []) c) rest
-    (subst (λ (n : ℕ). IsWritten file n (9 ∷ []) c) is written) in
-    let old : List ℕ = at_rest (recovered file) in
-    holds ∙ ap (λ (l : List ℕ). (l ++ 9 ∷ []) ++ drop (length text + 1) old) (take_at text (32 ∷ []) (length text) refl)
-    ∙ ap (λ (l : List ℕ). (text ++ 9 ∷ []) ++ l) (drop_all (length text + 1) old (omega (arith, length-at_rest file)))
-    ∙ append-nil (text ++ 9 ∷ [])
+    over_byte (concat (recovered file)) [] at 32 9 (sym is) c (subst (λ (l : List ℕ). IsWritten l at (9 ∷ []) c) rest written)
 
 -- a crash while it is written leaves it there, or the file as it was
 pub torn_seal : (file d c : List ℕ) (at : ℕ) → file ≡ at_rest (recovered file) → at ≡ length (concat (recovered file)) → d ≡ file
     → TornByte at 9 d c → (c ≡ file) ⊎ (c ≡ sealed (recovered file))
-torn_seal file d c at rest is same (inl kept) = inl (kept ∙ same)
-torn_seal file d c at rest is same (inr (inl written)) =
-    inr (sealed_at file c at rest is (subst (λ (l : List ℕ). IsWritten l at (9 ∷ []) c) same written))
-torn_seal file d c at rest is same (inr (inr (end, nul))) =
-    absurd (omega (arith, is, end, ap length same, ap length rest, length-at_rest file))
+torn_seal file d c at rest is same torn = ⊎_elim (λ was. inl (was ∙ sym rest)) inr
+    (torn_over (concat (recovered file)) [] at 32 9 (sym is) c (subst (λ (l : List ℕ). TornByte at 9 l c) (same ∙ rest) torn))
 
 -- the seal is what is behind its lines
 seal_behind : (file : List ℕ) → IsSealed file → behind_lines file ≡ 9 ∷ []

@@ -1,35 +1,29 @@
 use Rattle.std.proofs.Common.{◌≡◌, ℕ, List, [], ◌∷◌, ◌++◌, length, take, inl, sym, ◌∙◌, ap, subst, arith, rules}
 use Rattle.std.specs.Prelude.{Err}
 use Rattle.std.specs.List.{concat}
-use Rattle.std.proofs.lemmas.List.{take_all}
 use Rattle.std.proofs.lemmas.Result.{on_ok_weaker}
-use Rattle.rb_journal.specs.Host.{Cut, TornByte}
+use Rattle.rb_journal.specs.Host.{Cut}
 use Rattle.rb_journal.specs.Journal.{IsRepaired}
 use Rattle.rb_journal.specs.Lines.{recovered}
 use Rattle.rb_journal.specs.Quiet.{Quiet}
-use Rattle.rb_journal.proofs.Crash.{cut_done, fits, torn_end, written_at_end}
+use Rattle.rb_journal.proofs.Crash.{cut_done, torn_end, written_at_end}
+use Rattle.rb_journal.proofs.Public.Seals.{untouched}
 use Rattle.rb_journal.proofs.Quiet.{one_call, stopped, then_on}
 use Rattle.rb_journal.proofs.journal.repair.Given.{Over}
 use Rattle.rb_journal.proofs.journal.repair.Goals.{After-write_again, After-cut_off, In_ok-cut_off}
 use Rattle.rb_journal.proofs.journal.repair.Goals as goal
-
--- a file of which nothing is cut yet
-untouched : (file c : List ℕ) → c ≡ file → IsRepaired file c
-untouched file c same = inl (record {
-  no_shorter = omega (arith, ap length same, fits file);
-  front = ap (λ (n : ℕ). take n file) (ap length same) ∙ take_all (length file) file (omega arith) ∙ sym same;
-})
 
 -- the bytes are written again
 again : (g : Over) (c : goal.After-write_again g)
     → Quiet g.H.Host (IsRepaired c.args.bytes.now) c.args.host.now c.write_again.new.self c.write_again.result
 again g c =
     let bytes = c.args.bytes.now in
+    let here : (f : List ℕ) → f ≡ g.H.Host.content c.args.host.now → IsRepaired bytes f =
+    λ f is. subst (IsRepaired bytes) (sym (is ∙ sym c.requires.bytes)) (untouched bytes) in
     one_call (λ f. f ≡ g.H.Host.content c.args.host.now)
-    (λ f d left. let now = g.met.H.Host.only_now c.args.host.now f d left in
-    (untouched bytes f (c.requires.durable now.0 f now.1 ∙ sym c.requires.bytes), now.2))
-    c.write_again.ensures.time (λ f at. untouched bytes f (at ∙ sym c.requires.bytes)) c.write_again.ensures.usable
-    c.write_again.ensures.output c.write_again.ensures.reported c.write_again.ensures.cause
+    (λ f d left. let now = g.met.H.Host.only_now c.args.host.now f d left in (here f (c.requires.durable now.0 f now.1), now.2))
+    c.write_again.ensures.time here c.write_again.ensures.usable c.write_again.ensures.output c.write_again.ensures.reported
+    c.write_again.ensures.cause
 
 -- then the end is cut off
 cut : (g : Over) (c : goal.After-cut_off g)
@@ -45,9 +39,9 @@ is_cut g c =
     c.in_ok-cut_off.ensures.cut ∙ ap (λ (f : List ℕ). take c.args.end f) (c.write_again.ensures.content ∙ sym c.requires.bytes)
     ∙ ap (λ (n : ℕ). take n c.args.bytes.now) c.requires.end ∙ cut_done c.args.bytes.now
 
-pub write_byte-requires-clause-place : goal.write_byte-requires-clause-place
-write_byte-requires-clause-place g c =
-    omega (arith, c.requires.end, ap length (is_cut g (goal.at.write_byte-requires-clause-place g c).In_ok-cut_off))
+pub write_synced-requires-clause-place : goal.write_synced-requires-clause-place
+write_synced-requires-clause-place g c =
+    omega (arith, c.requires.end, ap length (is_cut g (goal.at.write_synced-requires-clause-place g c).In_ok-cut_off))
 
 pub returns-in_err-write_again-clause-quiet : goal.returns-in_err-write_again-clause-quiet
 returns-in_err-write_again-clause-quiet g c =
@@ -64,15 +58,13 @@ returns-in_err-cut_off-clause-quiet g c =
 pub returns-clause-quiet : goal.returns-clause-quiet
 returns-clause-quiet g c =
     let at = goal.at.returns-clause-quiet g c in
-    let bytes = c.args.bytes.now in
-    then_on (cut g at.After-cut_off) c.write_byte.ensures.quiet
-    (λ f from. torn_end bytes f (subst (λ (n : ℕ). TornByte n 32 (concat (recovered bytes)) f) c.requires.end
-    (subst (λ (d : List ℕ). TornByte c.args.end 32 d f)
-    (c.in_ok-cut_off.ensures.durable from.0 from.1 ∙ is_cut g at.In_ok-cut_off) from.2)))
+    then_on (cut g at.After-cut_off) c.write_synced.ensures.quiet
+    (λ f from. torn_end c.args.bytes.now _ from.0 f c.requires.end
+    (c.in_ok-cut_off.ensures.durable from.0 from.1 ∙ is_cut g at.In_ok-cut_off) from.2)
 
 pub returns-clause-at_rest : goal.returns-clause-at_rest
 returns-clause-at_rest g c =
     let is_kept = is_cut g (goal.at.returns-clause-at_rest g c).In_ok-cut_off in
-    on_ok_weaker c.write_byte.result
+    on_ok_weaker c.write_synced.result
     (λ written. written_at_end _ _ _ _ (c.requires.end ∙ sym (ap length is_kept)) written ∙ ap (λ (l : List ℕ). l ++ 32 ∷ []) is_kept)
-    c.write_byte.ensures.written
+    c.write_synced.ensures.written
