@@ -34,24 +34,19 @@ first_of_taken first turns p q e taken (Some r) is end answered =
 
 -- at each moment of a commit there are the turns before it, or those of the batch too
 pub durable_is_run : {S : Type 0} (answers : Answers S) (e : Bool) (p q : Point S) (rest : Option (List ℕ))
-    (batch output reply c d : List ℕ)
-    → AdvancesByBatch answers e p q
-    → (e ≡ true → IsAtEnd rest) → q.lines ≡ p.lines ++ recovered batch → p.text ≡ [] → q.text ≡ reply
+    (batch output reply c d : List ℕ) (a : AdvancesByBatch answers e p q)
+    → (e ≡ true → IsAtEnd rest) → q.lines ≡ p.lines ++ recovered batch → reply ≡ texts a.0.turns
     → IsDurable p.lines (recovered batch) output reply c d
     → IsRunOfBatches answers p.number (served_input p.pending rest) p.state p.lines output c d
-durable_is_run answers e p q rest batch output reply c d (a, one) end lines none text (inl at) =
+durable_is_run answers e p q rest batch output reply c d (a, one) end lines text (inl at) =
     run_start answers p.number _ p.state p.lines output c d at.0 at.1
-durable_is_run answers e p q rest batch output reply c d (a, one) end lines none text (inr at) = record {
+durable_is_run answers e p q rest batch output reply c d (a, one) end lines text (inr at) = record {
   done = [];
   batch = a.turns;
   are = a.are;
   in_order = first_of_taken p.number a.turns p.pending q.pending e a.taken rest a.taken_is end a.answered;
   lines_are = at.0 ∙ sym lines ∙ a.lines_are;
-  output_is = (
-    at.1.0,
-    at.1.1 ∙ ap (λ l. output ++ take at.1.0 l) (sym text ∙ a.text_is ∙ ap (λ l. l ++ texts a.turns) none)
-        ∙ ap (λ l. l ++ take at.1.0 (texts a.turns)) (sym (append-nil output)),
-  );
+  output_is = (at.1.0, at.1.1 ∙ rw (text, append-nil output) refl);
   one_batch = one;
 }
 

@@ -4,7 +4,7 @@ use Rattle.std.specs.Io.KnownBytes.{Consumes, IsAtEnd}
 use Rattle.rb_lines.specs.Buffers.{Counts, IsWholeLine, left}
 use Rattle.rb_lines.specs.Lines.{line_len, lines_of, whole_lines}
 use Rattle.rb_lines.specs.declared.buffers.Buffers.{Buffers}
-use Rattle.rb_lines.specs.declared.limits.TheConstants.{LINE_LIMIT}
+use Rattle.rb_lines.specs.declared.limits.TheConstants.{LINE_LIMIT, MOST_READS}
 use Rattle.rb_journal.specs.Lines.{recovered}
 use Rattle.rb_journal.specs.Run.{IsRunOfBatches, served_input}
 use Rattle.rb_journal.specs.Turns.{Answers, AreTurns, IsOneBatch, Turn, lines_added, lines_answered, state_after, texts}
@@ -37,21 +37,18 @@ point_of state lines text work pending = record {
   count = work.count;
 }
 
+-- within a batch: the text of what was answered is still in the buffers
+abbrev pub point_in : {S : Type 0} → S → List (List ℕ) → Buffers → Work → Point S
+point_in state lines buffers work = point_of state lines buffers.buffered.items work buffers.pending
+
 -- between two batches: what was answered is in the journal, and its text is put out
-abbrev pub point_at : {R H : Type 0} → (r : Responders R) → Hosts H → R → Journal H → Work → List ℕ → Point r.State
-point_at r h responder journal work pending =
-    point_of (r.state responder) (recovered (h.content journal.host)) (h.output journal.host) work pending
+abbrev pub point_at : {R H : Type 0} → (r : Responders R) → Hosts H → R → Journal H → Work → Buffers → Point r.State
+point_at r h responder journal work buffers =
+    point_of (r.state responder) (recovered (h.content journal.host)) (h.output journal.host) work buffers.pending
 
 -- what was answered is the same, and these bytes wait
 abbrev pub waits : {S : Type 0} → Point S → List ℕ → Point S
-waits p pending = record {
-  state = p.state;
-  lines = p.lines;
-  text = p.text;
-  pending = pending;
-  number = p.number;
-  count = p.count;
-}
+waits p pending = record p { pending = pending }
 
 -- and now more bytes, behind those that waited
 abbrev pub longer : {S : Type 0} → Point S → List ℕ → Point S
@@ -107,12 +104,18 @@ pub record DropsLine (old new : Buffers) (had has : Option (List ℕ)) : Type 0 
       ⊎ ((line_len (old.pending ++ more) ≡ length (old.pending ++ more)) × (new.ended ≡ true))
   pub left : new.pending ≡ drop (line_len (old.pending ++ more) + 1) (old.pending ++ more)
 
--- what waited and what was read behind it is the front of one line, and the input hasn't ended
-pub record ReadsOn (old new : Buffers) (had has : Option (List ℕ)) : Type 0 where
+-- the reader may be read from while what waits and what is read behind it is the front of one line
+abbrev pub MayReadOn : {I : Type 0} → Ghosts I → Buffers → I → List ℕ → Type 0
+MayReadOn i buffers reader said = (more : List ℕ) (left : Option (List ℕ)) → Consumes (i.remaining reader) left more
+    → buffers.ended ≡ false → line_len (buffers.pending ++ more) ≡ length (buffers.pending ++ more) → i.may_read reader left said
+
+-- a read failed, or there were as many as there may be: what came is the front of one line, and the input hasn't ended
+pub record ReadsOn {I : Type 0} (i : Ghosts I) (old new : Buffers) (was is : I) : Type 0 where
   pub more : List ℕ
-  pub read : Consumes had has more
+  pub read : Consumes (i.remaining was) (i.remaining is) more
   pub one : line_len (old.pending ++ more) ≡ length (old.pending ++ more)
   pub going : new.ended ≡ false
+  pub why : (i.failed is ≡ true) ⊎ (i.calls is ≡ MOST_READS)
 
 -- what the reader may be asked is as before, each of its reads is counted, and an input that had ended still has
 pub record ReadsAsBefore {I : Type 0} (i : Ghosts I) (old new : Buffers) (was is : I) : Type 0 where

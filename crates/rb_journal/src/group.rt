@@ -39,15 +39,15 @@ pub fn answer_group<R: JournaledResponder, H: Host>(
     ensures settled { OnOk result (IsSettled H.is_usable H.content H.may_leave journal.new) }
     ensures same { OnOk result (R.lines (R.state responder.new) ≡ recovered (H.content journal.new.host)) }
     ensures answered { OnOk result (Advances R.answers buffers.old.ended
-        (point_at R.JournaledResponder H.Host responder.old journal.old work.old buffers.old.pending)
-        (point_at R.JournaledResponder H.Host responder.new journal.new work.new buffers.new.pending)) }
+        (point_at R.JournaledResponder H.Host responder.old journal.old work.old buffers.old)
+        (point_at R.JournaledResponder H.Host responder.new journal.new work.new buffers.new)) }
     ensures waiting { IfOk result (IsWaiting buffers.new) }
     ensures fewer { (n : ℕ) → result ≡ Ok (Line n) → length buffers.new.pending < length buffers.old.pending }
 
     // A crash leaves a run over these lines, whatever is read after them, and only one batch isn't put out yet.
     ensures any_moment { (left : Option (List ℕ)) → (buffers.old.ended ≡ true → IsAtEnd left)
         → LeavesOnly H.moment H.left_since journal.old.host journal.new.host (IsRunFrom R.answers
-        (point_at R.JournaledResponder H.Host responder.old journal.old work.old buffers.old.pending) left) }
+        (point_at R.JournaledResponder H.Host responder.old journal.old work.old buffers.old) left) }
     ensures intact { LeavesOnly H.moment H.left_since journal.old.host journal.new.host (λ c _. IsIntact c) }
 
     ensures not_read { result ≡ Err Read → ⊥ }

@@ -1,16 +1,16 @@
 //! A line that is too long: its bytes are dropped as they come, and it is answered by its number alone.
-ghost use Rattle.std.specs.Prelude.{◌≡◌, ◌+◌, ◌^◌, ◌<◌, ◌≤◌, ◌⊎◌, ◌++◌, List, ℕ, Option, [], false, true, Err, length};
-ghost use Rattle.std.specs.Prelude.{OnOk};
-ghost use Rattle.std.specs.Io.KnownBytes.{Consumes, IsAtEnd};
+ghost use Rattle.std.specs.Prelude.{◌≡◌, ◌+◌, ◌^◌, ◌<◌, ◌≤◌, ◌⊎◌, [], true, Err, OnOk};
+ghost use Rattle.std.specs.Io.KnownBytes.{IsAtEnd};
 ghost use Rattle.rb_lines.specs.Buffers.{Counts, left};
 ghost use Rattle.rb_lines.specs.Lines.{line_len};
-ghost use Rattle.rb_lines.specs.declared.limits.TheConstants.{LINE_LIMIT, MOST_READS};
+ghost use Rattle.rb_lines.specs.declared.limits.TheConstants.{LINE_LIMIT};
 ghost use Rattle.rb_journal.specs.Ends.{EndsAtRest, IsFull};
 ghost use Rattle.rb_journal.specs.Host.{LeavesOnly};
 ghost use Rattle.rb_journal.specs.Journal.{IsSettled};
 ghost use Rattle.rb_journal.specs.Lines.{IsIntact, recovered};
 ghost use Rattle.rb_journal.specs.Run.{served_input};
-ghost use Rattle.rb_journal.specs.Steps.{DropsLine, Goes, IsNext, IsRunFrom, ReadsAsBefore, ReadsOn, point_at};
+ghost use Rattle.rb_journal.specs.Steps.{DropsLine, Goes, IsNext, IsRunFrom, MayReadOn, ReadsAsBefore, ReadsOn};
+ghost use Rattle.rb_journal.specs.Steps.{point_at};
 ghost use Rattle.rb_journal.specs.declared.fault.ServeFault.TheVariants.{Journal as JournalFailed, Read, Write};
 
 use crate::fault::ServeFault;
@@ -33,24 +33,16 @@ fn drop_line<I: Input, H: Host>(
     requires counted { Counts (I.calls reader.old) buffers.old.reads }
     requires end { buffers.old.ended ≡ true → IsAtEnd (I.remaining reader.old) }
     requires nothing_buffered { buffers.old.buffered.items ≡ [] }
-    // It may read while what came is the front of that one line.
-    requires order { (more : List ℕ) (left : Option (List ℕ)) → Consumes (I.remaining reader.old) left more
-        → buffers.old.ended ≡ false → line_len (buffers.old.pending ++ more) ≡ length (buffers.old.pending ++ more)
-        → I.may_read reader.old left (H.output host.now) }
+    requires order { MayReadOn I.Input buffers.old reader.old (H.output host.now) }
     ensures dropped { OnOk result (DropsLine buffers.old buffers.new (I.remaining reader.old)
         (I.remaining reader.new)) }
-    ensures stopped { result ≡ Err Read
-        → ReadsOn buffers.old buffers.new (I.remaining reader.old) (I.remaining reader.new)
-        × ((I.failed reader.new ≡ true) ⊎ (I.calls reader.new ≡ MOST_READS)) }
-    ensures order { (left : Option (List ℕ)) (said : List ℕ) → I.may_read reader.old left said
-        → I.may_read reader.new left said }
+    ensures stopped { result ≡ Err Read → ReadsOn I.Input buffers.old buffers.new reader.old reader.new }
+    ensures goes_on { ReadsAsBefore I.Input buffers.old buffers.new reader.old reader.new }
     ensures not_write { result ≡ Err Write → ⊥ }
     ensures not_journal { result ≡ Err JournalFailed → ⊥ }
-    ensures counted { Counts (I.calls reader.new) buffers.new.reads }
     ensures fewer { OnOk result (buffers.new.reads ≤ buffers.old.reads) }
     ensures left { OnOk result (left buffers.new + line_len buffers.old.pending ≤ left buffers.old) }
     ensures buffered { buffers.new.buffered.items ≡ [] }
-    ensures was_going { buffers.new.ended ≡ false → buffers.old.ended ≡ false }
     ensures end { OnOk result (buffers.new.ended ≡ true → IsAtEnd (I.remaining reader.new)) }
 {
     'reads: loop {
@@ -80,27 +72,23 @@ pub fn answer_long_line<R: JournaledResponder, H: Host, I: Input>(
     requires counted { Counts (I.calls reader.old) buffers.old.reads }
     requires end { buffers.old.ended ≡ true → IsAtEnd (I.remaining reader.old) }
     requires long { LINE_LIMIT < line_len buffers.old.pending }
-    requires order { (more : List ℕ) (left : Option (List ℕ)) → Consumes (I.remaining reader.old) left more
-        → buffers.old.ended ≡ false → line_len (buffers.old.pending ++ more) ≡ length (buffers.old.pending ++ more)
-        → I.may_read reader.old left (H.output journal.old.host) }
+    requires order { MayReadOn I.Input buffers.old reader.old (H.output journal.old.host) }
     requires number { work.old.number + 1 < 2 ^ 64 }
 
     ensures settled { EndsAtRest result → IsSettled H.is_usable H.content H.may_leave journal.new }
     ensures same { EndsAtRest result → R.lines (R.state responder.new) ≡ recovered (H.content journal.new.host) }
     // The bytes read come after those that waited, and of both together the first line was answered.
     ensures answered { OnOk result (Goes R.answers buffers.old.ended buffers.new.ended
-        (point_at R.JournaledResponder H.Host responder.old journal.old work.old buffers.old.pending)
-        (point_at R.JournaledResponder H.Host responder.new journal.new work.new buffers.new.pending)
+        (point_at R.JournaledResponder H.Host responder.old journal.old work.old buffers.old)
+        (point_at R.JournaledResponder H.Host responder.new journal.new work.new buffers.new)
         (I.remaining reader.old) (I.remaining reader.new)) }
-    ensures stopped { result ≡ Err Read
-        → ReadsOn buffers.old buffers.new (I.remaining reader.old) (I.remaining reader.new)
-        × ((I.failed reader.new ≡ true) ⊎ (I.calls reader.new ≡ MOST_READS))
+    ensures stopped { result ≡ Err Read → ReadsOn I.Input buffers.old buffers.new reader.old reader.new
         × (R.state responder.new ≡ R.state responder.old) × (journal.new ≡ journal.old) }
 
     // A crash leaves a run over what waited and what was still to be read.
     ensures any_moment { LeavesOnly H.moment H.left_since journal.old.host journal.new.host
         (IsRunFrom R.answers (point_at R.JournaledResponder H.Host responder.old journal.old work.old
-        buffers.old.pending) (I.remaining reader.old)) }
+        buffers.old) (I.remaining reader.old)) }
     ensures intact { LeavesOnly H.moment H.left_since journal.old.host journal.new.host (λ c _. IsIntact c) }
 
     ensures goes_on { ReadsAsBefore I.Input buffers.old buffers.new reader.old reader.new }

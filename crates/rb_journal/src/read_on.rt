@@ -1,9 +1,10 @@
 //! One read more.
-ghost use Rattle.std.specs.Prelude.{◌≡◌, ◌<◌, ◌≤◌, ◌⊎◌, ℕ, List, Option, [], false, true, Err, length, OnOk};
+ghost use Rattle.std.specs.Prelude.{◌≡◌, ◌<◌, ◌≤◌, ◌⊎◌, [], false, true, Err, length, OnOk};
 ghost use Rattle.std.specs.Io.KnownBytes.{IsAtEnd, Keeps};
 ghost use Rattle.rb_lines.specs.Lines.{line_len};
 ghost use Rattle.rb_lines.specs.Buffers.{Counts, Reads, left};
 ghost use Rattle.rb_lines.specs.declared.limits.TheConstants.{MOST_READS};
+ghost use Rattle.rb_journal.specs.Steps.{ReadsAsBefore};
 ghost use Rattle.rb_journal.specs.declared.fault.ServeFault.TheVariants.{Journal, Read, Write};
 
 use crate::fault::ServeFault;
@@ -23,7 +24,7 @@ pub fn read_on<I: Input, H: Host>(
     requires no_line_waits { line_len buffers.old.pending ≡ length buffers.old.pending }
     requires nothing_buffered { buffers.old.buffered.items ≡ [] }
     requires order { I.may_read reader.old (I.remaining reader.old) (H.output host.now) }
-    ensures counted { Counts (I.calls reader.new) buffers.new.reads }
+    ensures goes_on { ReadsAsBefore I.Input buffers.old buffers.new reader.old reader.new }
     ensures fewer { OnOk result (buffers.new.reads < buffers.old.reads) }
     ensures left { OnOk result (left buffers.new ≤ left buffers.old) }
     ensures buffered { buffers.new.buffered ≡ buffers.old.buffered }
@@ -33,8 +34,6 @@ pub fn read_on<I: Input, H: Host>(
     ensures stopped { result ≡ Err Read → (buffers.new.pending ≡ buffers.old.pending) × (buffers.new.ended ≡ false)
         × Keeps (I.remaining reader.old) (I.remaining reader.new)
         × ((I.failed reader.new ≡ true) ⊎ (I.calls reader.new ≡ MOST_READS)) }
-    ensures order { (left : Option (List ℕ)) (said : List ℕ) → I.may_read reader.old left said
-        → I.may_read reader.new left said }
     ensures not_write { result ≡ Err Write → ⊥ }
     ensures not_journal { result ≡ Err Journal → ⊥ }
 {

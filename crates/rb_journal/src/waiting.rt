@@ -4,7 +4,7 @@ ghost use Rattle.std.specs.Prelude.{◌≡◌, ◌+◌, ◌^◌, ◌<◌, ◌≤
 ghost use Rattle.rb_journal.specs.Lines.{recovered};
 ghost use Rattle.rb_lines.specs.Buffers.{IsWholeLine};
 ghost use Rattle.rb_lines.specs.declared.limits.TheConstants.{MOST_BATCHED};
-ghost use Rattle.rb_journal.specs.Steps.{Advances, AdvancesByBatch, IsWaiting, point_of};
+ghost use Rattle.rb_journal.specs.Steps.{Advances, AdvancesByBatch, IsWaiting, point_in};
 ghost use Rattle.rb_journal.specs.declared.waiting.Waiting.TheVariants.{Line};
 
 use crate::responder::JournaledResponder;
@@ -50,19 +50,15 @@ fn answer_next<R: JournaledResponder>(
     requires short_text { length buffers.old.buffered.items ≤ MOST_BATCHED }
     requires number { work.old.number + 1 < 2 ^ 64 }
     ensures answered { OnOk result (Advances R.answers buffers.old.ended
-        (point_of (R.state responder.old) (R.lines (R.state responder.old)) buffers.old.buffered.items work.old
-        buffers.old.pending)
-        (point_of (R.state responder.new) (R.lines (R.state responder.new)) buffers.new.buffered.items work.new
-        buffers.new.pending)) }
+        (point_in (R.state responder.old) (R.lines (R.state responder.old)) buffers.old work.old)
+        (point_in (R.state responder.new) (R.lines (R.state responder.new)) buffers.new work.new)) }
     // All lines that are added are in the batch.
     ensures batch { OnOk result ((before : List (List ℕ))
         → R.lines (R.state responder.old) ≡ before ++ recovered work.old.batch.bytes.items
         → R.lines (R.state responder.new) ≡ before ++ recovered work.new.batch.bytes.items) }
     ensures same { OnErr result ((state : R.State) (lines : List (List ℕ)) →
-        point_of state (lines ++ recovered work.new.batch.bytes.items) buffers.new.buffered.items work.new
-        buffers.new.pending
-        ≡ point_of state (lines ++ recovered work.old.batch.bytes.items) buffers.old.buffered.items work.old
-        buffers.old.pending) }
+        point_in state (lines ++ recovered work.new.batch.bytes.items) buffers.new work.new
+        ≡ point_in state (lines ++ recovered work.old.batch.bytes.items) buffers.old work.old) }
     ensures reads { buffers.new.reads ≡ buffers.old.reads }
     ensures ended { buffers.new.ended ≡ buffers.old.ended }
     ensures number { OnOk result ((work.new.number ≡ work.old.number + 1)
@@ -92,10 +88,9 @@ pub fn answer_waiting<R: JournaledResponder>(
     requires number { work.old.number + length buffers.old.pending < 2 ^ 64 }
     // Of a responder without memory nothing is said: then there is the state before the line that it didn't answer.
     ensures answered { (state : R.State) × AdvancesByBatch R.answers buffers.old.ended
-        (point_of (R.state responder.old) (R.lines (R.state responder.old)) buffers.old.buffered.items work.old
-        buffers.old.pending)
-        (point_of state (R.lines (R.state responder.old) ++ recovered work.new.batch.bytes.items)
-        buffers.new.buffered.items work.new buffers.new.pending) × OnOk result (R.state responder.new ≡ state) }
+        (point_in (R.state responder.old) (R.lines (R.state responder.old)) buffers.old work.old)
+        (point_in state (R.lines (R.state responder.old) ++ recovered work.new.batch.bytes.items) buffers.new work.new)
+        × OnOk result (R.state responder.new ≡ state) }
     ensures responder { OnOk result (R.lines (R.state responder.new)
         ≡ R.lines (R.state responder.old) ++ recovered work.new.batch.bytes.items) }
     ensures waiting { IfOk result (IsWaiting buffers.new) }

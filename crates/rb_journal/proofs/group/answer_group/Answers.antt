@@ -1,11 +1,12 @@
 -- A group of lines is answered and committed.
-use Rattle.std.proofs.Common.{rules, ◌≡◌, ◌++◌, ⊎_elim, inl, inr, Option, Err, refl, ap, sym, subst, ℕ, List, true}
+use Rattle.std.proofs.Common.{rules, ◌≡◌, ◌∙◌, ◌++◌, ⊎_elim, inl, inr, Option, Err, refl, ap, subst, ℕ, List, true}
 use Rattle.std.specs.Io.KnownBytes.{IsAtEnd}
 use Rattle.rb_journal.specs.Host.{LeavesOnly}
-use Rattle.rb_journal.specs.Lines.{IsIntact, recovered}
+use Rattle.rb_journal.specs.Lines.{recovered}
 use Rattle.rb_journal.specs.declared.host.HostError.TheVariants.{DiskFailed, Full}
 use Rattle.rb_journal.specs.Faults.{fault_of_host}
-use Rattle.rb_journal.specs.Steps.{AdvancesByBatch, IsRunFrom, point_at, point_of}
+use Rattle.rb_journal.specs.Steps.{AdvancesByBatch, IsRunFrom, point_at, point_in}
+use Rattle.rb_journal.specs.Turns.{texts}
 use Rattle.rb_journal.specs.declared.fault.ServeFault.TheVariants.{Journal}
 use Rattle.rb_journal.proofs.Public.Moments.{weaker}
 use Rattle.rb_journal.proofs.Runs.{durable_is_run, is_full, journal_cause}
@@ -15,32 +16,31 @@ use Rattle.rb_journal.proofs.group.answer_group.Goals as goal
 
 -- the lines are answered, and what they add waits in the batch
 steps : (g : Over) (c : After-answer_waiting-answered g) → AdvancesByBatch g.R.JournaledResponder.answers c.args.buffers.now.ended
-    (point_of (g.R.JournaledResponder.state c.args.responder.now) (recovered (g.H.Host.content c.args.journal.now.host))
-    c.args.buffers.now.buffered.items c.args.work.now c.args.buffers.now.pending)
-    (point_of c.answer_waiting-answered.ensures.answered.0
-    (recovered (g.H.Host.content c.args.journal.now.host)
-    ++ recovered c.answer_waiting-answered.new.work.batch.bytes.items)
-    c.answer_waiting-answered.new.buffers.buffered.items c.answer_waiting-answered.new.work
-    c.answer_waiting-answered.new.buffers.pending)
+    (point_in (g.R.JournaledResponder.state c.args.responder.now) (recovered (g.H.Host.content c.args.journal.now.host))
+    c.args.buffers.now c.args.work.now)
+    (point_in c.answer_waiting-answered.ensures.answered.0 (recovered (g.H.Host.content c.args.journal.now.host)
+    ++ recovered c.answer_waiting-answered.new.work.batch.bytes.items) c.answer_waiting-answered.new.buffers
+    c.answer_waiting-answered.new.work)
 steps g c =
     let now = c.answer_waiting-answered.new in
-    let old = c.args.buffers.now in
     let begin = g.R.JournaledResponder.state c.args.responder.now in
     let last = c.answer_waiting-answered.ensures.answered.0 in
-    subst (λ ls. AdvancesByBatch g.R.JournaledResponder.answers old.ended (point_of begin ls old.buffered.items c.args.work.now old.pending)
-    (point_of last (ls ++ recovered now.work.batch.bytes.items) now.buffers.buffered.items now.work now.buffers.pending))
+    subst (λ ls. AdvancesByBatch g.R.JournaledResponder.answers c.args.buffers.now.ended
+    (point_in begin ls c.args.buffers.now c.args.work.now)
+    (point_in last (ls ++ recovered now.work.batch.bytes.items) now.buffers now.work))
     c.requires.same c.answer_waiting-answered.ensures.answered.1
 
 -- a crash leaves a run over the lines
 run : (g : Over) (c : After-commit_and_put_out g) (rest : Option (List ℕ)) → (c.args.buffers.now.ended ≡ true → IsAtEnd rest)
     → LeavesOnly g.H.Host.moment g.H.Host.left_since c.args.journal.now.host c.commit_and_put_out.new.self.host
     (IsRunFrom g.R.JournaledResponder.answers (point_at g.R.JournaledResponder g.H.Host c.args.responder.now c.args.journal.now
-    c.args.work.now c.args.buffers.now.pending) rest)
+    c.args.work.now c.args.buffers.now) rest)
 run g c rest end =
     let advances = steps g (goal.at.After-commit_and_put_out g c).After-answer_waiting-answered in
     weaker g.H.Host.moment g.H.Host.left_since _ _ _ _ c.commit_and_put_out.ensures.any_moment
     (λ f d kept. durable_is_run g.R.JournaledResponder.answers _ _ _ rest c.answer_waiting-answered.new.work.batch.bytes.items _
-    c.deref.result.now f d advances end refl c.requires.buffered (sym c.deref.ensures.value) kept)
+    c.deref.result.now f d advances end refl
+    (c.deref.ensures.value ∙ advances.0.text_is ∙ ap (λ l. l ++ texts advances.0.turns) c.requires.buffered) kept)
 
 pub returns-in_err-commit_and_put_out-clause-any_moment : goal.returns-in_err-commit_and_put_out-clause-any_moment
 returns-in_err-commit_and_put_out-clause-any_moment g c =
@@ -65,15 +65,3 @@ returns-in_err-commit_and_put_out-clause-journal g c = λ is.
     (λ (full : error ≡ Full). inr (λ rest end. is_full g.R.JournaledResponder.answers _ _ _ rest batch.bytes.items
     c.args.journal.now.end advances.0 end refl batch.whole c.requires.settled.end (why.full (ap Err full))))
     (journal_cause error journal)
-
--- nor is a damaged file left
-intact : (g : Over) (c : After-commit_and_put_out g) → LeavesOnly g.H.Host.moment g.H.Host.left_since c.args.journal.now.host
-    c.commit_and_put_out.new.self.host (λ f d. IsIntact f)
-intact g c = weaker g.H.Host.moment g.H.Host.left_since _ _ _ _ c.commit_and_put_out.ensures.appended (λ f d at. at.1)
-
-pub returns-in_err-commit_and_put_out-clause-intact : goal.returns-in_err-commit_and_put_out-clause-intact
-returns-in_err-commit_and_put_out-clause-intact g c =
-    intact g (goal.at.returns-in_err-commit_and_put_out-clause-intact g c).After-commit_and_put_out
-
-pub returns-clause-intact : goal.returns-clause-intact
-returns-clause-intact g c = intact g (goal.at.returns-clause-intact g c).After-commit_and_put_out

@@ -78,20 +78,18 @@ reads-preserved g c =
     let mid = g.I.Input.remaining c.reads.reader in
     let has = g.I.Input.remaining c.read_on.new.reader in
     let read = c.in_ok-read_on.ensures in
-    let n : c.first_line-n.result ≡ line_len p = c.first_line-n.ensures.length in
-    let len : length c.as_slice.result.now ≡ length p = ap length (c.as_slice.ensures ∙ c.first_line-n.ensures.same) in
-    let all : line_len p ≡ length p = omega (arith, n, len, c.first_line-n.ensures.within, c.if-whole.false) in
+    let all : line_len p ≡ length p = omega (arith, ap length (c.as_slice.ensures ∙ c.first_line-n.ensures.same)) in
     let now : c.skip_line.new.self.pending ≡ drop (c.first_line-n.result + 1) p = search rules in
     let reads : c.skip_line.new.self.reads ≡ c.reads.buffers.reads = search rules in
     let going : c.reads.buffers.ended ≡ false = search rules in
-    let none : c.skip_line.new.self.pending ≡ [] = now ∙ drop_of_length-le p (omega (arith, n, all)) in
+    let none : c.skip_line.new.self.pending ≡ [] = now ∙ drop_of_length-le p (omega (arith, c.first_line-n.ensures.length, all)) in
     let more = dropped_more old p c.read_on.new.buffers.pending had mid has inv.dropped.0 all
     (subst (λ l. Reads l c.read_on.new.buffers.pending mid has) none read.read) in
     record {
-      counted = c.read_on.ensures.counted;
+      counted = c.read_on.ensures.goes_on.counted;
       buffered = search rules;
       end = read.end;
-      order = λ left said may. c.read_on.ensures.order left said (inv.order left said may);
+      order = λ left said may. c.read_on.ensures.goes_on.order left said (inv.order left said may);
       fewer = omega (arith, read.fewer, reads, inv.fewer);
       dropped = (
         more.0,
@@ -108,14 +106,12 @@ returns-in_err-read_on-clause-stopped g c = λ is.
     let had = g.I.Input.remaining c.args.reader.now in
     let mid = g.I.Input.remaining c.reads.reader in
     let has = g.I.Input.remaining c.read_on.new.reader in
-    let n : c.first_line-n.result ≡ line_len p = c.first_line-n.ensures.length in
-    let len : length c.as_slice.result.now ≡ length p = ap length (c.as_slice.ensures ∙ c.first_line-n.ensures.same) in
-    let all : line_len p ≡ length p = omega (arith, n, len, c.first_line-n.ensures.within, c.if-whole.false) in
+    let all : line_len p ≡ length p = omega (arith, ap length (c.as_slice.ensures ∙ c.first_line-n.ensures.same)) in
     let passed : c.from_residual.result ≡ Err c.in_err-read_on.field-0.0 = search rules in
     let same : c.in_err-read_on.field-0.0 ≡ Read = cc (passed, is) in
     let stop = c.in_err-read_on.ensures.stopped (ap Err same) in
     let line = stopped_in_line old p had mid has inv.dropped.0 all stop.2 in
-    (record { more = inv.dropped.0.more; read = line.0; one = line.1; going = stop.1 }, stop.3)
+    record { more = inv.dropped.0.more; read = line.0; one = line.1; going = stop.1; why = stop.3 }
 
 -- what came is the front of the line
 pub read_on-requires-clause-order : goal.read_on-requires-clause-order
@@ -126,8 +122,6 @@ read_on-requires-clause-order g c =
     let had = g.I.Input.remaining c.args.reader.now in
     let mid = g.I.Input.remaining c.reads.reader in
     let said = g.H.Host.output c.args.host.now in
-    let n : c.first_line-n.result ≡ line_len p = c.first_line-n.ensures.length in
-    let len : length c.as_slice.result.now ≡ length p = ap length (c.as_slice.ensures ∙ c.first_line-n.ensures.same) in
-    let all : line_len p ≡ length p = omega (arith, n, len, c.first_line-n.ensures.within, c.if-whole.false) in
+    let all : line_len p ≡ length p = omega (arith, ap length (c.as_slice.ensures ∙ c.first_line-n.ensures.same)) in
     let line = stopped_in_line old p had mid mid inv.dropped.0 all (Keeps-refl mid) in
     inv.order mid said (c.requires.order inv.dropped.0.more mid line.0 (was_going _ _ inv.dropped.2 (search rules)) line.1)

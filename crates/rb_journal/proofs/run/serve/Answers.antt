@@ -138,10 +138,10 @@ batches-preserved g c =
       same = group.same;
       batch = group.batch;
       buffered = rw c.read_on.ensures.buffered group.buffered;
-      counted = c.read_on.ensures.counted;
+      counted = c.read_on.ensures.goes_on.counted;
       end = read.end;
       number = omega (arith, read.left, group.number, inv.number, ap (λ k. READ_SIZE * k) group.reads);
-      order = λ still said may. c.read_on.ensures.order still said (inv.order still said may);
+      order = λ still said may. c.read_on.ensures.goes_on.order still said (inv.order still said may);
       later = omega (arith, inv.later, group.later);
       follows = more_read (here g at.In_ok-answer_group) c.read_on.new.buffers.pending going read.read;
       any_moment = moments g at.After-answer_group;
@@ -183,7 +183,7 @@ returns-in_err-answer_long_line-in-Long-clause-text g c = λ at_rest.
     let left = g.I.Input.remaining c.answer_long_line.new.reader in
     let input = served_input c.args.buffers.now.pending (g.I.Input.remaining c.args.reader.now) in (
       follows.steps.turns,
-      rw stop.3 (put_out follows),
+      rw stop.2 (put_out follows),
       subst (λ r. EndsAs c.args.number follows.steps.turns input left r) (sym (passed ∙ ap Err same))
           (ends_read _ left left follows stop.0.going stop.0.one (Keeps-refl left)),
     )

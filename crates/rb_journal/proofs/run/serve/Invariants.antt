@@ -27,7 +27,7 @@ invariant-batches g l =
           → g.I.Input.may_read l.reader still said;
       later : host.faults l.fn.journal.host ≤ host.faults l.journal.host;
       follows : Goes answers l.fn.buffers.ended l.buffers.ended first
-          (point_at g.R.JournaledResponder host l.responder l.journal l.work l.buffers.pending) input (g.I.Input.remaining l.reader);
+          (point_at g.R.JournaledResponder host l.responder l.journal l.work l.buffers) input (g.I.Input.remaining l.reader);
       any_moment : LeavesOnly host.moment host.left_since l.fn.journal.host l.journal.host (IsRunFrom answers first input);
       intact : LeavesOnly host.moment host.left_since l.fn.journal.host l.journal.host (λ f d. IsIntact f);
     }

@@ -3,7 +3,7 @@ use Rattle.std.proofs.Common.{rules, arith, ◌≡◌, ◌≤◌, ◌∙◌, tru
 use Rattle.std.proofs.lemmas.List.{length-take}
 use Rattle.rb_lines.specs.Lines.{is_blank}
 use Rattle.rb_lines.specs.declared.limits.TheConstants.{LINE_LIMIT}
-use Rattle.rb_journal.specs.Steps.{point_of}
+use Rattle.rb_journal.specs.Steps.{point_in}
 use Rattle.rb_journal.proofs.Advance.{answers_one, blank_skipped, skips, some_answered}
 use Rattle.rb_journal.proofs.waiting.answer_next.Goals.{then-not-is_blank+in_ok-answer_line, else-not-is_blank}
 use Rattle.rb_journal.proofs.waiting.answer_next.Goals as goal
@@ -16,7 +16,7 @@ returns-clause-answered g c =
     let lines = g.R.JournaledResponder.lines in
     let was = state c.args.responder.now in
     let waits = c.args.buffers.now.pending in
-    let p = point_of was (lines was) c.args.buffers.now.buffered.items c.args.work.now waits in
+    let p = point_in was (lines was) c.args.buffers.now c.args.work.now in
     let here : c.as_slice.result.now ≡ waits = c.as_slice.ensures in
     elim c.if-not-is_blank.branch [
       | then-not-is_blank+in_ok-answer_line w ↦

@@ -2,7 +2,7 @@
 use Rattle.std.proofs.Common.{rules, arith, ◌<◌, ◌++◌, ◌∙◌, [], length, ap, sym, subst, append-nil, inl, inr, refl}
 use Rattle.rb_journal.specs.Lines.{recovered}
 use Rattle.rb_lines.specs.declared.buffers.Buffers.{Buffers}
-use Rattle.rb_journal.specs.Steps.{Advances, AdvancesByBatch, Point, point_of}
+use Rattle.rb_journal.specs.Steps.{Advances, AdvancesByBatch, Point, point_in}
 use Rattle.rb_journal.proofs.Advance.{batch_then, few_so_far, none_yet}
 use Rattle.rb_journal.proofs.waiting.answer_waiting.Given.{Over}
 use Rattle.rb_journal.proofs.waiting.answer_waiting.Goals.{After-next_waiting-next}
@@ -14,7 +14,7 @@ lines-init g c =
     let lines = g.R.JournaledResponder.lines state in
     record {
       answered = none_yet g.R.JournaledResponder.answers c.args.buffers.now.ended
-          (point_of state lines c.args.buffers.now.buffered.items c.args.work.now c.args.buffers.now.pending);
+          (point_in state lines c.args.buffers.now c.args.work.now);
       batch = sym (append-nil lines) ∙ ap (λ l. lines ++ recovered l) (sym c.requires.batch);
       reads = search rules;
       ended = search rules;
@@ -33,14 +33,13 @@ lines-preserved g c =
     let first = state c.args.responder.now in
     let now = state c.lines.responder in
     let new = state c.answer_next.new.responder in
-    let start = point_of first (lines first) c.args.buffers.now.buffered.items c.args.work.now c.args.buffers.now.pending in
-    let mid = point_of now (lines now) c.lines.buffers.buffered.items c.lines.work c.lines.buffers.pending in
-    let end = point_of new (lines new) c.answer_next.new.buffers.buffered.items c.answer_next.new.work
-    c.answer_next.new.buffers.pending in
+    let start = point_in first (lines first) c.args.buffers.now c.args.work.now in
+    let mid = point_in now (lines now) c.lines.buffers c.lines.work in
+    let end = point_in new (lines new) c.answer_next.new.buffers c.answer_next.new.work in
     let next : Advances g.R.JournaledResponder.answers c.args.buffers.now.ended mid end =
     subst (λ e. Advances g.R.JournaledResponder.answers e mid end) inv.ended
-    (subst (λ (b : Buffers). Advances g.R.JournaledResponder.answers b.ended
-    (point_of now (lines now) b.buffered.items c.lines.work b.pending) end) same step.answered) in
+    (subst (λ (b : Buffers). Advances g.R.JournaledResponder.answers b.ended (point_in now (lines now) b c.lines.work) end) same
+    step.answered) in
     let few = few_so_far g.R.JournaledResponder.answers c.args.buffers.now.ended start mid c.lines.work.batch.bytes.items inv.answered.0
     inv.batch c.lines.work.batch.whole c.requires.buffered (search rules) (search rules) in
     let fewer : length c.answer_next.new.buffers.pending < length c.args.buffers.now.pending =
@@ -57,25 +56,12 @@ lines-preserved g c =
 
 -- what was answered before the next line
 so_far : (g : Over) (c : After-next_waiting-next g) → AdvancesByBatch g.R.JournaledResponder.answers c.args.buffers.now.ended
-    (point_of (g.R.JournaledResponder.state c.args.responder.now)
-    (g.R.JournaledResponder.lines (g.R.JournaledResponder.state c.args.responder.now))
-    c.args.buffers.now.buffered.items c.args.work.now c.args.buffers.now.pending)
-    (point_of (g.R.JournaledResponder.state c.lines.responder)
+    (point_in (g.R.JournaledResponder.state c.args.responder.now)
+    (g.R.JournaledResponder.lines (g.R.JournaledResponder.state c.args.responder.now)) c.args.buffers.now c.args.work.now)
+    (point_in (g.R.JournaledResponder.state c.lines.responder)
     (g.R.JournaledResponder.lines (g.R.JournaledResponder.state c.args.responder.now)
-    ++ recovered c.lines.work.batch.bytes.items)
-    c.next_waiting-next.new.buffers.buffered.items c.lines.work c.next_waiting-next.new.buffers.pending)
-so_far g c =
-    let inv = c.lines.invariant in
-    let state = g.R.JournaledResponder.state in
-    let lines = g.R.JournaledResponder.lines (state c.args.responder.now) in
-    let last = state c.lines.responder in
-    let start = point_of (state c.args.responder.now) lines c.args.buffers.now.buffered.items c.args.work.now c.args.buffers.now.pending in
-    let e = c.args.buffers.now.ended in
-    let work = c.lines.work in
-    subst (λ (b : Buffers). AdvancesByBatch g.R.JournaledResponder.answers e start
-    (point_of last (lines ++ recovered work.batch.bytes.items) b.buffered.items work b.pending)) (sym c.next_waiting-next.ensures.same)
-    (subst (λ ls. AdvancesByBatch g.R.JournaledResponder.answers e start
-    (point_of last ls c.lines.buffers.buffered.items work c.lines.buffers.pending)) inv.batch inv.answered)
+    ++ recovered c.lines.work.batch.bytes.items) c.next_waiting-next.new.buffers c.lines.work)
+so_far g c = rw (c.next_waiting-next.ensures.same, ← c.lines.invariant.batch) c.lines.invariant.answered
 
 pub returns-in_default-clause-answered : goal.returns-in_default-clause-answered
 returns-in_default-clause-answered g c =
@@ -96,8 +82,7 @@ returns-in_err-answer_next-clause-answered g c =
     let lines = g.R.JournaledResponder.lines (state c.args.responder.now) in
     let last = state c.lines.responder in
     let step = c.in_err-answer_next.ensures in
-    let start = point_of (state c.args.responder.now) lines c.args.buffers.now.buffered.items c.args.work.now
-    c.args.buffers.now.pending in (
+    let start = point_in (state c.args.responder.now) lines c.args.buffers.now c.args.work.now in (
       last,
       subst (AdvancesByBatch g.R.JournaledResponder.answers c.args.buffers.now.ended start) (sym (step.same last lines))
           (so_far g (goal.at.returns-in_err-answer_next-clause-answered g c).After-next_waiting-next),
@@ -106,8 +91,7 @@ returns-in_err-answer_next-clause-answered g c =
 
 pub returns-in_err-answer_next-clause-number : goal.returns-in_err-answer_next-clause-number
 returns-in_err-answer_next-clause-number g c =
-    let state = g.R.JournaledResponder.state c.lines.responder in
-    let same = c.in_err-answer_next.ensures.same state [] in
+    let same = c.in_err-answer_next.ensures.same (g.R.JournaledResponder.state c.lines.responder) [] in
     omega (
       arith,
       ap (λ (p : Point g.R.JournaledResponder.State). p.number) same,

@@ -1,7 +1,7 @@
 -- Between two lines.
 use Rattle.std.proofs.Common.{◌≡◌, ◌+◌, ◌<◌, ◌≤◌, ◌⊎◌, ◌++◌, [], length}
 use Rattle.rb_journal.specs.Lines.{recovered}
-use Rattle.rb_journal.specs.Steps.{AdvancesByBatch, point_of}
+use Rattle.rb_journal.specs.Steps.{AdvancesByBatch, point_in}
 use Rattle.rb_journal.proofs.waiting.answer_waiting.Given as goal
 
 abbrev pub invariant-lines : goal.invariant-lines
@@ -10,8 +10,8 @@ invariant-lines g l =
     let lines = g.R.JournaledResponder.lines in
     record {
       answered : AdvancesByBatch g.R.JournaledResponder.answers l.fn.buffers.ended
-          (point_of (state l.fn.responder) (lines (state l.fn.responder)) l.fn.buffers.buffered.items l.fn.work l.fn.buffers.pending)
-          (point_of (state l.responder) (lines (state l.responder)) l.buffers.buffered.items l.work l.buffers.pending);
+          (point_in (state l.fn.responder) (lines (state l.fn.responder)) l.fn.buffers l.fn.work)
+          (point_in (state l.responder) (lines (state l.responder)) l.buffers l.work);
       batch : lines (state l.responder) ≡ lines (state l.fn.responder) ++ recovered l.work.batch.bytes.items;
       reads : l.buffers.reads ≡ l.fn.buffers.reads;
       ended : l.buffers.ended ≡ l.fn.buffers.ended;

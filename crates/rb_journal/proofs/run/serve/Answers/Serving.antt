@@ -30,7 +30,7 @@ pub here : (g : Over) (c : In_ok-answer_group g) → Goes g.R.JournaledResponder
     c.answer_group.new.buffers.ended
     (starting g.R.JournaledResponder g.H.Host c.args.responder.now c.args.journal.now c.args.number c.args.buffers.now.pending)
     (point_at g.R.JournaledResponder g.H.Host c.answer_group.new.responder c.answer_group.new.journal c.answer_group.new.work
-    c.answer_group.new.buffers.pending) (g.I.Input.remaining c.args.reader.now) (g.I.Input.remaining c.batches.reader)
+    c.answer_group.new.buffers) (g.I.Input.remaining c.args.reader.now) (g.I.Input.remaining c.batches.reader)
 here g c = more_taken c.batches.invariant.follows c.in_ok-answer_group.ensures.answered c.answer_group.ensures.ended
 
 -- the input has ended only if all of it was read
