@@ -5,7 +5,9 @@ use Rattle.std.proofs.KnownBytes.{Consumes-kept, Consumes-nil, Consumes-trans}
 use Rattle.std.proofs.Math.Seq.{drop-append-add}
 use Rattle.std.proofs.lemmas.List.{length-take}
 use Rattle.std.specs.Io.KnownBytes.{Consumes, Keeps}
-use Rattle.rb_lines.specs.Buffers.{Reads}
+use Rattle.rb_lines.specs.Buffers.{HasRead, Reads}
+use Rattle.rb_lines.specs.declared.no_line.NoLine.{NoLine}
+use Rattle.rb_lines.specs.declared.no_line.NoLine.TheVariants.{Read, OutOfMemory, TooLong, Write}
 use Rattle.rb_lines.specs.Lines.{is_long, line_len}
 use Rattle.rb_lines.specs.declared.limits.TheConstants.{LINE_LIMIT}
 use Rattle.rb_lines.specs.declared.buffers.Buffers.{Buffers}
@@ -100,6 +102,14 @@ pub stopped_in_line : (old p : List ℕ) (had mid has : Option (List ℕ)) → (
 stopped_in_line old p had mid has d none kept =
     let lengths = all_length old p had mid d in
     (Consumes-kept had mid has d.more d.read kept, lengths.0 ∙ ap (λ n. length d.gone + n) none ∙ sym lengths.1)
+
+-- a read that failed, and not for want of memory, has changed nothing
+pub read_failed : (old new : Buffers) (had has : Option (List ℕ)) (failed : Bool) (calls : ℕ) (why : NoLine) → (why ≡ OutOfMemory → ⊥)
+    → HasRead old new had has failed calls why → HasRead old new had has failed calls Read
+read_failed old new had has failed calls Read some is = is
+read_failed old new had has failed calls OutOfMemory some is = absurd (some refl)
+read_failed old new had has failed calls TooLong some is = absurd is
+read_failed old new had has failed calls Write some is = absurd is
 
 -- ---- the line that was dropped
 

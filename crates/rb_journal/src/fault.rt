@@ -1,9 +1,11 @@
 //! Why serving stops.
-ghost use Rattle.std.specs.Prelude.{◌≡◌};
+ghost use Rattle.std.specs.Prelude.{◌≡◌, ◌≢◌};
+ghost use Rattle.rb_lines.specs.declared.no_line.NoLine.TheVariants.{OutOfMemory as NoMemory};
 ghost use Rattle.rb_journal.specs.Faults.{fault_of_host};
-ghost use Rattle.rb_journal.specs.declared.fault.ServeFault.TheVariants.{OutOfMemory};
+ghost use Rattle.rb_journal.specs.declared.fault.ServeFault.TheVariants.{Journal, OutOfMemory, Read, Write};
 
 use crate::host::HostError;
+use rb_lines::NoLine;
 use std::alloc::AllocError;
 use std::fmt;
 use thiserror::Error;
@@ -56,5 +58,17 @@ impl From<HostError> for ServeFault {
             HostError::OutputFailed => ServeFault::Write,
             HostError::Full => ServeFault::Journal,
         }
+    }
+}
+
+/// The fault of a read that failed for this reason: there was no memory, or the read failed.
+pub fn fault_of_read(no_line: NoLine) -> ServeFault
+    ensures read { result ≡ Read → no_line ≢ NoMemory }
+    ensures not_write { result ≡ Write → ⊥ }
+    ensures not_journal { result ≡ Journal → ⊥ }
+{
+    match no_line {
+        NoLine::OutOfMemory => ServeFault::OutOfMemory,
+        _ => ServeFault::Read,
     }
 }

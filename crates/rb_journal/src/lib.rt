@@ -27,7 +27,6 @@ mod memory;
 mod named_file;
 mod open_error;
 mod planned;
-mod read_on;
 mod responder;
 mod run;
 mod seal;

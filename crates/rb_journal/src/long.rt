@@ -13,11 +13,10 @@ ghost use Rattle.rb_journal.specs.Steps.{DropsLine, Goes, IsNext, IsRunFrom, May
 ghost use Rattle.rb_journal.specs.Steps.{point_at};
 ghost use Rattle.rb_journal.specs.declared.fault.ServeFault.TheVariants.{Journal as JournalFailed, Read, Write};
 
-use crate::fault::ServeFault;
+use crate::fault::{ServeFault, fault_of_read};
 use crate::host::Host;
 use crate::input::Input;
 use crate::journal::Journal;
-use crate::read_on::read_on;
 use crate::responder::JournaledResponder;
 use crate::spare::take_out_all;
 use crate::work::Work;
@@ -52,7 +51,10 @@ fn drop_line<I: Input, H: Host>(
         if whole || buffers.ended {
             return Ok(());
         }
-        read_on(buffers, reader, host)?;
+        match reader.read_more(buffers, host) {
+            Ok(()) => {}
+            Err(no_line) => return Err(fault_of_read(no_line)),
+        }
     }
 }
 

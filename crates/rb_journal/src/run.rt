@@ -13,13 +13,12 @@ ghost use Rattle.rb_journal.specs.Run.{IsRunOfBatches, IsRunOfTurns, served_inpu
 ghost use Rattle.rb_journal.specs.Turns.{Turn};
 ghost use Rattle.rb_journal.specs.declared.fault.ServeFault.TheVariants.{Journal as JournalFailed, Read, Write};
 
-use crate::fault::ServeFault;
+use crate::fault::{ServeFault, fault_of_read};
 use crate::group::answer_group;
 use crate::host::Host;
 use crate::input::Input;
 use crate::journal::Journal;
 use crate::long::answer_long_line;
-use crate::read_on::read_on;
 use crate::responder::JournaledResponder;
 use crate::waiting::Waiting;
 use crate::work::Work;
@@ -102,6 +101,9 @@ pub fn serve<R: JournaledResponder, H: Host, I: Input>(
         if buffers.ended {
             return Ok(work.count);
         }
-        read_on(buffers, reader, &journal.host)?;
+        match reader.read_more(buffers, &journal.host) {
+            Ok(()) => {}
+            Err(no_line) => return Err(fault_of_read(no_line)),
+        }
     }
 }

@@ -7,7 +7,7 @@ use Rattle.rb_lines.specs.Buffers.{Reads}
 use Rattle.rb_lines.specs.Lines.{line_len}
 use Rattle.rb_lines.specs.declared.limits.TheConstants.{READ_SIZE}
 use Rattle.rb_journal.specs.declared.fault.ServeFault.TheVariants.{Read}
-use Rattle.rb_journal.proofs.Dropping.{all_length, behind_all, dropped_more, no_shorter, none_dropped, stopped_in_line}
+use Rattle.rb_journal.proofs.Dropping.{all_length, behind_all, dropped_more, no_shorter, none_dropped, read_failed, stopped_in_line}
 use Rattle.std.proofs.KnownBytes.{Keeps-refl}
 use Rattle.rb_journal.proofs.Follow.{was_going}
 use Rattle.rb_journal.proofs.long.drop_line.Goals.{then-whole-via-then-whole, then-whole-via-else-whole+then-buffers}
@@ -76,20 +76,20 @@ reads-preserved g c =
     let inv = c.reads.invariant in
     let had = g.I.Input.remaining c.args.reader.now in
     let mid = g.I.Input.remaining c.reads.reader in
-    let has = g.I.Input.remaining c.read_on.new.reader in
-    let read = c.in_ok-read_on.ensures in
+    let has = g.I.Input.remaining c.read_more.new.self in
+    let read = c.in-Ok.ensures in
     let all : line_len p ≡ length p = omega (arith, ap length (c.as_slice.ensures ∙ c.first_line-n.ensures.same)) in
     let now : c.skip_line.new.self.pending ≡ drop (c.first_line-n.result + 1) p = search rules in
     let reads : c.skip_line.new.self.reads ≡ c.reads.buffers.reads = search rules in
     let going : c.reads.buffers.ended ≡ false = search rules in
     let none : c.skip_line.new.self.pending ≡ [] = now ∙ drop_of_length-le p (omega (arith, c.first_line-n.ensures.length, all)) in
-    let more = dropped_more old p c.read_on.new.buffers.pending had mid has inv.dropped.0 all
-    (subst (λ l. Reads l c.read_on.new.buffers.pending mid has) none read.read) in
+    let more = dropped_more old p c.read_more.new.buffers.pending had mid has inv.dropped.0 all
+    (subst (λ l. Reads l c.read_more.new.buffers.pending mid has) none read.read) in
     record {
-      counted = c.read_on.ensures.goes_on.counted;
+      counted = c.read_more.ensures.counted;
       buffered = search rules;
       end = read.end;
-      order = λ left said may. c.read_on.ensures.goes_on.order left said (inv.order left said may);
+      order = λ left said may. c.read_more.ensures.order left said (inv.order left said may);
       fewer = omega (arith, read.fewer, reads, inv.fewer);
       dropped = (
         more.0,
@@ -98,24 +98,24 @@ reads-preserved g c =
       );
     }
 
-pub returns-in_err-read_on-clause-stopped : goal.returns-in_err-read_on-clause-stopped
-returns-in_err-read_on-clause-stopped g c = λ is.
+pub returns-in-Err-clause-stopped : goal.returns-in-Err-clause-stopped
+returns-in-Err-clause-stopped g c = λ is.
     let old = c.args.buffers.now.pending in
     let p = c.reads.buffers.pending in
     let inv = c.reads.invariant in
     let had = g.I.Input.remaining c.args.reader.now in
     let mid = g.I.Input.remaining c.reads.reader in
-    let has = g.I.Input.remaining c.read_on.new.reader in
+    let has = g.I.Input.remaining c.read_more.new.self in
     let all : line_len p ≡ length p = omega (arith, ap length (c.as_slice.ensures ∙ c.first_line-n.ensures.same)) in
-    let passed : c.from_residual.result ≡ Err c.in_err-read_on.field-0.0 = search rules in
-    let same : c.in_err-read_on.field-0.0 ≡ Read = cc (passed, is) in
-    let stop = c.in_err-read_on.ensures.stopped (ap Err same) in
+    let same : c.fault_of_read.result ≡ Read = cc (is) in
+    let stop = read_failed c.skip_line.new.self c.read_more.new.buffers _ _ _ _ c.in-Err.no_line (c.fault_of_read.ensures.read same)
+    c.in-Err.ensures.read in
     let line = stopped_in_line old p had mid has inv.dropped.0 all stop.2 in
     record { more = inv.dropped.0.more; read = line.0; one = line.1; going = stop.1; why = stop.3 }
 
 -- what came is the front of the line
-pub read_on-requires-clause-order : goal.read_on-requires-clause-order
-read_on-requires-clause-order g c =
+pub read_more-requires-clause-order : goal.read_more-requires-clause-order
+read_more-requires-clause-order g c =
     let old = c.args.buffers.now.pending in
     let p = c.reads.buffers.pending in
     let inv = c.reads.invariant in

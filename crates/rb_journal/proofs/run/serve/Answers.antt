@@ -10,6 +10,7 @@ use Rattle.rb_journal.specs.Ends.{EndsAs, EndsAtRest}
 use Rattle.rb_journal.specs.Run.{served_input}
 use Rattle.rb_journal.specs.Steps.{Goes, IsRunFrom, waits}
 use Rattle.rb_journal.specs.declared.fault.ServeFault.TheVariants.{Journal, Read}
+use Rattle.rb_journal.proofs.Dropping.{read_failed}
 use Rattle.rb_journal.proofs.Ending.{ends_all, ends_read, put_out, rest_is_read}
 use Rattle.rb_journal.proofs.Follow.{are_turns, cause_on, goes_then, more_read, only_read, run_start, starting}
 use Rattle.rb_journal.proofs.run.serve.Answers.Serving.{ended_here, here, long_moments, moments, then_intact}
@@ -69,12 +70,12 @@ returns-then-buffers-clause-any_moment g c = are_turns (moments g (goal.at.retur
 pub returns-then-buffers-clause-batches : goal.returns-then-buffers-clause-batches
 returns-then-buffers-clause-batches g c = moments g (goal.at.returns-then-buffers-clause-batches g c).After-answer_group
 
-pub returns-in_err-read_on-clause-any_moment : goal.returns-in_err-read_on-clause-any_moment
-returns-in_err-read_on-clause-any_moment g c =
-    are_turns (moments g (goal.at.returns-in_err-read_on-clause-any_moment g c).After-answer_group)
+pub returns-in-Err-clause-any_moment : goal.returns-in-Err-clause-any_moment
+returns-in-Err-clause-any_moment g c =
+    are_turns (moments g (goal.at.returns-in-Err-clause-any_moment g c).After-answer_group)
 
-pub returns-in_err-read_on-clause-batches : goal.returns-in_err-read_on-clause-batches
-returns-in_err-read_on-clause-batches g c = moments g (goal.at.returns-in_err-read_on-clause-batches g c).After-answer_group
+pub returns-in-Err-clause-batches : goal.returns-in-Err-clause-batches
+returns-in-Err-clause-batches g c = moments g (goal.at.returns-in-Err-clause-batches g c).After-answer_group
 
 pub returns-then-buffers-clause-text : goal.returns-then-buffers-clause-text
 returns-then-buffers-clause-text g c = λ ok.
@@ -87,23 +88,28 @@ returns-then-buffers-clause-text g c = λ ok.
       ends_all _ _ follows refl (nothing.1 ended) (ended_here g at.After-answer_group ended),
     )
 
-pub returns-in_err-read_on-clause-text : goal.returns-in_err-read_on-clause-text
-returns-in_err-read_on-clause-text g c = λ at_rest.
-    let at = goal.at.returns-in_err-read_on-clause-text g c in
+pub returns-in-Err-clause-text : goal.returns-in-Err-clause-text
+returns-in-Err-clause-text g c = λ at_rest.
+    let at = goal.at.returns-in-Err-clause-text g c in
     let follows = here g at.In_ok-answer_group in
-    let fault = c.in_err-read_on.field-0.0 in
-    let passed : c.from_residual-in_err-read_on.result ≡ Err fault = search rules in
-    let same : fault ≡ Read = rest_is_read ℕ fault (subst (λ r. EndsAtRest {T = ℕ} r) passed at_rest) in
-    let failed = c.in_err-read_on.ensures.stopped (ap Err same) in
+    let same : c.fault_of_read.result ≡ Read = rest_is_read ℕ c.fault_of_read.result at_rest in
+    let failed = read_failed c.answer_group.new.buffers c.read_more.new.buffers _ _ _ _ c.in-Err.no_line (c.fault_of_read.ensures.read same)
+    c.in-Err.ensures.read in
     let going : c.answer_group.new.buffers.ended ≡ false = c.if-buffers.false in
     let nothing = rw c.in-Nothing.is at c.in_ok-answer_group.ensures.waiting in
-    let left = g.I.Input.remaining c.read_on.new.reader in
+    let left = g.I.Input.remaining c.read_more.new.self in
     let input = served_input c.args.buffers.now.pending (g.I.Input.remaining c.args.reader.now) in (
       follows.steps.turns,
       put_out follows,
-      subst (λ r. EndsAs c.args.number follows.steps.turns input left r) (sym (passed ∙ ap Err same))
+      subst (λ r. EndsAs c.args.number follows.steps.turns input left r) (sym (ap Err same))
           (ends_read _ _ left follows going nothing.0 failed.2),
     )
+
+pub returns-in-Err-clause-read : goal.returns-in-Err-clause-read
+returns-in-Err-clause-read g c = λ is.
+    let same : c.fault_of_read.result ≡ Read = cc (is) in
+    (read_failed c.answer_group.new.buffers c.read_more.new.buffers _ _ _ _ c.in-Err.no_line (c.fault_of_read.ensures.read same)
+    c.in-Err.ensures.read).3
 
 -- a line still waits: the next batch goes on
 pub batches-preserved-in-Line : goal.batches-preserved-in-Line
@@ -131,19 +137,19 @@ batches-preserved g c =
     let at = goal.at.batches-preserved g c in
     let inv = c.batches.invariant in
     let group = c.in_ok-answer_group.ensures in
-    let read = c.in_ok-read_on.ensures in
+    let read = c.in-Ok.ensures in
     let going : c.answer_group.new.buffers.ended ≡ false = c.if-buffers.false in
     record {
       settled = group.settled;
       same = group.same;
       batch = group.batch;
-      buffered = rw c.read_on.ensures.buffered group.buffered;
-      counted = c.read_on.ensures.goes_on.counted;
+      buffered = rw c.read_more.ensures.buffered group.buffered;
+      counted = c.read_more.ensures.counted;
       end = read.end;
       number = omega (arith, read.left, group.number, inv.number, ap (λ k. READ_SIZE * k) group.reads);
-      order = λ still said may. c.read_on.ensures.goes_on.order still said (inv.order still said may);
+      order = λ still said may. c.read_more.ensures.order still said (inv.order still said may);
       later = omega (arith, inv.later, group.later);
-      follows = more_read (here g at.In_ok-answer_group) c.read_on.new.buffers.pending going read.read;
+      follows = more_read (here g at.In_ok-answer_group) c.read_more.new.buffers.pending going read.read;
       any_moment = moments g at.After-answer_group;
       intact = then_intact inv.intact c.answer_group.ensures.intact;
     }
@@ -212,9 +218,9 @@ batches-preserved-in-Long g c =
 -- ---- when it reads
 
 -- all lines that have come whole are answered
-pub read_on-requires-clause-order : goal.read_on-requires-clause-order
-read_on-requires-clause-order g c =
-    let at = goal.at.read_on-requires-clause-order g c in
+pub read_more-requires-clause-order : goal.read_more-requires-clause-order
+read_more-requires-clause-order g c =
+    let at = goal.at.read_more-requires-clause-order g c in
     let follows = here g at.In_ok-answer_group in
     let still = g.I.Input.remaining c.batches.reader in
     let said = g.H.Host.output c.answer_group.new.journal.host in

@@ -63,8 +63,8 @@ is_written g c =
 has_lines : (g : Over) (c : In_ok-write_synced g) → recovered (g.H.Host.content c.write_synced.new.host)
     ≡ recovered (g.H.Host.content c.args.self.now.host) ++ recovered c.args.batch.now.items
 has_lines g c =
-    ap recovered (is_written g c)
-    ∙ after_gate (g.H.Host.content c.args.self.now.host) c.args.batch.now.items c.requires.lines (some g (goal.at.In_ok-write_synced g c).After-write_synced-staged)
+    ap recovered (is_written g c) ∙ after_gate (g.H.Host.content c.args.self.now.host) c.args.batch.now.items c.requires.lines
+    (some g (goal.at.In_ok-write_synced g c).After-write_synced-staged)
 
 pub write_synced-staged-requires-clause-place : goal.write_synced-staged-requires-clause-place
 write_synced-staged-requires-clause-place g c =
@@ -142,5 +142,6 @@ at_rest_appended file batch c is =
 
 pub returns-in_err-push-clause-appended : goal.returns-in_err-push-clause-appended
 returns-in_err-push-clause-appended g c =
-    started g.H.Host.moment g.H.Host.left_since _ _ (λ f d left. at_rest_appended (g.H.Host.content c.args.self.now.host) c.args.batch.now.items f
+    let file = g.H.Host.content c.args.self.now.host in
+    started g.H.Host.moment g.H.Host.left_since _ _ (λ f d left. at_rest_appended file c.args.batch.now.items f
     (c.requires.settled.durable f (g.met.H.Host.only_now c.args.self.now.host f d left).1 ∙ c.requires.settled.file))
