@@ -35,14 +35,14 @@ all_at_end s i (x ∷ xs) [] e each = absurd (let no : ⊥ = omega (arith, e) in
 all_at_end s i (x ∷ xs) (h ∷ hs) e each =
     let here : i + 0 ≡ i = omega arith in
     let rest : length xs ≡ length hs = omega (arith, e) in
-    ap (λ z. z ∷ xs) (each zero x h refl refl ∙ ap (λ k. seen_at s k h) here)
+    ap (λ z. z ∷ xs) (rw here at (each zero x h refl refl))
     ∙ ap (λ zs. seen_at s i h ∷ zs) (all_at_end s (i + 1) xs hs rest (λ k y g at there.
-    each (suc k) y g at there ∙ ap (λ j. seen_at s j g) (let q : i + suc k ≡ (i + 1) + k = omega arith in q)))
+    let q : (i + 1) + k ≡ i + suc k = omega arith in rw q (each (suc k) y g at there)))
 
 -- the sites after the histories that an order certifies
-pub sites_ended : (s : Settings) (xs : List SeenSite) (ns : List Notes) (ms : List Message) (order : List ℕ) → AreAllNotes s xs ns ms
-    → Certifies s (histories_in ns) order → xs ≡ ended_sites s 0 (histories_in ns)
-sites_ended s xs ns ms order all certified =
+pub sites_ended : {s : Settings} {xs : List SeenSite} {ns : List Notes} {ms : List Message} {order : List ℕ}
+    → AreAllNotes s xs ns ms → Certifies s (histories_in ns) order → xs ≡ ended_sites s 0 (histories_in ns)
+sites_ended {s} {xs} {ns} {ms} {order} all certified =
     all_at_end s 0 xs (histories_in ns) (all.sites ∙ sym all.notes ∙ sym (length-map ns entries_noted)) (λ k x h at there.
     let (n, is, e) = map_back entries_noted ns k h there in
     let replay : IsReplay s k (entries_noted n) = Refuting.one_worlds_replay s (histories_in ns) k (entries_noted n)

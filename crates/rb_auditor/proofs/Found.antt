@@ -15,8 +15,7 @@ is f (p ∷ ps) [] e = cc
 is f (p ∷ ps) (y ∷ ys) e =
     let first : f p ≡ Some y = cc in
     let others : map f ps ≡ map (λ y. Some y) ys = cc in
-    filter_map-append f (p ∷ []) ps ∙ ap (λ o. filter_map (λ q. q) (o ∷ []) ++ filter_map f ps) first
-    ∙ ap (λ zs. y ∷ zs) (is f ps ys others)
+    filter_map-append f (p ∷ []) ps ∙ rw first (ap (λ zs. y ∷ zs) (is f ps ys others))
 
 -- if it is known what is at each of these places, there is something
 pub there : {A B : Type 0} (f : A → Option B) (ps : List A) (ys : List B) → map f ps ≡ map (λ y. Some y) ys → AreThere f ps
@@ -28,9 +27,7 @@ pub still : {A B : Type 0} (f g : A → Option B) → ((p : A) (x : B) → f p �
 still f g more [] ys e = e
 still f g more (p ∷ ps) [] e = cc
 still f g more (p ∷ ps) (y ∷ ys) e =
-    let first : f p ≡ Some y = cc in
-    let others : map f ps ≡ map (λ y. Some y) ys = cc in
-    ap (λ o. o ∷ map g ps) (more p y first) ∙ ap (λ os. Some y ∷ os) (still f g more ps ys others)
+    let first : f p ≡ Some y = cc in cc (more p y first, still f g more ps ys cc)
 
 -- one place more
 pub pushed : {A B : Type 0} (f : A → Option B) (ps : List A) (ys : List B) (p : A) (y : B) → map f ps ≡ map (λ y. Some y) ys

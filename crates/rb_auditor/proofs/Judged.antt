@@ -4,7 +4,7 @@ use Rattle.std.proofs.Common.{ap, sym, subst, ◌∙◌, inl, inr}
 use Rattle.std.proofs.Common.{arith, drop, Some, None}
 use Rattle.std.specs.Prelude.{slice_get}
 use Rattle.std.proofs.lemmas.List.{length-map, length-take-le, take_all}
-use Rattle.std.proofs.lemmas.Option.{slice_get_read, slice_get_within}
+use Rattle.std.proofs.lemmas.Option.{slice_get-get_or, slice_get_read, slice_get_within}
 use Rattle.rb_money.specs.declared.limits.TheConstants.{MOST_HISTORY}
 use Rattle.rb_money.specs.Settings.{IsConfigured, Settings}
 use Rattle.rb_site.specs.declared.entry.Entry.{Entry}
@@ -40,15 +40,16 @@ notes_of : (ns : List Notes) (i : ℕ) (h : List Entry) → slice_get (histories
 notes_of ns i h at = let m = map_back entries_noted ns i h at in (m.0, m.1, sym m.2)
 
 -- if that is so of each history, all replay
-pub all_replay : (s : Settings) (ns : List Notes) (ms : List Message) → AreJudged s ns ms → AreWhole ns → AreReplays s (histories_in ns)
-all_replay s ns ms all whole i h at =
+pub all_replay : {s : Settings} {ns : List Notes} {ms : List Message} → AreJudged s ns ms → AreWhole ns
+    → AreReplays s (histories_in ns)
+all_replay {s} {ns} {ms} all whole i h at =
     let n = notes_of ns i h at in subst (IsReplay s i) n.2 (replays s i n.0 ms (all.each i n.0 n.1) (whole i n.0 n.1))
 
 -- and before any entry is taken all is as a world could have it
-pub first_taken : (s : Settings) (ns : List Notes) (ms : List Message) → AreJudged s ns ms → AreWhole ns
+pub first_taken : {s : Settings} {ns : List Notes} {ms : List Message} → AreJudged s ns ms → AreWhole ns
     → IsTaking (first_progress s (histories_in ns))
-first_taken s ns ms all whole =
-    Takings.first_taken s (histories_in ns) (length-map ns entries_noted ∙ all.notes) (all_replay s ns ms all whole)
+first_taken {s} {ns} all whole =
+    Takings.first_taken s (histories_in ns) (length-map ns entries_noted ∙ all.notes) (all_replay all whole)
 
 -- ---- the first entry that isn't recorded
 
@@ -60,8 +61,7 @@ WholeBelow ns n = (i : ℕ) (m : Notes) → i < n → slice_get ns i ≡ Some m 
 pub whole_more : (ns : List Notes) (k : ℕ) (n : Notes) → WholeBelow ns k → slice_get ns k ≡ Some n
     → length n.steps.items ≡ length (entries_noted n) → WholeBelow ns (k + 1)
 whole_more ns k n old at whole i m less there = elim (same_number k i) [
-  | inl e ↦ (let same : n ≡ m = Lists.same_item (slice_get ns i) n m (ap (slice_get ns) e ∙ at) there in
-      subst (λ (z : Notes). length z.steps.items ≡ length (entries_noted z)) same whole)
+  | inl e ↦ (let same : m ≡ n = cc (at, e, there) in rw same whole)
   | inr ne ↦ old i m (let q : i < k + 1 = less in omega (arith, ne)) there
 ]
 
@@ -103,14 +103,13 @@ pub record IsReadAt (p : Progress) (ms : List Message) (i t : ℕ) (n : Notes) :
   pub steps : HaveSteps p.settings i (entries_noted n) ms n.steps.items
   pub whole : length n.steps.items ≡ length (entries_noted n)
 
--- the code's value is p, which its client sees as q
-pub read : (p q : Progress) (ns : List Notes) (ms : List Message) (i t : ℕ) (n : Notes) → p ≡ q → p.histories ≡ histories_in ns
-    → IsTaking p → AreJudged p.settings ns ms → AreWhole ns → i < length q.histories → t ≡ get_or p.taken i t → n ≡ get_or ns i n
+-- what is read at a place of the notes
+pub read : {p : Progress} {ns : List Notes} {ms : List Message} {i t : ℕ} {n : Notes} → p.histories ≡ histories_in ns
+    → IsTaking p → AreJudged p.settings ns ms → AreWhole ns → i < length ns → t ≡ get_or p.taken i t → n ≡ get_or ns i n
     → IsReadAt p ms i t n
-read p q ns ms i t n same is v all whole less e f =
-    let seen : length q.histories ≡ length p.histories = ap (λ (r : Progress). length r.histories) (sym same) in
+read {p} {ns} {ms} {i} {t} {n} is v all whole less e f =
     let many : length p.histories ≡ length ns = ap length is ∙ length-map ns entries_noted in
-    let here : slice_get ns i ≡ Some n = slice_get_read ns (length ns) i n refl (omega arith) f in
+    let here : slice_get ns i ≡ Some n = slice_get_read ns (length ns) i n refl less f in
     let counts : length p.taken ≡ length p.histories = v.counts in
     record {
       there = ap (λ hs. slice_get hs i) is ∙ map_at entries_noted ns i n here;
@@ -120,28 +119,21 @@ read p q ns ms i t n same is v all whole less e f =
     }
 
 -- a place of the histories that a client sees is one of the notes
-pub has_notes : (p q : Progress) (ns : List Notes) (i : ℕ) → p ≡ q → p.histories ≡ histories_in ns → i < length q.histories
-    → i < length ns
-has_notes p q ns i same is less =
+pub has_notes : {p q : Progress} (ns : List Notes) {i : ℕ} → p ≡ q → p.histories ≡ histories_in ns
+    → i < length q.histories → i < length ns
+has_notes ns {i = i} same is less =
     subst (λ n. i < n) (ap (λ (r : Progress). length r.histories) (sym same) ∙ ap length is ∙ length-map ns entries_noted) less
 
 -- and there it is known how many entries were taken
-pub has_taken : (p : Progress) (ns : List Notes) (i len : ℕ) → IsTaking p → p.histories ≡ histories_in ns → len ≡ length p.taken
-    → i < length ns → i < len
-has_taken p ns i len v is e less =
+pub has_taken : {p : Progress} (ns : List Notes) {i len : ℕ} → IsTaking p → p.histories ≡ histories_in ns
+    → len ≡ length p.taken → i < length ns → i < len
+has_taken ns {i = i} v is e less =
     subst (λ n. i < n) (sym (length-map ns entries_noted) ∙ ap length (sym is) ∙ sym v.counts ∙ sym e) less
 
--- the same if the place is one of the notes
-pub read_here : (p : Progress) (ns : List Notes) (ms : List Message) (i t : ℕ) (n : Notes) → p.histories ≡ histories_in ns
-    → IsTaking p → AreJudged p.settings ns ms → AreWhole ns → i < length ns → t ≡ get_or p.taken i t → n ≡ get_or ns i n
-    → IsReadAt p ms i t n
-read_here p ns ms i t n is v all whole less e f =
-    let many : length p.histories ≡ length ns = ap length is ∙ length-map ns entries_noted in
-    read p p ns ms i t n refl is v all whole (omega arith) e f
-
 -- a site rests whose entries were all taken
-pub rests_past : (p : Progress) (ms : List Message) (i t : ℕ) (n : Notes) → IsReadAt p ms i t n → length n.steps.items ≤ t → Rests p i
-rests_past p ms i t n r past =
+pub rests_past : {p : Progress} {ms : List Message} {i t : ℕ} {n : Notes} → IsReadAt p ms i t n
+    → length n.steps.items ≤ t → Rests p i
+rests_past {p} {ms} {i} {t} {n} r past =
     Resting.rests_past p i t (entries_noted n) r.there r.at (let whole : length n.steps.items ≡ length (entries_noted n) = r.whole
     in omega arith)
 
@@ -152,9 +144,9 @@ pub record IsNextStep (p : Progress) (ms : List Message) (i t : ℕ) (n : Notes)
   pub says : IsStep ms entry.event (sent_at p.settings (site_after p.settings i (take t (entries_noted n))) entry.event) step
 
 -- each step has an entry
-pub next_step : (p : Progress) (ms : List Message) (i t : ℕ) (n : Notes) (step : Step) → IsReadAt p ms i t n
+pub next_step : {p : Progress} {ms : List Message} {i t : ℕ} {n : Notes} {step : Step} → IsReadAt p ms i t n
     → slice_get n.steps.items t ≡ Some step → IsNextStep p ms i t n step
-next_step p ms i t n step r at =
+next_step {p} {ms} {i} {t} {n} {step} r at =
     let less : t < length n.steps.items = slice_get_within n.steps.items t step at in
     let whole : length n.steps.items ≡ length (entries_noted n) = r.whole in
     let x = Lists.item_at (entries_noted n) t (omega arith) in
@@ -198,3 +190,31 @@ comes before ms e sent (Sends count at) posted (own, fits, is) k = (own_comes be
   where
     same : posted ≡ take count (drop at ms)
     same = cc
+
+-- ---- how many entries of each history were taken
+
+-- the histories below n are taken whole
+abbrev pub DoneBelow : Progress → ℕ → Type 0
+DoneBelow p n =
+    (i k : ℕ) (h : List Entry) → i < n → slice_get p.histories i ≡ Some h → slice_get p.taken i ≡ Some k → k ≡ length h
+
+-- one history more is taken whole
+pub done_more : (p : Progress) → IsTaking p → (j t : ℕ) (g : List Entry) → slice_get p.histories j ≡ Some g
+    → slice_get p.taken j ≡ Some t → length g ≤ t → DoneBelow p j → DoneBelow p (j + 1)
+done_more p v j t g there place past old i k h less at taken = elim (same_number j i) [
+  | inl e ↦
+      let size : length g ≡ length h = cc (there, e, at) in
+      let is : t ≡ k = cc (place, e, taken) in
+      let within : k ≤ length h = v.within i k h at taken in
+      omega arith
+  | inr ne ↦ old i k h (let q : i < j + 1 = less in omega (arith, ne)) at taken
+]
+
+-- no more entries were taken than a history may have
+pub taken_fits : (p : Progress) (ks : List ℕ) (i : ℕ) → IsTaking p → IsConfigured p.settings → ks ≡ p.taken
+    → i < length ks → get_or ks i 0 ≤ MOST_HISTORY
+taken_fits p ks i v c same less =
+    let at : slice_get p.taken i ≡ Some (get_or ks i 0) = rw (← same) (slice_get-get_or ks i 0 less) in
+    let n : length ks ≡ length p.taken = ap length same in
+    let (h, there) = Lists.item_at p.histories i (omega (arith, v.counts)) in
+    omega (arith, v.within i (get_or ks i 0) h there at, (v.replays i h there).room, c.history.1)

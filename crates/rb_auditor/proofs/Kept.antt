@@ -38,24 +38,19 @@ judged_more s i n ms all m j = record {
 }
 
 -- the same with the site
-pub notes_more : (s : Settings) (i : ℕ) (x : SeenSite) (n : Notes) (ms all : List Message) → IsMore ms all → AreNotes s i x n ms
-    → AreNotes s i x n all
-notes_more s i x n ms all m a = record {
-  settings = a.settings;
-  me = a.me;
-  entries = a.entries;
-  judged = judged_more s i n ms all m
-      a.judged;
-}
+pub notes_more : {s : Settings} {i : ℕ} {x : SeenSite} {n : Notes} {ms all : List Message} → IsMore ms all
+    → AreNotes s i x n ms → AreNotes s i x n all
+notes_more m a =
+    record { settings = a.settings; me = a.me; entries = a.entries; judged = judged_more _ _ _ _ _ m a.judged }
 
 -- the same messages are no fewer
-pub no_more : (ms later : List Message) → later ≡ ms → IsMore ms later
-no_more ms later e = record { more = []; is = e ∙ sym (append-nil ms) }
+pub no_more : (ms : List Message) → IsMore ms ms
+no_more ms = record { more = []; is = sym (append-nil ms) }
 
 -- messages behind others that have more than these
-pub more_still : (ms mid all later : List Message) → IsMore ms mid → IsMore mid all → later ≡ all → IsMore ms later
-more_still ms mid all later m n e =
-    record { more = m.more ++ n.more; is = e ∙ n.is ∙ ap (λ xs. xs ++ n.more) m.is ∙ append_assoc ms m.more n.more }
+pub more_still : {ms mid all : List Message} → IsMore ms mid → IsMore mid all → IsMore ms all
+more_still {ms} m n =
+    record { more = m.more ++ n.more; is = n.is ∙ ap (λ xs. xs ++ n.more) m.is ∙ append_assoc ms m.more n.more }
 
 -- the entries and steps of one history
 abbrev Judged : Settings → ℕ → List Entry → List Step → List Message → Type 0
@@ -64,17 +59,15 @@ Judged s i h steps ms =
     × (length steps < length h → ¬ IsReplay s i (take (length steps + 1) h)) × HaveSteps s i h ms steps
 
 -- if nothing is added, what is kept stays
-pub unchanged : (s : Settings) (i : ℕ) (x later : SeenSite) (old new : Notes) (ms all : List Message) → IsMore ms all → later ≡ x
-    → new.entries.items ≡ old.entries.items → new.steps.items ≡ old.steps.items → AreNotes s i x old ms → AreNotes s i later new all
-unchanged s i x later old new ms all m same entries steps a =
+pub unchanged : {s : Settings} {i : ℕ} {x later : SeenSite} {old new : Notes} {ms all : List Message} → IsMore ms all
+    → later ≡ x → entries_noted new ≡ entries_noted old → new.steps.items ≡ old.steps.items → AreNotes s i x old ms
+    → AreNotes s i later new all
+unchanged {s} {i} {x} {later} {old} {new} {ms} {all} m same entries steps a =
     let P : SeenSite → List Entry → List Step → Type 0 =
     λ z h ts. (z.settings ≡ s) × (z.me ≡ i) × (length ts ≡ length h → z.entries ≡ h) × Judged s i h ts all in
     let b : IsJudged s i old all = judged_more s i old ms all m a.judged in
-    let here : P x (entries_noted old) old.steps.items = (a.settings, a.me, a.entries, (b.within, b.replays, b.wrong, b.steps)) in
-    let e : entries_noted new ≡ entries_noted old = ap (map (λ z. z.value)) entries in
     let there : P later (entries_noted new) new.steps.items =
-    subst (λ z. P z (entries_noted new) new.steps.items) (sym same)
-    (subst (λ h. P x h new.steps.items) (sym e) (subst (P x (entries_noted old)) (sym steps) here)) in
+    rw (same, entries, steps) (a.settings, a.me, a.entries, (b.within, b.replays, b.wrong, b.steps)) in
     record {
       settings = there.0;
       me = there.1;
@@ -87,8 +80,7 @@ unchanged s i x later old new ms all m same entries steps a =
 judged_as : (s : Settings) (i : ℕ) (n : Notes) (ms : List Message) (h : List Entry) (steps : List Step) → entries_noted n ≡ h
     → n.steps.items ≡ steps → Judged s i h steps ms → IsJudged s i n ms
 judged_as s i n ms h steps e f j =
-    let P : List Entry → List Step → Type 0 = λ g ts. Judged s i g ts ms in
-    let all : Judged s i (entries_noted n) n.steps.items ms = subst (λ g. P g n.steps.items) (sym e) (subst (P h) (sym f) j) in
+    let all : Judged s i (entries_noted n) n.steps.items ms = rw (e, f) j in
     record { within = all.0; replays = all.1; wrong = all.2; steps = all.3 }
 
 -- an entry comes that has no step: with it, the entries up to the first without one don't replay
@@ -117,10 +109,10 @@ without_step s i later old new ms y settings me j wrong grown same = record {
     longer = ap length grown ∙ size
 
 -- an entry comes behind others, of which not all have a step
-pub past_wrong : (s : Settings) (i : ℕ) (x : SeenSite) (old new : Notes) (ms : List Message) (y : Entry) → AreNotes s i x old ms
-    → ¬ (length old.steps.items ≡ length (entries_noted old)) → entries_noted new ≡ entries_noted old ++ y ∷ []
-    → new.steps.items ≡ old.steps.items → AreNotes s i x new ms
-past_wrong s i x old new ms y a not grown same =
+pub past_wrong : {s : Settings} {i : ℕ} {x : SeenSite} {old new : Notes} {ms : List Message} (y : Entry)
+    → AreNotes s i x old ms → ¬ (length old.steps.items ≡ length (entries_noted old))
+    → entries_noted new ≡ entries_noted old ++ y ∷ [] → new.steps.items ≡ old.steps.items → AreNotes s i x new ms
+past_wrong {s} {i} {x} {old} {new} {ms} y a not grown same =
     let within : length old.steps.items ≤ length (entries_noted old) = a.judged.within in
     let less : length old.steps.items < length (entries_noted old) = omega (arith, not) in
     without_step s i x old new ms y a.settings a.me a.judged (subst (λ g. ¬ IsReplay s i g)
@@ -142,9 +134,7 @@ first_wrong s i x later old new ms y a whole not e f grown same =
     size = length-append h (y ∷ [])
 
     here : ¬ IsReplay s i (h ++ y ∷ [])
-    here r = not (subst (λ t. IsReplay t x.me (x.entries ++ y ∷ [])) (sym a.settings)
-        (subst (λ k. IsReplay s k (x.entries ++ y ∷ [])) (sym a.me)
-        (subst (λ g. IsReplay s i (g ++ y ∷ [])) (sym (a.entries whole)) r)))
+    here r = not (let e : x.entries ≡ h = a.entries whole in rw (a.settings, a.me, e) r)
 
 -- the site records one entry more
 one_recorded : (s : Settings) (i : ℕ) (x later : SeenSite) (old new : Notes) (ms : List Message) (y : Entry) (step : Step)
@@ -184,35 +174,36 @@ one_recorded s i x later old new ms y step a whole is replayed new_step grown mo
     here = subst IsReplayed (is ∙ ap (λ (z : SeenSite). record z { entries = z.entries ++ y ∷ [] }) now) replayed
 
 -- one entry more, by its step if the site records it
-pub one_more : (s : Settings) (i : ℕ) (x later : SeenSite) (old new : Notes) (ms : List Message) (y : Entry) (o : Option Step)
-    → AreNotes s i x old ms → length old.steps.items ≡ length (entries_noted old) → IsStepOf x later y ms o
-    → later.settings ≡ x.settings → later.me ≡ x.me
-    → entries_noted new ≡ entries_noted old ++ y ∷ [] → new.steps.items ≡ one_step_more old.steps.items o → AreNotes s i later new ms
-one_more s i x later old new ms y None a whole h e f grown same = first_wrong s i x later old new ms y a whole h e f grown same
-one_more s i x later old new ms y (Some step) a whole h e f grown more =
-    one_recorded s i x later old new ms y step a whole h.0 h.1 h.2 grown more
+pub one_more : {s : Settings} {i : ℕ} {x later : SeenSite} {old new : Notes} {ms : List Message} (y : Entry)
+    (o : Option Step) → AreNotes s i x old ms → length old.steps.items ≡ length (entries_noted old)
+    → IsStepOf x later y ms o → later.settings ≡ x.settings → later.me ≡ x.me
+    → entries_noted new ≡ entries_noted old ++ y ∷ [] → new.steps.items ≡ one_step_more old.steps.items o
+    → AreNotes s i later new ms
+one_more y None a whole h e f grown same = first_wrong _ _ _ _ _ _ _ y a whole h e f grown same
+one_more y (Some step) a whole h e f grown more = one_recorded _ _ _ _ _ _ _ y step a whole h.0 h.1 h.2 grown more
 
 -- a site that records all its entries is replayed
-pub replayed_now : (x : SeenSite) (n : Notes) (ms : List Message) → AreNotes x.settings x.me x n ms
+pub replayed_now : {x : SeenSite} {n : Notes} {ms : List Message} → AreNotes x.settings x.me x n ms
     → length n.steps.items ≡ length (entries_noted n) → IsReplayed x
-replayed_now x n ms a whole = subst (IsReplay x.settings x.me)
+replayed_now {x} {n} a whole = subst (IsReplay x.settings x.me)
     (take_all (length n.steps.items) (entries_noted n) (omega arith) ∙ sym (a.entries whole)) a.judged.replays
 
 -- ---- all sites
 
 -- the site and the notes that are read at a place belong together
-pub at_place : (s : Settings) (xs : List SeenSite) (ns : List Notes) (ms : List Message) (i : ℕ) (x : SeenSite) (n : Notes)
-    → AreAllNotes s xs ns ms → i < s.sites → x ≡ get_or xs i x → n ≡ get_or ns i n → AreNotes x.settings x.me x n ms
-at_place s xs ns ms i x n all less e f =
+pub at_place : {s : Settings} {xs : List SeenSite} {ns : List Notes} {ms : List Message} {i : ℕ} {x : SeenSite}
+    {n : Notes} → AreAllNotes s xs ns ms → i < s.sites → x ≡ get_or xs i x → n ≡ get_or ns i n
+    → AreNotes x.settings x.me x n ms
+at_place {s} {xs} {ns} {ms} {i} {x} {n} all less e f =
     let a : AreNotes s i x n ms =
     all.each i x n (slice_get_read xs s.sites i x (sym all.sites) less e) (slice_get_read ns s.sites i n (sym all.notes) less f) in
     subst (λ t. AreNotes t x.me x n ms) (sym a.settings) (subst (λ k. AreNotes s k x n ms) (sym a.me) a)
 
 -- the site and the notes at a place go on
-pub set_place : (s : Settings) (xs : List SeenSite) (ns : List Notes) (ms later : List Message) (i : ℕ) (x y : SeenSite) (n m : Notes)
-    → AreAllNotes s xs ns ms → IsMore ms later → i < s.sites → x ≡ get_or xs i x → n ≡ get_or ns i n
+pub set_place : {s : Settings} {xs : List SeenSite} {ns : List Notes} {ms later : List Message} {i : ℕ} {x y : SeenSite}
+    {n m : Notes} → AreAllNotes s xs ns ms → IsMore ms later → i < s.sites → x ≡ get_or xs i x → n ≡ get_or ns i n
     → AreNotes x.settings x.me y m later → AreAllNotes s (slice_set xs i y) (slice_set ns i m) later
-set_place s xs ns ms later i x y n m all more less e f new = record {
+set_place {s} {xs} {ns} {ms} {later} {i} {x} {y} {n} {m} all more less e f new = record {
   sites = length-set xs i y ∙ all.sites;
   notes = length-set ns i m ∙ all.notes;
   each = each;
@@ -224,29 +215,24 @@ set_place s xs ns ms later i x y n m all more less e f new = record {
     there : slice_get ns i ≡ Some n
     there = slice_get_read ns s.sites i n (sym all.notes) less f
 
-    old : AreNotes s i x n ms
-    old = all.each i x n here there
-
     now : AreNotes s i y m later
-    now = subst (λ t. AreNotes t i y m later) old.settings (subst (λ k. AreNotes x.settings k y m later) old.me new)
+    now = let old : AreNotes s i x n ms = all.each i x n here there in rw (← old.settings, ← old.me) new
 
     each : (j : ℕ) (u : SeenSite) (w : Notes) → slice_get (slice_set xs i y) j ≡ Some u → slice_get (slice_set ns i m) j ≡ Some w
         → AreNotes s j u w later
     each j u w at is = elim (same_number i j) [
       | inl q ↦
-          let a : y ≡ u = Lists.same_item (slice_get (slice_set xs i y) i) y u (Places.get_set_same xs i x y here)
-          (ap (slice_get (slice_set xs i y)) (sym q) ∙ at) in
-          let b : m ≡ w = Lists.same_item (slice_get (slice_set ns i m) i) m w (Places.get_set_same ns i n m there)
-          (ap (slice_get (slice_set ns i m)) (sym q) ∙ is) in
-          subst (λ k. AreNotes s k u w later) (sym q) (subst (λ z. AreNotes s i z w later) a (subst (λ z. AreNotes s i y z later) b now))
-      | inr ne ↦ notes_more s j u w ms later more (all.each j u w (sym (Places.get_set_other xs i j y ne) ∙ at)
+          let a : u ≡ y = cc (Places.get_set_same xs i x y here) in
+          let b : w ≡ m = cc (Places.get_set_same ns i n m there) in
+          rw (q, a, b) now
+      | inr ne ↦ notes_more more (all.each j u w (sym (Places.get_set_other xs i j y ne) ∙ at)
           (sym (Places.get_set_other ns i j m ne) ∙ is))
     ]
 
 -- to set what is there changes nothing
 pub set_same : {A : Type 0} (xs : List A) (i : ℕ) (x : A) → slice_get xs i ≡ Some x → slice_set xs i x ≡ xs
 set_same [] i x h = cc
-set_same (y ∷ xs) zero x h = let e : y ≡ x = cc in ap (λ z. z ∷ xs) (sym e)
+set_same (y ∷ xs) zero x h = cc
 set_same (y ∷ xs) (suc i) x h = ap (λ zs. y ∷ zs) (set_same xs i x h)
 
 -- the histories go on if the notes at a place do
@@ -255,34 +241,24 @@ pub histories_set : (ns : List Notes) (i : ℕ) (m : Notes) (h : List Entry) →
 histories_set ns i m h e = map-set entries_noted ns i m ∙ ap (slice_set (histories_in ns) i) e
 
 -- what a client sees with more entries at a place
-pub has_more : (old : Audited) (s : Settings) (ns : List Notes) (i : ℕ) (n m : Notes) (xs : List Entry)
+pub has_more : {old : Audited} {s : Settings} (ns : List Notes) {i : ℕ} {n : Notes} (m : Notes) {xs : List Entry}
     → record { settings = s; histories = histories_in ns } ≡ old → length ns ≡ s.sites → i < s.sites → n ≡ get_or ns i n
     → entries_noted m ≡ entries_noted n ++ xs → HasMore old (record { settings = s; histories = histories_in (slice_set ns i m) }) i xs
-has_more old s ns i n m xs seen count less f grown = subst P seen (record {
+has_more {old} {s} ns {i} {n} m {xs} seen count less f grown = rw (← seen) (record {
   history = entries_noted n;
-  there = map_at entries_noted ns i n there;
+  there = map_at entries_noted ns i n (slice_get_read ns s.sites i n (sym count) less f);
   is = ap (λ hs. record { settings = s; histories = hs }) (histories_set ns i m (entries_noted n ++ xs) grown);
 })
-  where
-    P : Audited → Type 0
-    P o = HasMore o (record { settings = s; histories = histories_in (slice_set ns i m) }) i xs
-
-    there : slice_get ns i ≡ Some n
-    there = slice_get_read ns s.sites i n (sym count) less f
 
 -- a client sees nothing if no entry is added
-pub has_same : (old : Audited) (s : Settings) (ns : List Notes) (i : ℕ) (n m : Notes)
+pub has_same : {old : Audited} {s : Settings} (ns : List Notes) {i : ℕ} {n : Notes} (m : Notes)
     → record { settings = s; histories = histories_in ns } ≡ old → length ns ≡ s.sites → i < s.sites → n ≡ get_or ns i n
     → entries_noted m ≡ entries_noted n → record { settings = s; histories = histories_in (slice_set ns i m) } ≡ old
-has_same old s ns i n m seen count less f same =
-    ap as_seen (histories_set ns i m (entries_noted n) same ∙ set_same (histories_in ns) i (entries_noted n) (map_at entries_noted ns i n
-    there)) ∙ seen
-  where
-    as_seen : List (List Entry) → Audited
-    as_seen hs = record { settings = s; histories = hs }
-
-    there : slice_get ns i ≡ Some n
-    there = slice_get_read ns s.sites i n (sym count) less f
+has_same {old} {s} ns {i} {n} m seen count less f same =
+    ap (λ hs. record { settings = s; histories = hs }) (histories_set ns i m (entries_noted n) same
+    ∙ set_same (histories_in ns) i (entries_noted n)
+    (map_at entries_noted ns i n (slice_get_read ns s.sites i n (sym count) less f)))
+    ∙ seen
 
 -- before any entry
 pub none_read : (s : Settings) (xs : List SeenSite) (ns : List Notes) (ms : List Message)
@@ -332,8 +308,9 @@ no_histories (m ∷ ns) (suc n) e none =
     ∙ ap (λ hs. [] ∷ hs) (no_histories ns n (omega arith) (λ i. none (suc i)))
 
 -- what is kept of each history, without the sites
-pub judged_all : (s : Settings) (xs : List SeenSite) (ns : List Notes) (ms : List Message) → AreAllNotes s xs ns ms → AreJudged s ns ms
-judged_all s xs ns ms all = record {
+pub judged_all : {s : Settings} {xs : List SeenSite} {ns : List Notes} {ms : List Message} → AreAllNotes s xs ns ms
+    → AreJudged s ns ms
+judged_all {s} {xs} {ns} all = record {
   notes = all.notes;
   each = λ i n at. (let less : i < length ns = slice_get_within ns i n at in
       let many : length ns ≡ s.sites = all.notes in

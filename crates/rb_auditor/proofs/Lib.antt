@@ -1,10 +1,8 @@
 mod Results
-mod Lengths
 mod Lists
 mod Found
 mod Positions
 mod Placed
-mod Numbers
 mod Clocks
 mod Replaying
 mod Messages
@@ -14,7 +12,6 @@ mod Following
 mod Refuting
 mod Ended
 mod Listed
-mod Counting
 mod Resting
 mod Steps
 mod Kept

@@ -1,8 +1,7 @@
 -- Messages that are listed by their numbers.
-use Rattle.std.proofs.Common.{◌≡◌, ℕ, ◌+◌, ◌<◌, ◌≤◌, List, [], ◌∷◌, ◌++◌, length, take, refl, ap, sym, subst, ◌∙◌, inl, inr}
+use Rattle.std.proofs.Common.{◌≡◌, ℕ, ◌+◌, ◌<◌, List, [], ◌∷◌, ◌++◌, length, take, refl, ap, sym, subst, ◌∙◌, inl, inr}
 use Rattle.std.proofs.Common.{arith, length-append, Some, append_assoc, Vec, get_or}
-use Rattle.std.specs.Borrow.{Bor}
-use Rattle.std.specs.Prelude.{map, slice_get, slice_set}
+use Rattle.std.specs.Prelude.{slice_get, slice_set}
 use Rattle.std.proofs.lemmas.List.{length-map, length-take-le, take_more}
 use Rattle.std.proofs.lemmas.Option.{slice_get_read}
 use Rattle.rb_auditor.specs.Findings.{lists_of}
@@ -13,20 +12,9 @@ use Rattle.rb_site.proofs.Public.Lists.{get_front, map_at}
 use Rattle.rb_auditor.specs.Sent.{AreListed, IsListed, row_of_message, slot_of}
 use Rattle.rb_auditor.proofs.Lists
 
--- the messages that are kept elsewhere
-abbrev pub read : List (Bor Message) → List Message
-read ms = map (λ m. m.now) ms
-
--- while not all are added, there is spare capacity for one more
-pub room_left : (now first : List (Bor Message)) (posted : List Message) (k len old room : ℕ) → k < length posted → len ≡ length now
-    → old ≡ length first → read now ≡ read first ++ take k posted → old + length posted ≤ room → len < room
-room_left now first posted k len old room less size begun so_far fits =
-    let read_now : length (read now) ≡ length now = length-map now (λ (m : Bor Message). m.now) in
-    let read_first : length (read first) ≡ length first = length-map first (λ (m : Bor Message). m.now) in
-    let taken : length (take k posted) ≡ k = length-take-le k posted (omega arith) in
-    let sum : length (read now) ≡ length (read first) + length (take k posted) =
-    ap length so_far ∙ length-append (read first) (take k posted) in
-    omega arith
+-- there are as many lists of items as vectors that have them
+pub length_lists : {X Z : Type 0} (vs : List (Vec X Z)) → length (lists_of vs) ≡ length vs
+length_lists {X} {Z} vs = length-map vs (λ (v : Vec X Z). v.items)
 
 -- a row of the rows
 pub row_at : {X Z : Type 0} (rows : List (Vec X Z)) (r : ℕ) (v : Vec X Z) → r < length rows → v ≡ get_or rows r v

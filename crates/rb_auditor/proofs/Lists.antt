@@ -24,33 +24,22 @@ pub record IsSplit {A : Type 0} (xs : List A) (k : ℕ) (x : A) : Type 0 where
 pub split_at : {A : Type 0} (xs : List A) (k : ℕ) (x : A) → slice_get xs k ≡ Some x → IsSplit xs k x
 split_at [] k x h = cc
 split_at (y ∷ ys) zero x h =
-    let e : y ≡ x = cc in record {
-      rest = ys;
-      whole = ap (λ z. z ∷ ys) e;
-      more = ap (λ z. z ∷ []) e;
-      dropped =
-          ap (λ z. z ∷ ys) e;
-      within = omega arith;
-      front = refl;
-    }
+    record { rest = ys; whole = cc; more = cc; dropped = cc; within = omega arith; front = refl }
 split_at (y ∷ ys) (suc k) x h =
     let i : IsSplit ys k x = split_at ys k x h in
     record {
       rest = i.rest;
       whole = ap (λ zs. y ∷ zs) i.whole;
-      more =
-          ap (λ n. take n (y ∷ ys)) (let q : suc k + 1 ≡ suc (k + 1) = omega arith in q) ∙ ap (λ zs. y ∷ zs) i.more;
-      dropped =
-          i.dropped;
-      within = let q : k < length ys = i.within in omega arith;
-      front =
-          let q : length (take k ys) ≡ k = i.front in omega arith;
+      more = ap (λ n. take n (y ∷ ys)) (let q : suc k + 1 ≡ suc (k + 1) = omega arith in q) ∙ ap (λ zs. y ∷ zs) i.more;
+      dropped = i.dropped;
+      within = omega arith;
+      front = ap suc i.front;
     }
 
 -- what is found in a list of zeros is 0
 pub get_zero : (n i k : ℕ) → slice_get (replicate n 0) i ≡ Some k → k ≡ 0
 get_zero zero i k h = cc
-get_zero (suc n) zero k h = let e : 0 ≡ k = cc in sym e
+get_zero (suc n) zero k h = cc
 get_zero (suc n) (suc i) k h = get_zero n i k h
 
 -- what two looks at one place give is one thing
@@ -71,7 +60,7 @@ get_after (z ∷ xs) ys x = get_after xs ys x
 -- an item of a list with one more is one of those before, or the one more
 pub before_or_last : {A : Type 0} (xs : List A) (x y : A) (k : ℕ) → slice_get (xs ++ x ∷ []) k ≡ Some y
     → (slice_get xs k ≡ Some y) ⊎ ((k ≡ length xs) × (y ≡ x))
-before_or_last [] x y zero h = inr (refl, let e : x ≡ y = cc in sym e)
+before_or_last [] x y zero h = inr (refl, cc)
 before_or_last [] x y (suc k) h = cc
 before_or_last (z ∷ xs) x y zero h = inl h
 before_or_last (z ∷ xs) x y (suc k) h = elim (before_or_last xs x y k h) [ inl g ↦ inl g | inr (e, same) ↦ inr (ap suc e, same) ]
@@ -93,22 +82,23 @@ get_site s a (g ∷ hs) [] i k h p q = cc
 get_site s a (g ∷ hs) (n ∷ ks) zero k h p q =
     let e : g ≡ h = cc in
     let f : n ≡ k = cc in
-    ap (λ j. Some (site_after s j (take n g))) (let z : a ≡ a + 0 = omega arith in z) ∙ ap (λ m. Some (site_after s (a + 0) (take m g))) f
-    ∙ ap (λ j. Some (site_after s (a + 0) (take k j))) e
+    let z : a + 0 ≡ a = omega arith in
+    rw (e, f, z)
 get_site s a (g ∷ hs) (n ∷ ks) (suc i) k h p q =
-    get_site s (a + 1) hs ks i k h p q ∙ ap (λ j. Some (site_after s j (take k h))) (let z : a + 1 + i ≡ a + suc i = omega arith in z)
+    let z : a + suc i ≡ a + 1 + i = omega arith in rw z (get_site s (a + 1) hs ks i k h p q)
 
--- where a site comes from
-pub record IsSiteOf (s : Settings) (hs : List (List Entry)) (ks : List ℕ) (a i : ℕ) (t : ModelSite) : Type 0 where
+-- what is made of the entries that were taken of the history at a place
+pub record IsMadeOf {B : Type 0} (hs : List (List Entry)) (ks : List ℕ) (i : ℕ) (make : List Entry → B) (b : B)
+    : Type 0 where
   pub history : List Entry
   pub taken : ℕ
   pub there : slice_get hs i ≡ Some history
   pub at : slice_get ks i ≡ Some taken
-  pub is : t ≡ site_after s (a + i) (take taken history)
+  pub is : b ≡ make (take taken history)
 
 -- a site that is found at a place comes from the history and the number of entries that are there
 pub from_site : (s : Settings) (a : ℕ) (hs : List (List Entry)) (ks : List ℕ) (i : ℕ) (t : ModelSite)
-    → slice_get (sites_after s a hs ks) i ≡ Some t → IsSiteOf s hs ks a i t
+    → slice_get (sites_after s a hs ks) i ≡ Some t → IsMadeOf hs ks i (site_after s (a + i)) t
 from_site s a [] ks i t p = cc
 from_site s a (g ∷ hs) [] i t p = cc
 from_site s a (g ∷ hs) (n ∷ ks) zero t p = record {
@@ -116,19 +106,12 @@ from_site s a (g ∷ hs) (n ∷ ks) zero t p = record {
   taken = n;
   there = refl;
   at = refl;
-  is =
-      let e : site_after s a (take n g) ≡ t = cc in sym e ∙ ap (λ j. site_after s j (take n g)) (let z : a ≡ a + 0 = omega arith in z);
+  is = let z : a + 0 ≡ a = omega arith in rw z cc;
 }
 from_site s a (g ∷ hs) (n ∷ ks) (suc i) t p =
-    let r : IsSiteOf s hs ks (a + 1) i t = from_site s (a + 1) hs ks i t p in
-    record {
-      history = r.history;
-      taken = r.taken;
-      there = r.there;
-      at = r.at;
-      is =
-          r.is ∙ ap (λ j. site_after s j (take r.taken r.history)) (let z : a + 1 + i ≡ a + suc i = omega arith in z);
-    }
+    let r : IsMadeOf hs ks i (site_after s (a + 1 + i)) t = from_site s (a + 1) hs ks i t p in
+    let z : a + suc i ≡ a + 1 + i = omega arith in
+    record { history = r.history; taken = r.taken; there = r.there; at = r.at; is = rw z r.is }
 
 -- to set how many entries are taken of one history is to set its site to the one after these
 pub set_site : (s : Settings) (a : ℕ) (hs : List (List Entry)) (ks : List ℕ) (i n : ℕ) (h : List Entry) → slice_get hs i ≡ Some h
@@ -137,13 +120,10 @@ set_site s a [] ks i n h p = cc
 set_site s a (g ∷ hs) [] zero n h p = refl
 set_site s a (g ∷ hs) [] (suc i) n h p = refl
 set_site s a (g ∷ hs) (k ∷ ks) zero n h p =
-    let e : g ≡ h = cc in
-    ap (λ f. site_after s a (take n f) ∷ sites_after s (a + 1) hs ks) e
-    ∙ ap (λ j. site_after s j (take n h) ∷ sites_after s (a + 1) hs ks) (let z : a ≡ a + 0 = omega arith in z)
+    let e : g ≡ h = cc in let z : a + 0 ≡ a = omega arith in rw (e, z)
 set_site s a (g ∷ hs) (k ∷ ks) (suc i) n h p =
-    ap (λ ts. site_after s a (take k g) ∷ ts) (set_site s (a + 1) hs ks i n h p
-    ∙ ap (λ j. slice_set (sites_after s (a + 1) hs ks) i (site_after s j (take n h))) (let z : a + 1 + i ≡ a + suc i = omega arith in
-    z))
+    let z : a + suc i ≡ a + 1 + i = omega arith in
+    ap (λ ts. site_after s a (take k g) ∷ ts) (rw z (set_site s (a + 1) hs ks i n h p))
 
 -- with no entry taken, the sites are those from a on, each at its beginning
 pub first_sites : (s : Settings) (a : ℕ) (hs : List (List Entry))
@@ -159,25 +139,17 @@ pub get_front : (hs : List (List Entry)) (ks : List ℕ) (i k : ℕ) (h : List E
 get_front [] ks i k h p q = cc
 get_front (g ∷ hs) [] i k h p q = cc
 get_front (g ∷ hs) (n ∷ ks) zero k h p q =
-    let e : g ≡ h = cc in let f : n ≡ k = cc in ap (λ m. Some (take m g)) f ∙ ap (λ x. Some (take k x)) e
+    let e : g ≡ h = cc in let f : n ≡ k = cc in rw (e, f)
 get_front (g ∷ hs) (n ∷ ks) (suc i) k h p q = get_front hs ks i k h p q
-
--- where a prefix comes from
-pub record IsFront (hs : List (List Entry)) (ks : List ℕ) (i : ℕ) (f : List Entry) : Type 0 where
-  pub history : List Entry
-  pub taken : ℕ
-  pub there : slice_get hs i ≡ Some history
-  pub at : slice_get ks i ≡ Some taken
-  pub is : f ≡ take taken history
 
 -- a prefix that is found at a place comes from the history and the number of entries that are there
 pub from_front : (hs : List (List Entry)) (ks : List ℕ) (i : ℕ) (f : List Entry) → slice_get (fronts_of hs ks) i ≡ Some f
-    → IsFront hs ks i f
+    → IsMadeOf hs ks i (λ f. f) f
 from_front [] ks i f p = cc
 from_front (g ∷ hs) [] i f p = cc
-from_front (g ∷ hs) (n ∷ ks) zero f p = record { history = g; taken = n; there = refl; at = refl; is = let e : take n g ≡ f = cc in sym e }
+from_front (g ∷ hs) (n ∷ ks) zero f p = record { history = g; taken = n; there = refl; at = refl; is = cc }
 from_front (g ∷ hs) (n ∷ ks) (suc i) f p =
-    let r : IsFront hs ks i f = from_front hs ks i f p in
+    let r : IsMadeOf hs ks i (λ f. f) f = from_front hs ks i f p in
     record { history = r.history; taken = r.taken; there = r.there; at = r.at; is = r.is }
 
 -- prefixes that are whole
@@ -205,8 +177,6 @@ pub left_less : (hs : List (List Entry)) (ks : List ℕ) (i k : ℕ) (h : List E
 left_less [] ks i k h p q less = cc
 left_less (g ∷ hs) [] i k h p q less = cc
 left_less (g ∷ hs) (n ∷ ks) zero k h p q less =
-    let e : n ≡ k = cc in
-    let f : length g ≡ length h = ap (λ (o : List Entry). length o) (let z : g ≡ h = cc in z) in
-    omega arith
+    let e : n ≡ k = cc in let f : length g ≡ length h = cc in omega arith
 left_less (g ∷ hs) (n ∷ ks) (suc i) k h p q less =
     let r : left_of hs (slice_set ks i (k + 1)) < left_of hs ks = left_less hs ks i k h p q less in omega arith

@@ -1,6 +1,7 @@
 -- Messages that were sent.
 use Rattle.std.proofs.Common.{◌≡◌, ℕ, suc, ◌+◌, ◌<◌, List, [], ◌∷◌, ◌++◌, length, take, get_or, ap, sym, ◌∙◌, inl, inr, subst, Some}
-use Rattle.std.specs.Prelude.{slice_get}
+use Rattle.std.proofs.Common.{None, Option}
+use Rattle.std.specs.Prelude.{option_map, slice_get}
 use Rattle.std.proofs.lemmas.List.{append-nil, map-append, take_more}
 use Rattle.std.proofs.lemmas.Option.{slice_get-get_or}
 use Rattle.rb_money.specs.Settings.{Settings}
@@ -12,20 +13,20 @@ use Rattle.rb_site.specs.Histories.{IsAmong, IsFrom, events_of, sends_of}
 use Rattle.rb_site.proofs.Public.Recorded.{at_place}
 use Rattle.rb_site.proofs.Public.Stuck
 use Rattle.rb_auditor.specs.Progress.{IsHeldUp}
+use Rattle.rb_auditor.specs.Sent.{row_of_message, slot_of}
 
 -- the number of a message that was sent
 pub numbered : (m : Message) (ms : List Message) → IsAmong m ms → (k : ℕ) × (slice_get ms k ≡ Some m)
 numbered m [] h = elim h [ ]
-numbered m (n ∷ ms) (inl e) = (0, ap Some (sym e))
+numbered m (n ∷ ms) (inl e) = (0, cc)
 numbered m (n ∷ ms) (inr h) = let (k, at) = numbered m ms h in (suc k, at)
 
 -- what is held up can't come
 pub held_up : (ms : List Message) (xs rest : List Entry) (x : Entry) → IsHeldUp ms xs → xs ≡ x ∷ rest → IsFrom ms x.event → ⊥
 held_up ms [] rest x h e come = cc
 held_up ms (y ∷ ys) rest x (m, is, not) e come =
-    let same : y ≡ x = cc in
-    let event : x.event ≡ Receive m = ap (λ (z : Entry). z.event) (sym same) ∙ is in
-    not (the (subst (IsFrom ms) event come))
+    let event : x.event ≡ Receive m = (let same : x ≡ y = cc in rw same is) in
+    not (the (rw event at come))
   where
     the : IsFrom ms (Receive m) → IsAmong m ms
     the h = h
@@ -52,3 +53,19 @@ not_found ms k d m less before other among =
       | inl a ↦ before a
       | inr b ↦ elim b [ inl e ↦ other (sym e) | inr z ↦ z ]
     ]
+
+-- ---- the row and the slot of a message, as the code reads them
+
+-- a message's row and slot
+abbrev number : Message → ℕ × ℕ
+number m = (row_of_message m, slot_of m)
+
+-- the row and the slot that are read are those of the message
+pub number_at : (o : Option Message) (m : Message) (row slot : ℕ) → o ≡ Some m
+    → option_map {U = ℕ × ℕ} (λ m. (row_of_message m, slot_of m)) o ≡ Some (row, slot)
+    → (row_of_message m ≡ row) × (slot_of m ≡ slot)
+number_at None m row slot at is = cc
+number_at (Some n) m row slot at is =
+    let same : m ≡ n = cc in
+    let both : number n ≡ (row, slot) = cc in
+    rw same (ap (λ p. p.0) both, ap (λ p. p.1) both)

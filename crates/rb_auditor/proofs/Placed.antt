@@ -1,9 +1,9 @@
 -- Messages by their places among all.
-use Rattle.std.proofs.Common.{◌≡◌, ◌∙◌, ℕ, ◌+◌, ◌<◌, ◌≤◌, List, [], ◌∷◌, ◌++◌, length, take, drop, refl, ap, sym, get_or}
-use Rattle.std.proofs.Common.{Some, None, append_assoc}
+use Rattle.std.proofs.Common.{◌≡◌, ◌∙◌, ℕ, ◌+◌, ◌<◌, List, [], ◌∷◌, ◌++◌, length, take, drop, refl, ap, sym, get_or}
+use Rattle.std.proofs.Common.{Some, append_assoc}
 use Rattle.std.specs.List.{filter_map}
 use Rattle.std.specs.Prelude.{map, slice_get}
-use Rattle.std.proofs.lemmas.Option.{slice_get_past, slice_get_read}
+use Rattle.std.proofs.lemmas.Option.{slice_get_read}
 use Rattle.rb_site.specs.declared.message.Message.{Message}
 use Rattle.rb_ledger.proofs.Public.Fronts
 use Rattle.rb_auditor.specs.MessageLists.{AreThere, SentTable}
@@ -19,15 +19,6 @@ at_place all ps now t k p view each same less is =
     ∙ Found.at_some (slice_get all) ps (filter_map (slice_get all) ps) k p each
     (ap (λ qs. slice_get qs k) (sym same) ∙ slice_get_read now (length now) k p refl less is)
     ∙ ap (λ (t : SentTable). slice_get t.all p) view
-
--- past the last there is none
-pub past_places : (all : List Message) (ps now : List ℕ) (t : SentTable) (k : ℕ)
-    → record { all = all; items = filter_map (slice_get all) ps } ≡ t → AreThere (slice_get all) ps
-    → now ≡ ps → length now ≤ k → slice_get t.items k ≡ None
-past_places all ps now t k view each same past =
-    ap (λ (t : SentTable). slice_get t.items k) (sym view)
-    ∙ Found.at_none (slice_get all) ps (filter_map (slice_get all) ps) k each
-    (ap (λ qs. slice_get qs k) (sym same) ∙ slice_get_past now k past)
 
 -- the next of the messages from a place on is added
 pub place_next : (all : List Message) (ps qs : List ℕ) (ys : List Message) (first k at : ℕ) → at ≡ first + k → at < length all

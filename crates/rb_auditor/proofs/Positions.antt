@@ -56,29 +56,32 @@ other_pushed us os ns ps qs m k e f last each =
     (ap (slice_get (os ++ m ∷ [])) last ∙ Lists.get_after os [] m)
 
 -- the message at a position that is read
-pub at_position : (us : List Shadow) (os : List Message) (ps now : List KeptAt) (t : MessageTable) (compact sites limit k : ℕ) (p : KeptAt)
+pub at_position : (us : List Shadow) (os : List Message) {ps now : List KeptAt} {t : MessageTable}
+    {compact sites limit k : ℕ} {p : KeptAt}
     → record { items = filter_map (message_kept_at us os) ps; compact = compact; sites = sites; limit = limit } ≡ t
     → AreThere (message_kept_at us os) ps
     → now ≡ ps → k < length now → p ≡ get_or now k p → slice_get t.items k ≡ message_kept_at us os p
-at_position us os ps now t compact sites limit k p view each same less is =
+at_position us os {ps} {now} {t} {k = k} {p = p} view each same less is =
     ap (λ (t : MessageTable). slice_get t.items k) (sym view)
     ∙ Found.at_some (message_kept_at us os) ps (filter_map (message_kept_at us os) ps) k p each
     (ap (λ qs. slice_get qs k) (sym same) ∙ slice_get_read now (length now) k p refl less is)
 
 -- past the last there is none
-pub past_positions : (us : List Shadow) (os : List Message) (ps now : List KeptAt) (t : MessageTable) (compact sites limit k : ℕ)
+pub past_positions : (us : List Shadow) (os : List Message) {ps now : List KeptAt} {t : MessageTable}
+    {compact sites limit k : ℕ}
     → record { items = filter_map (message_kept_at us os) ps; compact = compact; sites = sites; limit = limit } ≡ t
     → AreThere (message_kept_at us os) ps
     → now ≡ ps → length now ≤ k → slice_get t.items k ≡ None
-past_positions us os ps now t compact sites limit k view each same past =
+past_positions us os {ps} {now} {k = k} view each same past =
     ap (λ (t : MessageTable). slice_get t.items k) (sym view)
     ∙ Found.at_none (message_kept_at us os) ps (filter_map (message_kept_at us os) ps) k each
     (ap (λ qs. slice_get qs k) (sym same) ∙ slice_get_past now k past)
 
 -- as many messages as positions
-pub many_positions : (us : List Shadow) (os : List Message) (ps : List KeptAt) (t : MessageTable) (compact sites limit : ℕ)
+pub many_positions : (us : List Shadow) (os : List Message) (ps : List KeptAt) {t : MessageTable}
+    {compact sites limit : ℕ}
     → record { items = filter_map (message_kept_at us os) ps; compact = compact; sites = sites; limit = limit } ≡ t
     → AreThere (message_kept_at us os) ps
     → length ps ≡ length t.items
-many_positions us os ps t compact sites limit view each =
+many_positions us os ps view each =
     Found.many (message_kept_at us os) ps (filter_map (message_kept_at us os) ps) each ∙ ap (λ (t : MessageTable). length t.items) view

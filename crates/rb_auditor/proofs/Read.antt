@@ -1,5 +1,6 @@
 -- Histories that are read one after another.
-use Rattle.std.proofs.Common.{◌≡◌, ℕ, zero, suc, ◌+◌, ◌<◌, ◌≤◌, List, [], ◌∷◌, ◌++◌, length, refl, ap, sym, ◌∙◌, arith, Some, append_assoc}
+use Rattle.std.proofs.Common.{◌≡◌, ℕ, zero, suc, ◌+◌, ◌<◌, ◌≤◌, List, [], ◌∷◌}
+use Rattle.std.proofs.Common.{◌++◌, length, refl, ap, ◌∙◌, arith, Some, append_assoc}
 use Rattle.std.specs.Prelude.{replicate, slice_get, slice_set}
 use Rattle.std.proofs.lemmas.List.{append-nil}
 use Rattle.rb_site.specs.declared.entry.Entry.{Entry}
@@ -13,13 +14,8 @@ use Rattle.rb_auditor.proofs.Lists
 -- before its first entry nothing is added
 pub none_more : (a : Audited) (i : ℕ) → i < length a.histories → HasMore a a i []
 none_more a i less =
-    let h = Lists.item_at a.histories i less in
-    record {
-      history = h.0;
-      there = h.1;
-      is = ap (λ hs. record a { histories = hs })
-          (sym (ap (slice_set a.histories i) (append-nil h.0) ∙ Kept.set_same a.histories i h.0 h.1));
-    }
+    let (h, at) = Lists.item_at a.histories i less in
+    record { history = h; there = at; is = rw (append-nil h, Kept.set_same a.histories i h at) }
 
 -- one entry more
 pub more_next : (a b c : Audited) (i : ℕ) (xs : List Entry) (x : Entry) → HasMore a b i xs → HasMore b c i (x ∷ [])
@@ -35,8 +31,8 @@ more_next a b c i xs x m n = record {
 }
   where
     same : n.history ≡ m.history ++ xs
-    same = Lists.same_item (slice_get b.histories i) n.history (m.history ++ xs) n.there
-        (ap (λ (o : Audited). slice_get o.histories i) m.is ∙ Places.get_set_same a.histories i m.history (m.history ++ xs) m.there)
+    same = let at : slice_get b.histories i ≡ Some (m.history ++ xs) =
+        rw m.is (Places.get_set_same a.histories i m.history (m.history ++ xs) m.there) in cc (at, n.there)
 
 -- ---- all histories
 
@@ -71,15 +67,14 @@ filled_at (g ∷ hs) (suc k) h at = filled_at hs k h at
 
 set_next : (hs : List (List Entry)) (k : ℕ) (h : List Entry) → slice_get hs k ≡ Some h → slice_set (filled hs k) k h ≡ filled hs (suc k)
 set_next [] k h at = cc
-set_next (g ∷ hs) zero h at = let e : g ≡ h = cc in ap (λ f. f ∷ filled hs 0) (sym e)
+set_next (g ∷ hs) zero h at = cc
 set_next (g ∷ hs) (suc k) h at = ap (λ gs. g ∷ gs) (set_next hs k h at)
 
 -- one history more was read
 pub filled_next : (a b : Audited) (hs : List (List Entry)) (k : ℕ) (h : List Entry) → a.histories ≡ filled hs k → slice_get hs k ≡ Some h
     → HasMore a b k h → b.histories ≡ filled hs (k + 1)
 filled_next a b hs k h e at m =
-    let none : m.history ≡ [] = Lists.same_item (slice_get (filled hs k) k) m.history [] (ap (λ gs. slice_get gs k) (sym e) ∙ m.there)
-    (filled_at hs k h at) in
+    let none : m.history ≡ [] = cc (e, m.there, filled_at hs k h at) in
     ap (λ (o : Audited). o.histories) m.is
     ∙ ap (slice_set a.histories k) (ap (λ g. g ++ h) none)
     ∙ ap (λ gs. slice_set gs k h) e

@@ -1,5 +1,6 @@
 -- A history that a site records is what is left of the run of its events.
-use Rattle.std.proofs.Common.{◌≡◌, ℕ, ◌+◌, ◌<◌, ◌≤◌, Bool, true, false, cond, List, [], ◌∷◌, ◌++◌, length, refl, ap, sym, subst, ◌∙◌, arith}
+use Rattle.std.proofs.Common.{◌≡◌, ℕ, ◌<◌, ◌≤◌, Bool, true, false, cond, List, []}
+use Rattle.std.proofs.Common.{◌∷◌, ◌++◌, length, refl, ap, sym, subst, ◌∙◌, arith}
 use Rattle.std.proofs.Common.{append_assoc, append-nil, length-append}
 use Rattle.rb_money.specs.Settings.{Settings}
 use Rattle.rb_site.specs.declared.entry.Entry.{Entry}
@@ -42,10 +43,8 @@ step_on s i xs ys y r =
     front = Replaying.replay-front s i xs (y ∷ ys) r
 
     free : is_full s (state_of (seen_at s i xs)) ≡ false
-    free =
-        let room : length (xs ++ y ∷ ys) ≤ s.limits.history = r.room in
-        let longer : length (xs ++ y ∷ ys) ≡ length xs + length (y ∷ ys) = length-append xs (y ∷ ys) in
-        Replaying.not_full s (state_of (seen_at s i xs)) (length xs) (Replaying.length_after s i xs front) (omega arith)
+    free = Replaying.not_full s (state_of (seen_at s i xs)) (length xs) (Replaying.length_after s i xs front)
+        (omega (arith, r.room, length-append xs (y ∷ ys)))
 
 recorded_on : (s : Settings) (i : ℕ) (xs ys : List Entry) → IsReplay s i (xs ++ ys)
     → next_sites (seen_at s i xs) (events_of ys) ≡ seen_at s i (xs ++ ys)
@@ -65,10 +64,10 @@ recorded s i h x es events is r =
 pub records : (s : Settings) (i : ℕ) (h : List Entry) (x : SeenSite) (es : List Event) → x ≡ next_sites (first_seen s i) es
     → i < s.sites → Replays x.settings (first_site x.me) x.entries → length x.entries ≤ x.settings.limits.history → x.entries ≡ h
     → IsReplay s i h
-records s i h x es is within replays room same = subst (IsReplay s i) same (record {
+records s i h x es is within replays room same = rw (← same) (record {
   within = within;
-  replays = subst (λ j. Replays s (first_site j) x.entries) me (subst (λ t. Replays t (first_site x.me) x.entries) settings replays);
-  room = subst (λ (t : Settings). length x.entries ≤ t.limits.history) settings room;
+  replays = rw (settings, me) at replays;
+  room = rw settings at room;
 })
   where
     settings : x.settings ≡ s

@@ -1,7 +1,7 @@
 -- The findings of an audit show that no world has the histories.
 use Rattle.std.proofs.Common.{◌≡◌, ℕ, ◌+◌, ◌<◌, List, [], ◌∷◌, ◌++◌, length, refl, ap, sym, subst, ◌∙◌, inl, inr, arith, Option, Some}
 use Rattle.std.proofs.Common.{None, false}
-use Rattle.std.specs.Prelude.{slice_get, slice_set}
+use Rattle.std.specs.Prelude.{slice_get}
 use Rattle.std.specs.Option.{option_map}
 use Rattle.std.proofs.lemmas.Bool.Decides.{nat_tests}
 use Rattle.std.proofs.lemmas.Option.{slice_get-map, slice_get_within}
@@ -70,10 +70,8 @@ recorded_at s w e r all = subst (AllAtTheirs s) (sym r.is) each
     each : AllAtTheirs s (world_at s w (site_of e) (Some r.event) (Some r.site))
     each j u at = elim (Places.same_number (site_of e) j) [
       | inl q ↦
-          let k : Some t1 ≡ Some u = sym (Places.get_set_same w.sites (site_of e) r.site t1 r.at)
-          ∙ ap (slice_get (slice_set w.sites (site_of e) t1)) (sym q) ∙ at in
-          subst (IsAtItsHistory s j) (let z : t1 ≡ u = cc in z)
-          (goes_on s j r.site (record { event = r.event; reply = reply_to s r.site r.event }) r.room refl
+          let k : u ≡ t1 = cc (Places.get_set_same w.sites (site_of e) r.site t1 r.at, q, at) in
+          rw k (goes_on s j r.site (record { event = r.event; reply = reply_to s r.site r.event }) r.room refl
           (all j r.site (ap (slice_get w.sites) q ∙ r.at)))
       | inr ne ↦ all j u (sym (Places.get_set_other w.sites (site_of e) j t1 ne) ∙ at)
     ]

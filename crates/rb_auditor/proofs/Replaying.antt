@@ -8,7 +8,6 @@ use Rattle.rb_money.specs.Settings.{Settings}
 use Rattle.rb_site.specs.declared.entry.Entry.{Entry}
 use Rattle.rb_site.specs.Events.{ModelSite, after_event, after_events, first_site, is_full, reply_to, sent_at}
 use Rattle.rb_site.specs.Histories.{events_of, history_of}
-use Rattle.rb_site.specs.declared.event.Event.{Event}
 use Rattle.rb_site.specs.declared.message.Message.{Message}
 use Rattle.rb_site.specs.declared.reply.Reply.{Reply}
 use Rattle.rb_site.specs.Seen.{IsReplayed, Replays, SeenSite, entry, next_site, state_of, stepped}
@@ -35,8 +34,7 @@ pub replay-front : (s : Settings) (i : ℕ) (xs ys : List Entry) → IsReplay s 
 replay-front s i xs ys h = record {
   within = h.within;
   replays = replays-front s (first_site i) xs ys h.replays;
-  room = let longer : length (xs ++ ys) ≡ length xs + length ys = length-append xs ys in let room : length (xs ++ ys) ≤ s.limits.history =
-      h.room in omega arith;
+  room = omega (arith, length-append xs ys, h.room);
 }
 
 -- a prefix of a history that replays replays
@@ -61,9 +59,7 @@ length_after s i h r = ap length (Seen.history-state (record { settings = s; me 
 
 -- an entry of a history that replays
 pub record IsReplayedAt (s : Settings) (i : ℕ) (h : List Entry) (k : ℕ) (x : Entry) : Type 0 where
-  pub reply : x.reply ≡ reply_to s (site_after s i (take k h)) x.event
   pub room : is_full s (site_after s i (take k h)) ≡ false
-  pub history : history_of s (site_after s i (take k h)) ≡ take k h
   pub more : site_after s i (take (k + 1) h) ≡ after_event s (site_after s i (take k h)) x.event
 
 -- a site after one entry more is the site before it, gone on by its event
@@ -76,7 +72,7 @@ after_more s t xs x = ap (after_events s t) (map-append (λ (y : Entry). y.event
 pub not_full : (s : Settings) (t : ModelSite) (k : ℕ) → length t.history ≡ k → k < s.limits.history → is_full s t ≡ false
 not_full s t k e lt = grind (arith, nat_tests)
 
--- at an entry of a history that replays the site isn't full, gives the entry's reply and goes on by its event
+-- at an entry of a history that replays the site isn't full, and goes on by its event
 pub replayed_at : (s : Settings) (i : ℕ) (h : List Entry) (k : ℕ) (x : Entry) → IsReplay s i h → slice_get h k ≡ Some x →
     IsReplayedAt s i h k x
 replayed_at s i h k x r at =
@@ -85,9 +81,7 @@ replayed_at s i h k x r at =
     let room : length h ≤ s.limits.history = r.room in
     let place : k < length h = sp.within in
     record {
-      reply = replays-at s (first_site i) (take k h) sp.rest x (subst (Replays s (first_site i)) sp.whole r.replays);
       room = not_full s (site_after s i (take k h)) k (length_after s i (take k h) replays ∙ sp.front) (omega arith);
-      history = history_after s i (take k h) replays;
       more = ap (site_after s i) sp.more ∙ after_more s (first_site i) (take k h) x;
     }
 
@@ -98,10 +92,11 @@ pub histories_after : (s : Settings) (a : ℕ) (hs : List (List Entry)) (ks : Li
 histories_after s a [] ks all = refl
 histories_after s a (h ∷ hs) [] all = refl
 histories_after s a (h ∷ hs) (k ∷ ks) all =
+    let here : a + 0 ≡ a = omega arith in
     ap (λ f. f ∷ map (history_of s) (sites_after s (a + 1) hs ks)) (history_after s a (take k h)
-    (replay-take s a k h (subst (λ j. IsReplay s j h) (let q : a + 0 ≡ a = omega arith in q) (all 0 h refl))))
-    ∙ ap (λ fs. take k h ∷ fs) (histories_after s (a + 1) hs ks (λ i g at. subst (λ j. IsReplay s j g) (let q : a + suc i ≡ a + 1
-    + i = omega arith in q) (all (suc i) g at)))
+    (replay-take s a k h (rw here at (all 0 h refl))))
+    ∙ ap (λ fs. take k h ∷ fs) (histories_after s (a + 1) hs ks (λ i g at.
+    let q : a + 1 + i ≡ a + suc i = omega arith in rw q (all (suc i) g at)))
 
 -- ---- one entry more
 
@@ -109,37 +104,35 @@ histories_after s a (h ∷ hs) (k ∷ ks) all =
 pub full_is_wrong : (x : SeenSite) (y : Entry) → IsReplayed x → is_full x.settings (state_of x) ≡ true →
     ¬ IsReplayed (seen_at x.settings x.me (x.entries ++ y ∷ []))
 full_is_wrong x y old full new =
-    let longer : length (x.entries ++ y ∷ []) ≡ length x.entries + 1 = length-append x.entries (y ∷ []) in
-    let within : length (x.entries ++ y ∷ []) ≤ x.settings.limits.history = new.room in
     let test : nat_le x.settings.limits.history (length x.entries) ≡ true = Outcomes.is_full-state x old ∙ full in
     let most : x.settings.limits.history ≤ length x.entries = grind (arith, nat_tests) in
-    omega arith
+    omega (arith, length-append x.entries (y ∷ []), new.room)
 
 -- another reply than the site's is wrong
-pub other_is_wrong : (x : SeenSite) (y : Entry) → ¬ (reply_to x.settings (state_of x) y.event ≡ y.reply) →
-    ¬ IsReplayed (seen_at x.settings x.me (x.entries ++ y ∷ []))
+other_is_wrong : (x : SeenSite) (y : Entry) → ¬ (reply_to x.settings (state_of x) y.event ≡ y.reply)
+    → ¬ IsReplayed (seen_at x.settings x.me (x.entries ++ y ∷ []))
 other_is_wrong x y other r = other (sym (replays-at x.settings (first_site x.me) x.entries [] y r.replays))
 
 -- the site's own is noted
-pub noted : (x new : SeenSite) (e : Event) (y : Entry) (r : Reply) (before after : List Message) → IsReplayed x →
-    is_full x.settings (state_of x) ≡ false → new ≡ next_site x e → r ≡ reply_to x.settings (state_of x) e → r ≡ y.reply → e ≡ y.event →
-    after ≡ before ++ sent_at x.settings (state_of x) e → RecordsEntry x new y before after
-noted x new e y r before after old free is reply same event sends = record {
+noted : {x new : SeenSite} {y : Entry} {r : Reply} {before after : List Message} → IsReplayed x
+    → is_full x.settings (state_of x) ≡ false → new ≡ next_site x y.event → r ≡ reply_to x.settings (state_of x) y.event
+    → r ≡ y.reply → after ≡ before ++ sent_at x.settings (state_of x) y.event → RecordsEntry x new y before after
+noted {x} {new} {y} old free is reply same sends = record {
   free = free;
-  is = step ∙ ap (λ z. record x { entries = x.entries ++ z ∷ [] }) (ap (entry e) (sym reply ∙ same) ∙ ap (λ f. entry f y.reply) event);
-  replays = subst IsReplayed (sym step) (Seen.replayed-stepped x e (Outcomes.room_left x old free) old);
-  sends = sends ∙ ap (λ f. before ++ sent_at x.settings (state_of x) f) event;
+  is = step ∙ ap (λ z. record x { entries = x.entries ++ entry y.event z ∷ [] }) (sym reply ∙ same);
+  replays = rw step (Seen.replayed-stepped x y.event (Outcomes.room_left x old free) old);
+  sends = sends;
 }
   where
-    step : new ≡ stepped x e
-    step = is ∙ ap (λ b. cond b x (stepped x e)) free
+    step : new ≡ stepped x y.event
+    step = is ∙ ap (λ b. cond b x (stepped x y.event)) free
 
 -- one of the two
-pub noted_or_not : (b : Bool) (x new : SeenSite) (e : Event) (y : Entry) (r : Reply) (before after : List Message) → IsReplayed x →
-    is_full x.settings (state_of x) ≡ false → new ≡ next_site x e → r ≡ reply_to x.settings (state_of x) e → (IsTrue b ↔ (r ≡ y.reply)) →
-    e ≡ y.event → after ≡ before ++ sent_at x.settings (state_of x) e
+pub noted_or_not : (b : Bool) {x new : SeenSite} (y : Entry) {r : Reply} (before : List Message) {after : List Message}
+    → IsReplayed x → is_full x.settings (state_of x) ≡ false → new ≡ next_site x y.event
+    → r ≡ reply_to x.settings (state_of x) y.event → (IsTrue b ↔ (r ≡ y.reply))
+    → after ≡ before ++ sent_at x.settings (state_of x) y.event
     → MatchBool b (RecordsEntry x new y before after) (¬ IsReplayed (seen_at x.settings x.me (x.entries ++ y ∷ [])))
-noted_or_not true x new e y r before after old free is reply test event sends =
-    noted x new e y r before after old free is reply (test.0 refl) event sends
-noted_or_not false x new e y r before after old free is reply test event sends =
-    other_is_wrong x y (λ same. let wrong : IsTrue false = test.1 (reply ∙ ap (reply_to x.settings (state_of x)) event ∙ same) in cc)
+noted_or_not true y before old free is reply test sends = noted old free is reply (test.0 refl) sends
+noted_or_not false {x} y before old free is reply test sends =
+    other_is_wrong x y (λ same. let wrong : IsTrue false = test.1 (reply ∙ same) in cc)

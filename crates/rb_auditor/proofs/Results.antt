@@ -1,6 +1,6 @@
 -- Claims that follow from how a call went.
-use Rattle.std.proofs.Common.{◌≡◌, Bool, true, false, IsTrue, MatchBool, refl, Option, Some, None, Result, Ok, Err}
-use Rattle.std.specs.Prelude.{IfOk, IfSome, IsErr, OnErr, OnOk}
+use Rattle.std.proofs.Common.{◌≡◌, Bool, true, false, IsTrue, MatchBool, refl, Result, Ok, Err}
+use Rattle.std.specs.Prelude.{OnErr, OnOk}
 use Rattle.std.specs.Result.{is_err}
 use Rattle.std.specs.declared.alloc.AllocError.{AllocError}
 use Rattle.std.proofs.lemmas.Bool.{false≢true}
@@ -25,20 +25,10 @@ pub either_way : {A B C : Type 0} (r : Result Unit AllocError) → OnOk r A → 
 either_way (Ok u) a b f g = f a
 either_way (Err e) a b f g = g b
 
--- if it failed nothing is said of what it gave
-pub no_value : {A E : Type 0} (r : Result A E) (P : A → Type 0) → IsErr r → IfOk r P
-no_value (Ok x) P e = cc
-no_value (Err y) P e = tt
-
 -- what holds anyway holds if it failed
 pub still : {A E : Type 0} (r : Result A E) (P : Type 0) → P → OnErr r P
 still (Ok x) P h = tt
 still (Err y) P h = h
-
--- nothing is said if nothing was found
-pub none_found : {A : Type 0} (o : Option A) (P : A → Type 0) → o ≡ None → IfSome o P
-none_found None P e = tt
-none_found (Some x) P e = cc
 
 -- a test is true exactly of what it gives, if what it denies can't be
 pub decided : (b : Bool) (D L C : Type 0) → MatchBool b D L → (D → C) → (L → C → ⊥) → (IsTrue b → C) × (C → IsTrue b)

@@ -176,7 +176,6 @@ sends before sent after e first all grown own at many =
     let sum : all ≡ first + length sent = count_sent before sent after first all grown at many in (
       own,
       omega arith,
-      sent_behind before sent (all - first) (omega arith)
-          ∙ ap (λ ms. take (all - first) (drop (length before) ms)) (sym grown)
-          ∙ ap (λ k. take (all - first) (drop k after)) (sym at),
+      subst (λ k. sent ≡ take (all - first) (drop k after)) (sym at)
+          (rw grown (sent_behind before sent (all - first) (omega arith))),
     )

@@ -8,9 +8,9 @@ use Rattle.std.proofs.lemmas.Option.{slice_get_within}
 use Rattle.rb_money.specs.Settings.{Settings}
 use Rattle.rb_site.specs.declared.entry.Entry.{Entry}
 use Rattle.rb_site.specs.declared.message.Message.{Message}
-use Rattle.rb_site.specs.Events.{ModelSite, after_event, first_site, sent_at}
+use Rattle.rb_site.specs.Events.{after_event, first_site, sent_at}
 use Rattle.rb_site.specs.Histories.{IsAmong, IsBlocked, IsCut, IsUnsent, events_of, histories_of, sends_of, IsFrom}
-use Rattle.rb_site.specs.Worlds.{World, first_world, world_at}
+use Rattle.rb_site.specs.Worlds.{first_world, world_at}
 use Rattle.rb_site.proofs.Public.Places
 use Rattle.rb_site.proofs.Public.Places.{same_number}
 use Rattle.rb_site.proofs.Public.Stuck
@@ -19,7 +19,7 @@ use Rattle.rb_auditor.specs.Findings.{IsReplay, IsStuckAt}
 use Rattle.rb_auditor.specs.Progress.{AllRest, IsDone, IsFurther, IsLeft, left_of, IsHeldUp, IsNextEntry, IsReached, IsTaking}
 use Rattle.rb_auditor.specs.Progress.{Rests, Progress, Took, first_progress, fronts_of, site_after, sites_after, taken_next, world_of}
 use Rattle.rb_auditor.proofs.Lists
-use Rattle.rb_auditor.proofs.Lists.{IsFront, IsSplit}
+use Rattle.rb_auditor.proofs.Lists.{IsMadeOf, IsSplit}
 use Rattle.rb_auditor.proofs.Messages
 use Rattle.rb_auditor.proofs.Replaying
 use Rattle.rb_auditor.proofs.Replaying.{IsReplayedAt}
@@ -30,10 +30,8 @@ use Rattle.rb_auditor.proofs.Runs.{Brings}
 
 -- before any entry is taken the world is the first one, if there is a history for each site
 pub first_is : (s : Settings) (hs : List (List Entry)) → length hs ≡ s.sites → world_of (first_progress s hs) ≡ first_world s
-first_is s hs n = ap (λ ts. as_world ts) (Lists.first_sites s 0 hs ∙ ap (λ k. map first_site (range_with_len 0 k)) n)
-  where
-    as_world : List ModelSite → World
-    as_world ts = record { sites = ts; messages = [] }
+first_is s hs n = ap (λ ts. record { sites = ts; messages = [] })
+    (Lists.first_sites s 0 hs ∙ ap (λ k. map first_site (range_with_len 0 k)) n)
 
 -- before any entry is taken all is as a world could have it, if each site has a history and each replays
 pub first_taken : (s : Settings) (hs : List (List Entry)) → length hs ≡ s.sites →
@@ -45,34 +43,24 @@ first_taken s hs n replays = record {
   within = λ i k h there place. (let z : k ≡ 0 = Lists.get_zero (length hs) i k place in omega arith);
   sent = λ i k h there place m among. elim (subst (λ j. IsAmong m (sends_of s (first_site i) (events_of (take j h))))
       (Lists.get_zero (length hs) i k place) among) [ ];
-  reached = record {
-    events = [];
-    own = tt;
-    sites = refl;
-    recorded = tt;
-    gives = sym (first_is s hs n);
-  };
+  reached = record { events = []; own = tt; sites = refl; recorded = tt; gives = sym (first_is s hs n) };
 }
 
 -- the same of a progress that is said by its parts
-pub first_as : (s : Settings) (hs : List (List Entry)) (order taken : List ℕ) (ms : List Message) → order ≡ [] → ms ≡ []
+pub first_as : {s : Settings} {hs : List (List Entry)} {order taken : List ℕ} {ms : List Message} → order ≡ [] → ms ≡ []
     → record { settings = s; histories = hs; order = []; taken = taken; messages = [] } ≡ first_progress s hs
     → IsTaking (first_progress s hs) → IsTaking (record { settings = s; histories = hs; order = order; taken = taken; messages = ms })
-first_as s hs order taken ms e f g v =
-    let P : List ℕ → List Message → Type 0 =
-    λ o m. IsTaking (record { settings = s; histories = hs; order = o; taken = taken; messages = m }) in
-    subst (λ o. P o ms) (sym e) (subst (P []) (sym f) (subst IsTaking (sym g) v))
+first_as e f g v = rw (e, f, g) v
 
 -- the same order and the same messages are those of the same progress
-pub same_as : (p q : Progress) (order : List ℕ) (ms : List Message) → p ≡ q → order ≡ p.order → ms ≡ p.messages
+pub same_as : {p q : Progress} {order : List ℕ} {ms : List Message} → p ≡ q → order ≡ p.order → ms ≡ p.messages
     → record p { order = order; messages = ms } ≡ q
-same_as p q order ms same e f =
-    ap (λ o. record p { order = o; messages = ms }) e ∙ ap (λ n. record p { messages = n }) f ∙ same
+same_as same e f = rw (e, f) same
 
 -- all is still as a world could have it
-pub still_taking : (p : Progress) (order : List ℕ) (ms : List Message) → IsTaking p → order ≡ p.order → ms ≡ p.messages
+pub still_taking : {p : Progress} {order : List ℕ} {ms : List Message} → IsTaking p → order ≡ p.order → ms ≡ p.messages
     → IsTaking (record p { order = order; messages = ms })
-still_taking p order ms v e f = subst IsTaking (sym (same_as p p order ms refl e f)) v
+still_taking v e f = rw (e, f) v
 
 -- ---- one entry more
 
@@ -87,13 +75,11 @@ site_next p i k h x n = Lists.get_site p.settings 0 p.histories p.taken i k h n.
 -- the world goes on by the entry
 pub world_next : (p : Progress) (i k : ℕ) (h : List Entry) (x : Entry) → IsTaking p → IsNextEntry p i k h x →
     world_of (taken_next p i k h x) ≡ world_at p.settings (world_of p) i (Some x.event) (Some (site_after p.settings i (take k h)))
-world_next p i k h x g n = ap (λ ts. as_world ts) same
+world_next p i k h x g n =
+    ap (λ ts. record { sites = ts; messages = p.messages ++ sent_at s (site_after s i (take k h)) x.event }) same
   where
     s : Settings
     s = p.settings
-
-    as_world : List ModelSite → World
-    as_world ts = record { sites = ts; messages = p.messages ++ sent_at p.settings (site_after p.settings i (take k h)) x.event }
 
     same : sites_after s 0 p.histories (slice_set p.taken i (k + 1)) ≡
         slice_set (sites_after s 0 p.histories p.taken) i (after_event s (site_after s i (take k h)) x.event)
@@ -126,18 +112,15 @@ taken_after p i k h x g n come = record {
     brought : Brings s (world_of p) i (site_after s i (take k h)) x.event
     brought = Runs.brings s (world_of p) i (site_after s i (take k h)) x.event come (site_next p i k h x n) at.room
 
-    here : (l : ℕ) → slice_get (slice_set p.taken i (k + 1)) i ≡ Some l → l ≡ k + 1
-    here l e = Lists.same_item (slice_get (slice_set p.taken i (k + 1)) i) l (k + 1) e (Places.get_set_same p.taken i k (k + 1) n.at)
-
-    same_history : (f : List Entry) → slice_get p.histories i ≡ Some f → f ≡ h
-    same_history f e = Lists.same_item (slice_get p.histories i) f h e n.there
+    here : slice_get (slice_set p.taken i (k + 1)) i ≡ Some (k + 1)
+    here = Places.get_set_same p.taken i k (k + 1) n.at
 
     within : (j l : ℕ) (f : List Entry) → slice_get p.histories j ≡ Some f → slice_get (slice_set p.taken i (k + 1)) j ≡ Some l →
         l ≤ length f
     within j l f there place = elim (same_number i j) [
       | inl e ↦
-          let q : l ≡ k + 1 = here l (ap (slice_get (slice_set p.taken i (k + 1))) (sym e) ∙ place) in
-          let r : length f ≡ length h = ap length (same_history f (ap (slice_get p.histories) (sym e) ∙ there)) in
+          let q : l ≡ k + 1 = cc (here, e, place) in
+          let r : length f ≡ length h = cc (n.there, e, there) in
           let b : k < length h = sp.within in
           omega arith
       | inr ne ↦ g.within j l f there (sym (Places.get_set_other p.taken i j (k + 1) ne) ∙ place)
@@ -150,12 +133,9 @@ taken_after p i k h x g n come = record {
         (m : Message) → IsAmong m (sends_of s (first_site j) (events_of (take l f))) → IsAmong m (p.messages ++ sends)
     sent j l f there place m among = elim (same_number i j) [
       | inl e ↦
-          let q : l ≡ k + 1 = here l (ap (slice_get (slice_set p.taken i (k + 1))) (sym e) ∙ place) in
-          let r : f ≡ h = same_history f (ap (slice_get p.histories) (sym e) ∙ there) in
-          let a : IsAmong m (sends_of s (first_site i) (events_of (take (k + 1) h))) =
-          subst (λ z. IsAmong m (sends_of s (first_site i) (events_of (take (k + 1) z)))) r
-          (subst (λ z. IsAmong m (sends_of s (first_site i) (events_of (take z f)))) q
-          (subst (λ z. IsAmong m (sends_of s (first_site z) (events_of (take l f)))) e among)) in
+          let q : l ≡ k + 1 = cc (here, e, place) in
+          let r : f ≡ h = cc (n.there, e, there) in
+          let a : IsAmong m (sends_of s (first_site i) (events_of (take (k + 1) h))) = rw (e, q, r) at among in
           let b : IsAmong m (sends_of s (first_site i) (events_of (take k h)) ++ sends) =
           subst (IsAmong m) (ap (λ z. sends_of s (first_site i) (events_of z)) sp.more
           ∙ Messages.sends_more s (first_site i) (take k h) x) a in
@@ -218,7 +198,7 @@ stuck p g rests left = record {
 
     unsent : (m : Message) → ¬ IsAmong m p.messages → IsUnsent s (fronts_of p.histories p.taken) m
     unsent m not j f at among =
-        let o : IsFront p.histories p.taken j f = Lists.from_front p.histories p.taken j f at in
+        let o : IsMadeOf p.histories p.taken j (λ f. f) f = Lists.from_front p.histories p.taken j f at in
         not (g.sent j o.taken o.history o.there o.at m (subst (λ z. IsAmong m (sends_of s (first_site j) (events_of z))) o.is among))
 
     blocked : (xs : List Entry) → IsHeldUp p.messages xs → IsBlocked s (fronts_of p.histories p.taken) xs
@@ -228,7 +208,7 @@ stuck p g rests left = record {
     cut : (i : ℕ) (h : List Entry) → slice_get p.histories i ≡ Some h → IsCut s (fronts_of p.histories p.taken) i h
     cut i h at =
         let r : Rests p i = rests i h at in
-        let same : r.history ≡ h = Lists.same_item (slice_get p.histories i) r.history h r.there at in
+        let same : r.history ≡ h = cc (r.there, at) in
         record {
           front = take r.taken h;
           there = Lists.get_front p.histories p.taken i r.taken h at r.at;
@@ -244,9 +224,8 @@ pub took_further : (p q : Progress) (i : ℕ) → Took p q i → IsFurther p q
 took_further p q i t = record {
   settings = ap (λ (r : Progress). r.settings) t.is;
   histories = ap (λ (r : Progress). r.histories) t.is;
-  less = subst (λ (r : Progress). left_of r.histories r.taken < left_of p.histories p.taken) (sym t.is)
-      (Lists.left_less p.histories p.taken i t.taken t.history t.next.there t.next.at
-      (Lists.split_at t.history t.taken t.entry t.next.next).within);
+  less = rw t.is (Lists.left_less p.histories p.taken i t.taken t.history t.next.there t.next.at
+      (slice_get_within t.history t.taken t.entry t.next.next));
 }
 
 -- what is further than q is further than p, if q is further than p or the same
@@ -257,22 +236,17 @@ further_more true p q r f g = record {
   less = let a : left_of q.histories q.taken < left_of p.histories p.taken = f.less in
       let b : left_of r.histories r.taken < left_of q.histories q.taken = g.less in omega arith;
 }
-further_more false p q r e g = subst (λ o. IsFurther o r) e g
+further_more false p q r e g = rw (← e) g
 
 -- ---- what is said of the histories
 
 -- histories and an order that are those of a progress are certified if its own are
-pub certified_as : (p : Progress) (s : Settings) (hs : List (List Entry)) (order : List ℕ) → p.settings ≡ s → p.histories ≡ hs →
-    order ≡ p.order → Certifies p.settings p.histories p.order → Certifies s hs order
-certified_as p s hs order e f g c = subst (Certifies s hs) (sym g) (subst (λ gs. Certifies s gs p.order) f
-    (subst (λ r. Certifies r p.histories p.order) e c))
+pub certified_as : (p : Progress) {s : Settings} {hs : List (List Entry)} {order : List ℕ} → p.settings ≡ s
+    → p.histories ≡ hs → order ≡ p.order → Certifies p.settings p.histories p.order → Certifies s hs order
+certified_as p e f g c = rw (← e, ← f, g) c
 
 -- histories that are those of a progress are stuck if an entry of it is left and none can be taken now
-pub stuck_as : (p : Progress) (s : Settings) (hs : List (List Entry)) (next : List ℕ) → p.settings ≡ s → p.histories ≡ hs →
-    next ≡ map (λ (k : ℕ). k + 1) p.taken → IsTaking p → AllRest p → IsLeft p → IsStuckAt s hs next
-stuck_as p s hs next e f g v rests left = subst (IsStuckAt s hs) (sym g)
-    (subst (λ gs. IsStuckAt s gs numbers) f (subst (λ r. IsStuckAt r p.histories numbers) e
-    (stuck p v (λ i h at. rests i (slice_get_within p.histories i h at)) left)))
-  where
-    numbers : List ℕ
-    numbers = map (λ (k : ℕ). k + 1) p.taken
+pub stuck_as : {p : Progress} {s : Settings} {hs : List (List Entry)} {next : List ℕ} → p.settings ≡ s
+    → p.histories ≡ hs → next ≡ map (λ (k : ℕ). k + 1) p.taken → IsTaking p → AllRest p → IsLeft p → IsStuckAt s hs next
+stuck_as {p} e f g v rests left =
+    rw (← e, ← f, g) (stuck p v (λ i h at. rests i (slice_get_within p.histories i h at)) left)

@@ -10,7 +10,6 @@ use Rattle.rb_money.specs.Settings.{Settings}
 use Rattle.rb_site.specs.declared.entry.Entry.{Entry}
 use Rattle.rb_site.specs.declared.message.Message.{Message}
 use Rattle.rb_site.specs.Events.{is_full, sent_at}
-use Rattle.rb_site.specs.Histories.{IsFrom}
 use Rattle.rb_site.specs.Seen.{SeenSite, first_seen, next_site, state_of}
 use Rattle.rb_site.proofs.Public.Lists.{map_at, map_back}
 use Rattle.rb_site.proofs.Public.Places
@@ -23,7 +22,6 @@ use Rattle.rb_auditor.proofs.Lists
 use Rattle.rb_auditor.proofs.Lists.{IsSplit}
 use Rattle.rb_auditor.proofs.Recorded
 use Rattle.rb_auditor.proofs.Replaying
-use Rattle.rb_auditor.proofs.Resting
 
 -- how many entries a site recorded
 abbrev recorded : SeenSite → ℕ
@@ -88,28 +86,15 @@ next_along x h y along r at =
     ∙ Recorded.step_on x.settings x.me (take (length x.entries) h) sp.rest y (subst (IsReplay x.settings x.me) sp.whole r)
     ∙ ap (seen_at x.settings x.me) (sym sp.more)
 
--- if none is left, nothing is taken
-pub none_left : (ms : List Message) (h : List Entry) (k : ℕ) → slice_get h k ≡ None → IsHeldUp ms (drop k h)
-none_left ms [] zero at = tt
-none_left ms [] (suc k) at = tt
-none_left ms (x ∷ h) zero at = cc
-none_left ms (x ∷ h) (suc k) at = none_left ms h k at
-
--- nor if it can't come yet
-pub held_here : (ms : List Message) (h : List Entry) (k : ℕ) (y : Entry) → slice_get h k ≡ Some y → ¬ IsFrom ms y.event
-    → IsHeldUp ms (drop k h)
-held_here ms h k y at not = subst (IsHeldUp ms) (sym (Lists.split_at h k y at).dropped) (Resting.unsent ms y.event not)
-
 -- ---- one entry more
 
 -- a site that is along can take the next entry of its history
-pub at_site : (s : Settings) (hs : List (List Entry)) (xs : List SeenSite) (i : ℕ) (h f : List Entry) (x : SeenSite) → AreAlong s hs xs
-    → AreReplays s hs → slice_get hs i ≡ Some h → slice_get xs i ≡ Some x → f ≡ h → IsAlong x f × IsReplay x.settings x.me f
-at_site s hs xs i h f x along replays there at same =
-    let is : x ≡ seen_at s i (take (length x.entries) h) = along.each i h x there at in (
-      ap (λ (z : SeenSite). z.entries) is ∙ ap (take (length x.entries)) (sym same),
-      subst (λ (z : SeenSite). IsReplay z.settings z.me f) (sym is) (subst (IsReplay s i) (sym same) (replays i h there)),
-    )
+pub at_site : {s : Settings} {hs : List (List Entry)} {xs : List SeenSite} (i : ℕ) {h f : List Entry} {x : SeenSite}
+    → AreAlong s hs xs → AreReplays s hs → slice_get hs i ≡ Some h → slice_get xs i ≡ Some x → f ≡ h
+    → IsAlong x f × IsReplay x.settings x.me f
+at_site {s} {hs} {xs} i {h} {f} {x} along replays there at same =
+    let is : x ≡ seen_at s i (take (length x.entries) h) = along.each i h x there at in
+    rw same (ap (λ z. z.entries) is, subst (λ (z : SeenSite). IsReplay z.settings z.me h) (sym is) (replays i h there))
 
 longer : (x y : SeenSite) (h : List Entry) (before after : List Message) → TakesNext x y h before after
     → length y.entries ≡ length x.entries + 1
@@ -118,10 +103,11 @@ longer x y h before after t =
     ap recorded t.is ∙ length-take-le (length x.entries + 1) h (omega arith)
 
 -- what the site takes is taken
-pub took : (s : Settings) (hs : List (List Entry)) (order : List ℕ) (xs : List SeenSite) (ms after : List Message) (i : ℕ) (h : List Entry)
-    (x y : SeenSite) → AreAlong s hs xs → slice_get hs i ≡ Some h → slice_get xs i ≡ Some x → TakesNext x y h ms after
+pub took : {s : Settings} {hs : List (List Entry)} {order : List ℕ} {xs : List SeenSite} {ms after : List Message}
+    {i : ℕ} {h : List Entry} {x y : SeenSite} → AreAlong s hs xs → slice_get hs i ≡ Some h → slice_get xs i ≡ Some x
+    → TakesNext x y h ms after
     → Took (progress_of s hs order xs ms) (progress_of s hs (order ++ i ∷ []) (slice_set xs i y) after) i
-took s hs order xs ms after i h x y along there at t = record {
+took {s} {hs} {order} {xs} {ms} {after} {i} {h} {x} {y} along there at t = record {
   taken = length x.entries;
   history = h;
   entry = t.entry;
@@ -140,18 +126,15 @@ took s hs order xs ms after i h x y along there at t = record {
     sent = t.sends ∙ ap (λ (z : SeenSite). ms ++ sent_at z.settings (state_of z) t.entry.event) (along.each i h x there at)
 
 -- and each site is along then
-pub along_next : (s : Settings) (hs : List (List Entry)) (xs : List SeenSite) (ms after : List Message) (i : ℕ) (h : List Entry)
-    (x y : SeenSite) → AreAlong s hs xs → slice_get hs i ≡ Some h → slice_get xs i ≡ Some x → TakesNext x y h ms after
-    → AreAlong s hs (slice_set xs i y)
-along_next s hs xs ms after i h x y along there at t = record {
+pub along_next : {s : Settings} {hs : List (List Entry)} {xs : List SeenSite} {ms after : List Message} (i : ℕ)
+    {h : List Entry} {x y : SeenSite} → AreAlong s hs xs → slice_get hs i ≡ Some h → slice_get xs i ≡ Some x
+    → TakesNext x y h ms after → AreAlong s hs (slice_set xs i y)
+along_next {s} {hs} {xs} {ms} {after} i {h} {x} {y} along there at t = record {
   sites = length-set xs i y ∙ along.sites;
   each = λ j g z here found. elim (same_number i j) [
-    | inl e ↦ (let is : y ≡ z = Lists.same_item (slice_get (slice_set xs i y) i) y z (Places.get_set_same xs i x y at)
-        (ap (slice_get (slice_set xs i y)) (sym e) ∙ found) in
-        let same : h ≡ g = Lists.same_item (slice_get hs i) h g there (ap (slice_get hs) (sym e) ∙ here) in
-        sym is ∙ mine ∙ ap (λ (k : ℕ). seen_at s k (take (length y.entries) h)) (sym e)
-        ∙ ap (λ f. seen_at s j (take (length y.entries) f)) same
-        ∙ ap (λ (w : SeenSite). seen_at s j (take (length w.entries) g)) is)
+    | inl e ↦ (let is : z ≡ y = cc (Places.get_set_same xs i x y at, e, found) in
+        let same : g ≡ h = cc (there, e, here) in
+        rw (is, same, e) mine)
     | inr ne ↦ along.each j g z here (sym (Places.get_set_other xs i j y ne) ∙ found)
   ];
 }
@@ -163,10 +146,10 @@ along_next s hs xs ms after i h x y along there at t = record {
         ∙ ap (λ k. seen_at s i (take k h)) (sym (longer x y h ms after t))
 
 -- a site that takes nothing rests
-pub rests : (s : Settings) (hs : List (List Entry)) (order : List ℕ) (xs : List SeenSite) (ms : List Message) (i : ℕ) (h : List Entry)
-    (x : SeenSite) → slice_get hs i ≡ Some h → slice_get xs i ≡ Some x → IsHeldUp ms (drop (length x.entries) h)
-    → Rests (progress_of s hs order xs ms) i
-rests s hs order xs ms i h x there at held =
+pub rests : {s : Settings} {hs : List (List Entry)} {order : List ℕ} (xs : List SeenSite) {ms : List Message} {i : ℕ}
+    {h : List Entry} {x : SeenSite} → slice_get hs i ≡ Some h → slice_get xs i ≡ Some x
+    → IsHeldUp ms (drop (length x.entries) h) → Rests (progress_of s hs order xs ms) i
+rests xs {i = i} {h = h} {x = x} there at held =
     record { taken = length x.entries; history = h; there = there; at = map_at recorded xs i x at; held = held }
 
 -- ---- the end

@@ -1,13 +1,10 @@
 -- Each position is looked at.
-use Rattle.std.proofs.Common.{◌≡◌, ◌∙◌, ◌<◌, IsTrue, ap, sym, subst, arith, slice_get, get_or, length, inl, inr}
+use Rattle.std.proofs.Common.{◌≡◌, ◌∙◌, IsTrue, ap, sym, subst, arith, slice_get, get_or, inl, inr}
 use Rattle.std.proofs.lemmas.Bool.{false≢true}
-use Rattle.std.proofs.lemmas.Option.{get_or_from_slice_get, slice_get_within}
+use Rattle.std.proofs.lemmas.Option.{get_or_from_slice_get}
 use Rattle.rb_site.proofs.Public.Places.{same_number}
 use Rattle.rb_site.proofs.Public.Recorded
 use Rattle.rb_auditor.proofs.listing.is_at_one.Goals as goal
-
-pub loop-position-init : goal.loop-position-init
-loop-position-init c = λ m k position here less at known. absurd (omega arith)
 
 pub returns-then-is_at-clause-known : goal.returns-then-is_at-clause-known
 returns-then-is_at-clause-known c = λ m here yes. Recorded.at_place c.args.posted.now.items
@@ -24,8 +21,3 @@ loop-position-preserved c = λ m k position here less at known. elim (same_numbe
       ∙ (c.is_at.ensures m here).1 (ap (slice_get c.args.posted.now.items) there ∙ known))
   | inr ne ↦ c.loop-position.invariant m k position here (omega arith) at known
 ]
-
-pub returns-clause-found : goal.returns-clause-found
-returns-clause-found c = λ m k position here at known.
-    let within : k < length c.args.positions.now = slice_get_within c.args.positions.now k position at in
-    absurd (c.loop-position.invariant m k position here (omega arith) at known)

@@ -1,11 +1,8 @@
 -- The position that is listed for the number is the only one to look at.
-use Rattle.std.proofs.Common.{◌≡◌, ◌∙◌, ℕ, ap, sym, slice_get, Some, None, length, refl, Global, Vec}
-use Rattle.std.specs.Option.{option_map}
-use Rattle.std.proofs.lemmas.Option.{slice_get-map, slice_get_past, slice_get_read}
+use Rattle.std.proofs.Common.{◌≡◌, ◌∙◌, ap, sym, slice_get, Some, length, refl}
+use Rattle.std.proofs.lemmas.Option.{slice_get_past, slice_get_read}
 use Rattle.rb_site.proofs.Public.Recorded
-use Rattle.rb_auditor.specs.Findings.{lists_of}
 use Rattle.rb_auditor.proofs.Listed
-use Rattle.rb_auditor.proofs.Lists
 use Rattle.rb_auditor.proofs.listing.is_in_row.Goals as goal
 
 pub returns-in-Some-get-clause-known : goal.returns-in-Some-get-clause-known
@@ -14,30 +11,16 @@ returns-in-Some-get-clause-known c = λ m here yes. Recorded.at_place c.args.pos
 
 pub returns-in-Some-get-clause-found : goal.returns-in-Some-get-clause-found
 returns-in-Some-get-clause-found c = λ m positions position here there at known.
-    let row : positions ≡ c.in-Some.positions.now.items =
-    Lists.same_item (slice_get (lists_of c.args.rows.now) c.args.row) positions c.in-Some.positions.now.items
-    there (Listed.row_at c.args.rows.now c.args.row c.in-Some.positions.now (c.in-Some.ensures.lookup.3).0 c.in-Some.ensures.lookup.1) in
+    let row : positions ≡ c.in-Some.positions.now.items = cc (there, Listed.row_at c.args.rows.now c.args.row
+    c.in-Some.positions.now c.in-Some.ensures.lookup.3.0 c.in-Some.ensures.lookup.1) in
     let listed : slice_get c.deref.result.now c.args.slot ≡ Some c.in-Some-get.position.now =
     slice_get_read c.deref.result.now (length c.deref.result.now) c.args.slot c.in-Some-get.position.now refl
-    (c.in-Some-get.ensures.lookup.3).0 c.in-Some-get.ensures.lookup.1 in
-    let same : position ≡ c.in-Some-get.position.now =
-    Lists.same_item (slice_get positions c.args.slot) position c.in-Some-get.position.now at
-    (ap (λ ps. slice_get ps c.args.slot) (row ∙ sym c.deref.ensures.value) ∙ listed) in
+    c.in-Some-get.ensures.lookup.3.0 c.in-Some-get.ensures.lookup.1 in
+    let same : position ≡ c.in-Some-get.position.now = cc (at, row, c.deref.ensures.value, listed) in
     (c.is_at.ensures m here).1 (ap (slice_get c.args.posted.now.items) (sym same) ∙ known)
 
 pub returns-in-None-get-clause-found : goal.returns-in-None-get-clause-found
 returns-in-None-get-clause-found c = λ m positions position here there at known.
-    let row : positions ≡ c.in-Some.positions.now.items =
-    Lists.same_item (slice_get (lists_of c.args.rows.now) c.args.row) positions c.in-Some.positions.now.items
-    there (Listed.row_at c.args.rows.now c.args.row c.in-Some.positions.now (c.in-Some.ensures.lookup.3).0 c.in-Some.ensures.lookup.1) in
-    let none : slice_get positions c.args.slot ≡ None =
-    ap (λ ps. slice_get ps c.args.slot) (row ∙ sym c.deref.ensures.value)
-    ∙ slice_get_past c.deref.result.now c.args.slot c.in-None-get.ensures.lookup.3 in
-    cc
-
-pub returns-in-None-clause-found : goal.returns-in-None-clause-found
-returns-in-None-clause-found c = λ m positions position here there at known.
-    let none : slice_get (lists_of c.args.rows.now) c.args.row ≡ None =
-    slice_get-map (λ (v : Vec ℕ Global). v.items) c.args.rows.now c.args.row
-    ∙ ap (option_map (λ (v : Vec ℕ Global). v.items)) (slice_get_past c.args.rows.now c.args.row c.in-None.ensures.lookup.3) in
-    cc
+    let row : positions ≡ c.in-Some.positions.now.items = cc (there, Listed.row_at c.args.rows.now c.args.row
+    c.in-Some.positions.now c.in-Some.ensures.lookup.3.0 c.in-Some.ensures.lookup.1) in
+    cc (at, row, c.deref.ensures.value, slice_get_past c.deref.result.now c.args.slot c.in-None-get.ensures.lookup.3)

@@ -1,11 +1,10 @@
 -- The step of an entry that the site records.
-use Rattle.std.proofs.Common.{◌≡◌, ◌++◌, ap, refl, subst, length, arith}
+use Rattle.std.proofs.Common.{◌≡◌, ◌++◌, ap, length, arith}
 use Rattle.rb_site.specs.Events.{sent_at}
 use Rattle.rb_site.specs.Seen.{state_of}
-use Rattle.rb_auditor.specs.Kept.{IsMore, IsPlaced}
+use Rattle.rb_auditor.specs.Kept.{IsMore}
 use Rattle.rb_auditor.specs.Replays.{RecordsEntry}
-use Rattle.rb_auditor.proofs.Kept.{more_still, no_more}
-use Rattle.rb_auditor.proofs.Results.{no_value, still}
+use Rattle.rb_auditor.proofs.Kept.{more_still}
 use Rattle.rb_auditor.proofs.Steps
 use Rattle.rb_auditor.proofs.replay.step_of.Goals.{Else-not-branch, After-keep_posted}
 use Rattle.rb_auditor.proofs.replay.step_of.Goals as goal
@@ -25,9 +24,7 @@ grown c =
 
 -- no message is taken from the store
 more : (c : After-keep_posted) → IsMore c.args.store.now.messages.items c.keep_posted.new.self.messages.items
-more c =
-    more_still c.args.store.now.messages.items c.place_of.new.store.messages.items _
-    c.keep_posted.new.self.messages.items c.in_ok-place.ensures.more (record { more = _; is = refl }) (grown c)
+more c = more_still c.in_ok-place.ensures.more (record { more = _; is = grown c })
 
 pub keep_posted-requires : goal.keep_posted-requires
 keep_posted-requires c =
@@ -54,44 +51,6 @@ overflow_sub-count c =
     Steps.no_fewer c.place_of.new.store.messages.items _ c.keep_posted.new.self.messages.items c.in_ok-first.first
     c.len.result (grown (goal.at.overflow_sub-count c).After-keep_posted) c.in_ok-first.ensures.at c.len.ensures.same
 
-pub note-requires : goal.note-requires
-note-requires c = c.requires
-
-pub returns-in_err-place : goal.returns-in_err-place
-returns-in_err-place c = record {
-  more = c.in_err-place.ensures.more;
-  step = no_value c.from_residual.result _ c.from_residual.ensures.0;
-  err = still c.from_residual.result _ refl;
-  same = (refl, refl);
-}
-
-pub returns-in_err-first : goal.returns-in_err-first
-returns-in_err-first c = record {
-  more = more_still c.args.store.now.messages.items c.place_of.new.store.messages.items c.place_of.new.store.messages.items
-      c.reserve.new.self.messages.items c.in_ok-place.ensures.more (no_more _ _ refl) c.in_err-first.ensures.items;
-  step = no_value c.from_residual-in_err-first.result _ c.from_residual-in_err-first.ensures.0;
-  err = still c.from_residual-in_err-first.result _ refl;
-  same = (refl, refl);
-}
-
-pub returns-in_err-note : goal.returns-in_err-note
-returns-in_err-note c = record {
-  more = more_still c.args.store.now.messages.items c.place_of.new.store.messages.items c.place_of.new.store.messages.items
-      c.reserve.new.self.messages.items c.in_ok-place.ensures.more (no_more _ _ refl) c.in_ok-first.ensures.items;
-  step = no_value c.from_residual-in_err-note.result _ c.from_residual-in_err-note.ensures.0;
-  err = still c.from_residual-in_err-note.result _ c.in_err-note.ensures.err;
-  same = c.in_err-note.ensures.same;
-}
-
-pub returns-then-not-branch : goal.returns-then-not-branch
-returns-then-not-branch c = record {
-  more = more_still c.args.store.now.messages.items c.place_of.new.store.messages.items c.place_of.new.store.messages.items
-      c.reserve.new.self.messages.items c.in_ok-place.ensures.more (no_more _ _ refl) c.in_ok-first.ensures.items;
-  step = rw c.if-not-branch.true at c.in_ok-note.ensures.noted;
-  err = tt;
-  same = c.in_ok-note.ensures.same;
-}
-
 pub returns-in-Some : goal.returns-in-Some
 returns-in-Some c =
     let p = goal.at.returns-in-Some c in
@@ -102,8 +61,7 @@ returns-in-Some c =
         (noted p.Else-not-branch).replays,
         Steps.receives c.args.site.now.settings (state_of c.args.site.now) c.place_of.new.store.messages.items
             c.keep_posted.new.self.messages.items c.args.entry.now.event c.in-Some.at (grown p.After-keep_posted)
-            (subst (IsPlaced c.place_of.new.store.messages.items c.args.entry.now.event) c.in-Some.is
-            c.in_ok-place.ensures.place),
+            (rw c.in-Some.is at c.in_ok-place.ensures.place),
       );
       err = tt;
       same = c.in_ok-note.ensures.same;
@@ -121,8 +79,7 @@ returns-in-None c =
             (sent_at c.args.site.now.settings (state_of c.args.site.now) c.args.entry.now.event)
             c.keep_posted.new.self.messages.items c.args.entry.now.event c.in_ok-first.first c.len.result
             (grown p.After-keep_posted)
-            (subst (IsPlaced c.place_of.new.store.messages.items c.args.entry.now.event) c.in-None.is
-            c.in_ok-place.ensures.place)
+            (rw c.in-None.is at c.in_ok-place.ensures.place)
             c.in_ok-first.ensures.at c.len.ensures.same c.if-count-eq0.true,
       );
       err = tt;
@@ -141,8 +98,7 @@ returns-in-None-2 c =
             (sent_at c.args.site.now.settings (state_of c.args.site.now) c.args.entry.now.event)
             c.keep_posted.new.self.messages.items c.args.entry.now.event c.in_ok-first.first c.len.result
             (grown p.After-keep_posted)
-            (subst (IsPlaced c.place_of.new.store.messages.items c.args.entry.now.event) c.in-None.is
-            c.in_ok-place.ensures.place)
+            (rw c.in-None.is at c.in_ok-place.ensures.place)
             c.in_ok-first.ensures.at c.len.ensures.same,
       );
       err = tt;

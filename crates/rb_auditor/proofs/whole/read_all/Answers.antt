@@ -4,14 +4,14 @@ use Rattle.std.specs.Prelude.{replicate, slice_get}
 use Rattle.rb_auditor.specs.Audits.{HasMore}
 use Rattle.rb_auditor.specs.Findings.{lists_of}
 use Rattle.rb_auditor.proofs.Listed
-use Rattle.rb_auditor.proofs.Lengths.{length_lists}
 use Rattle.rb_auditor.proofs.Read
 use Rattle.rb_auditor.proofs.Results.{went_well}
 use Rattle.rb_auditor.proofs.whole.read_all.Goals as goal
 
 pub loop-site-init : goal.loop-site-init
 loop-site-init c =
-    let count : length (lists_of c.args.histories.now) ≡ c.args.config.now.sites = length_lists c.args.histories.now ∙ c.requires in (
+    let count : length (lists_of c.args.histories.now) ≡ c.args.config.now.sites =
+    Listed.length_lists c.args.histories.now ∙ c.requires in (
       c.in_ok-auditor.ensures.settings ∙ c.in_ok-try_copy.ensures.same,
       c.in_ok-auditor.ensures.none ∙ ap (λ s. replicate s.sites []) c.in_ok-try_copy.ensures.same
           ∙ ap (λ n. replicate n []) (sym count)
@@ -20,7 +20,8 @@ loop-site-init c =
 
 pub read-requires : goal.read-requires
 read-requires c =
-    let count : length (lists_of c.args.histories.now) ≡ c.args.config.now.sites = length_lists c.args.histories.now ∙ c.requires in
+    let count : length (lists_of c.args.histories.now) ≡ c.args.config.now.sites =
+    Listed.length_lists c.args.histories.now ∙ c.requires in
     let same : length c.loop-site.auditor.histories ≡ length (lists_of c.args.histories.now) =
     ap length c.loop-site.invariant.1 ∙ Read.filled_length (lists_of c.args.histories.now) c.loop-site.site in
     omega (arith, c.sites-site-end.ensures.same, c.loop-site-test.true)
@@ -41,7 +42,8 @@ loop-site-preserved c =
 
 pub returns-clause-histories : goal.returns-clause-histories
 returns-clause-histories c =
-    let count : length (lists_of c.args.histories.now) ≡ c.args.config.now.sites = length_lists c.args.histories.now ∙ c.requires in
+    let count : length (lists_of c.args.histories.now) ≡ c.args.config.now.sites =
+    Listed.length_lists c.args.histories.now ∙ c.requires in
     c.loop-site.invariant.1
     ∙ Read.filled_all (lists_of c.args.histories.now) c.loop-site.site
     (omega (arith, c.sites-site-end.ensures.same, c.loop-site-test.false))

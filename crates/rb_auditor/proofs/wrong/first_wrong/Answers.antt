@@ -2,15 +2,12 @@
 use Rattle.std.proofs.Common.{◌≡◌, ◌∙◌, ◌+◌, ◌<◌, ◌≤◌, Some, length, subst, sym, arith}
 use Rattle.std.specs.Prelude.{slice_get}
 use Rattle.std.proofs.lemmas.Bool.{false≢true}
-use Rattle.std.proofs.lemmas.Option.{slice_get_read, slice_get_within}
+use Rattle.std.proofs.lemmas.Option.{slice_get_read}
 use Rattle.rb_money.specs.declared.limits.TheConstants.{MOST_HISTORY}
 use Rattle.rb_auditor.specs.Findings.{IsFirstWrong}
 use Rattle.rb_auditor.specs.Kept.{histories_in}
 use Rattle.rb_auditor.proofs.Judged
 use Rattle.rb_auditor.proofs.wrong.first_wrong.Goals as goal
-
-pub loop-site-init : goal.loop-site-init
-loop-site-init c = λ i m less at. absurd (omega arith)
 
 -- the number of steps
 few : (c : goal.After-len) → c.len.result ≤ MOST_HISTORY
@@ -48,9 +45,3 @@ loop-site-preserved c =
     Judged.whole_more c.args.notes.now c.loop-site.site c.index-notes-site.result c.loop-site.invariant
     (slice_get_read c.args.notes.now c.args.config.now.sites c.loop-site.site c.index-notes-site.result (sym c.requires.1.notes) less
     c.index-notes-site.is) (c.are_whole.ensures.0 c.if-not-are_whole.false)
-
-pub returns-clause-none : goal.returns-clause-none
-returns-clause-none c = λ i n at. c.loop-site.invariant i n (let less : i < length c.args.notes.now = slice_get_within
-    c.args.notes.now i n at in
-    let many : length c.args.notes.now ≡ c.args.config.now.sites = c.requires.1.notes in
-    omega (arith, c.sites-site-end.ensures.same, c.loop-site-test.false)) at

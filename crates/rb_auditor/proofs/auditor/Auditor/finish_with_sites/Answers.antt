@@ -1,29 +1,22 @@
 -- The notes are right, and the sites are at the end of their histories.
-use Rattle.std.proofs.Common.{◌∙◌, ap, sym, subst}
+use Rattle.std.proofs.Common.{◌∙◌, ap, subst}
 use Rattle.rb_auditor.specs.Audits.{Audited}
 use Rattle.rb_auditor.specs.Certificates.{Certifies}
 use Rattle.rb_auditor.specs.Findings.{IsFound}
-use Rattle.rb_auditor.specs.Kept.{AreJudged, histories_in}
+use Rattle.rb_auditor.specs.Kept.{histories_in}
 use Rattle.rb_auditor.specs.Replays.{ended_sites}
 use Rattle.rb_auditor.proofs.Ended
 use Rattle.rb_auditor.proofs.Kept
 use Rattle.rb_auditor.proofs.auditor.Auditor.finish_with_sites.Goals as goal
 
 pub find-requires : goal.find-requires
-find-requires c =
-    subst (λ ns. AreJudged c.self.inside.config ns c.self.inside.store.messages.items) (sym c.as_slice.ensures.value)
-    (Kept.judged_all c.self.inside.config c.self.inside.sites.items c.self.inside.notes.items c.self.inside.store.messages.items
-    c.self.invariant)
+find-requires c = rw c.as_slice.ensures.value (Kept.judged_all c.self.invariant)
 
 pub returns-in-Ok-clause-sites : goal.returns-in-Ok-clause-sites
 returns-in-Ok-clause-sites c =
-    Ended.sites_ended c.self.inside.config c.self.inside.sites.items c.self.inside.notes.items c.self.inside.store.messages.items
-    c.in-Ok.order c.self.invariant
+    Ended.sites_ended c.self.invariant
     (subst (λ ns. Certifies c.self.inside.config (histories_in ns) c.in-Ok.order) c.as_slice.ensures.value c.in-Ok.ensures.certified)
     ∙ ap (λ (a : Audited). ended_sites a.settings 0 a.histories) c.self.view_is
-
-pub returns-in-Ok-clause-each : goal.returns-in-Ok-clause-each
-returns-in-Ok-clause-each c = c.self.invariant.sites ∙ ap (λ (a : Audited). a.settings.sites) c.self.view_is
 
 pub returns-clause-found : goal.returns-clause-found
 returns-clause-found c =

@@ -5,10 +5,11 @@ use Rattle.rb_auditor.specs.Kept.{entries_noted}
 use Rattle.std.proofs.lemmas.List.{length-map}
 use Rattle.rb_auditor.proofs.Kept
 use Rattle.rb_auditor.proofs.Results.{on_err, on_ok}
+use Rattle.rb_auditor.proofs.auditor.Auditor.take.Goals.{After-index_mut-notes}
 use Rattle.rb_auditor.proofs.auditor.Auditor.take.Goals as goal
 
 -- the site is one of the configuration
-within : (c : goal.After-take_entry-arg-1) → c.args.site < c.self.inside.config.sites
+within : (c : After-index_mut-notes) → c.args.site < c.self.inside.config.sites
 within c =
     let seen : length c.args.self.now.histories ≡ length c.self.inside.notes.items =
     ap (λ (a : Audited). length a.histories) (sym c.self.view_is) ∙ length-map c.self.inside.notes.items entries_noted in
@@ -16,29 +17,21 @@ within c =
 
 pub take_entry-requires : goal.take_entry-requires
 take_entry-requires c =
-    Kept.at_place c.self.inside.config c.self.inside.sites.items c.self.inside.notes.items c.self.inside.store.messages.items c.args.site
-    c.index_mut-replayed.result.now c.index_mut-notes.result.now c.self.invariant (within c) c.index_mut-replayed.ensures.value
-    c.index_mut-notes.ensures.value
-
-inside : (c : goal.After-self-2-1) → c.args.site < c.self.inside.config.sites
-inside c =
-    let seen : length c.args.self.now.histories ≡ length c.self.inside.notes.items =
-    ap (λ (a : Audited). length a.histories) (sym c.self.view_is) ∙ length-map c.self.inside.notes.items entries_noted in
-    omega (arith, c.self.invariant.notes)
+    Kept.at_place c.self.invariant (within (goal.at.take_entry-requires c).After-index_mut-notes)
+    c.index_mut-replayed.ensures.value c.index_mut-notes.ensures.value
 
 pub invariant_of-self : goal.invariant_of-self
 invariant_of-self c =
-    Kept.set_place c.self.inside.config c.self.inside.sites.items c.self.inside.notes.items c.self.inside.store.messages.items
-    c.take_entry.new.store.messages.items c.args.site c.index_mut-replayed.result.now c.take_entry.new.site c.index_mut-notes.result.now
-    c.take_entry.new.notes c.self.invariant c.take_entry.ensures.more (inside c) c.index_mut-replayed.ensures.value
-    c.index_mut-notes.ensures.value c.take_entry.ensures.notes
+    Kept.set_place c.self.invariant c.take_entry.ensures.more
+    (within (goal.at.invariant_of-self c).After-index_mut-notes)
+    c.index_mut-replayed.ensures.value c.index_mut-notes.ensures.value c.take_entry.ensures.notes
 
 pub returns-clause-ok : goal.returns-clause-ok
 returns-clause-ok c = on_ok c.take_entry.result c.take_entry.ensures.ok (λ grown.
-    Kept.has_more c.args.self.now c.self.inside.config c.self.inside.notes.items c.args.site c.index_mut-notes.result.now
-    c.take_entry.new.notes _ c.self.view_is c.self.invariant.notes (inside c) c.index_mut-notes.ensures.value grown)
+    Kept.has_more c.self.inside.notes.items c.take_entry.new.notes c.self.view_is c.self.invariant.notes
+    (within (goal.at.returns-clause-ok c).After-index_mut-notes) c.index_mut-notes.ensures.value grown)
 
 pub returns-clause-err : goal.returns-clause-err
 returns-clause-err c = on_err c.take_entry.result c.take_entry.ensures.err (λ same.
-    Kept.has_same c.args.self.now c.self.inside.config c.self.inside.notes.items c.args.site c.index_mut-notes.result.now
-    c.take_entry.new.notes c.self.view_is c.self.invariant.notes (inside c) c.index_mut-notes.ensures.value same)
+    Kept.has_same c.self.inside.notes.items c.take_entry.new.notes c.self.view_is c.self.invariant.notes
+    (within (goal.at.returns-clause-err c).After-index_mut-notes) c.index_mut-notes.ensures.value same)

@@ -1,20 +1,18 @@
 -- Histories that aren't one for each site, or that their sites don't record, aren't certified.
-use Rattle.std.proofs.Common.{◌≡◌, ◌∙◌, ◌<◌, Some, ap, sym, subst, length, arith, inl, inr}
+use Rattle.std.proofs.Common.{◌≡◌, ◌∙◌, ◌<◌, Some, sym, subst, length, arith, inl, inr}
 use Rattle.std.specs.Prelude.{slice_get}
 use Rattle.std.proofs.lemmas.Bool.{false≢true}
 use Rattle.std.proofs.lemmas.Option.{slice_get_within}
 use Rattle.rb_site.proofs.Public.Places.{same_number}
 use Rattle.rb_auditor.specs.Findings.{IsReplay, lists_of}
-use Rattle.rb_auditor.proofs.Lengths
 use Rattle.rb_auditor.proofs.Listed
-use Rattle.rb_auditor.proofs.Lists
 use Rattle.rb_auditor.proofs.Refuting
 use Rattle.rb_auditor.proofs.checking.check.check.Goals as goal
 
 pub returns-then-histories-sites-clause-certified : goal.returns-then-histories-sites-clause-certified
 returns-then-histories-sites-clause-certified c = (
   λ t. absurd (false≢true t),
-  λ cert. absurd (c.if-histories-sites.true (sym (Lengths.length_lists c.args.histories.now)
+  λ cert. absurd (c.if-histories-sites.true (sym (Listed.length_lists c.args.histories.now)
       ∙ Refuting.one_for_each c.args.config.now (lists_of c.args.histories.now) c.args.certificate.now cert ∙ sym c.sites.ensures.same)),
 )
 
@@ -44,19 +42,14 @@ loop-site-preserved c i h less at =
     let here : IsReplay s c.loop-site.site c.index-histories-site.result.items =
     subst (IsReplay s c.loop-site.site) c.as_slice.ensures.value (c.in_ok-is_recorded.ensures.0 c.if-not-branch.false) in
     elim (same_number c.loop-site.site i) [
-      | inl e ↦
-          subst (λ j. IsReplay s j h) (sym e) (subst (IsReplay s c.loop-site.site)
-          (Lists.same_item (slice_get hs c.loop-site.site) c.index-histories-site.result.items h there (ap (slice_get hs) (sym e) ∙ at))
-          here)
+      | inl e ↦ (let same : h ≡ c.index-histories-site.result.items = cc (there, e, at) in rw (e, same) here)
       | inr ne ↦ c.loop-site.invariant i h (omega (arith, less, ne)) at
     ]
 
 pub follow-requires-clause-replays : goal.follow-requires-clause-replays
 follow-requires-clause-replays c i h at =
     let within : i < length (lists_of c.args.histories.now) = slice_get_within (lists_of c.args.histories.now) i h at in
-    let size : length (lists_of c.args.histories.now) ≡ length c.args.histories.now = Lengths.length_lists c.args.histories.now in
+    let size : length (lists_of c.args.histories.now) ≡ length c.args.histories.now =
+    Listed.length_lists c.args.histories.now in
     c.loop-site.invariant i h
     (omega (arith, c.sites.ensures.same, c.sites-site-end.ensures.same, c.if-histories-sites.false, c.loop-site-test.false)) at
-
-pub returns-clause-few : goal.returns-clause-few
-returns-clause-few c other = absurd (other (omega (arith, c.sites.ensures.same, c.if-histories-sites.false)))

@@ -1,6 +1,5 @@
 -- One site more.
-use Rattle.std.proofs.Common.{◌∙◌, ◌+◌, ◌≤◌, ℕ, ◌++◌, [], ◌∷◌, ◌≡◌, ap, arith, map, subst, sym, vec_len, vec_capacity}
-use Rattle.std.specs.List.{range_with_len}
+use Rattle.std.proofs.Common.{◌∙◌, ◌+◌, ◌≤◌, ℕ, ◌++◌, [], ◌∷◌, ap, arith, subst, sym, vec_len, vec_capacity}
 use Rattle.std.proofs.lemmas.List.FromFn.{map-range_with_len_more}
 use Rattle.rb_site.specs.Seen.{first_seen}
 use Rattle.rb_auditor.proofs.Results.{went_well}
@@ -24,15 +23,3 @@ loop-me-init c =
       c.reserve.ensures.len ∙ c.new-sites.ensures.len,
       omega (arith, c.sites-count.ensures.same),
     )
-
-pub open_keeping-requires : goal.open_keeping-requires
-open_keeping-requires c = omega (arith, c.sites-count.ensures.same)
-
-pub push_reserved-requires : goal.push_reserved-requires
-push_reserved-requires c = omega (arith, c.sites-count.ensures.same, c.loop-me.invariant.1, c.loop-me.invariant.2)
-
-pub returns : goal.returns
-returns c =
-    c.loop-me.invariant.0
-    ∙ ap (λ n. map (first_seen c.args.config.now) (range_with_len 0 n))
-    (let all : c.loop-me.me ≡ c.args.config.now.sites = omega (arith, c.sites-count.ensures.same) in all)

@@ -14,7 +14,7 @@ invariant_of-self c =
     let ps = c.self.inside.positions.items in
     let longer = ap length c.push.ensures.items ∙ length_push us c.args.shadow.now in
     let more = ap length c.push_reserved.ensures.items ∙ length_push ps _ in
-    let few = Positions.many_positions us os ps c.args.self.now _ _ _ c.self.view_is c.self.invariant.each in
+    let few = Positions.many_positions us os ps c.self.view_is c.self.invariant.each in
     let room = ap (λ (t : MessageTable). t.limit) c.self.view_is in
     record {
       each = Found.there _ _ _ (Positions.compact_pushed us _ os ps _ c.args.shadow.now _ c.push.ensures.items

@@ -13,7 +13,7 @@ invariant_of-self c =
     let ps = c.self.inside.positions.items in
     let longer = ap length c.push_reserved.ensures.items ∙ length_push os c.args.message.now in
     let more = ap length c.push_reserved-2.ensures.items ∙ length_push ps _ in
-    let few = Positions.many_positions us os ps c.args.self.now _ _ _ c.self.view_is c.self.invariant.each in
+    let few = Positions.many_positions us os ps c.self.view_is c.self.invariant.each in
     let room = ap (λ (t : MessageTable). t.limit) c.self.view_is in
     record {
       each = Found.there _ _ _ (Positions.other_pushed us os _ ps _ c.args.message.now _ c.push_reserved.ensures.items

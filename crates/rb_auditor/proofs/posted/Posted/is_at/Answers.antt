@@ -1,6 +1,6 @@
 -- The message at a position is at its place among all.
 use Rattle.std.proofs.Common.{◌∙◌, ap, slice_get, sym}
-use Rattle.std.proofs.lemmas.Bool.{eq-eqb, false≢true}
+use Rattle.std.proofs.lemmas.Bool.{eq-eqb}
 use Rattle.rb_auditor.specs.MessageLists.{SentTable}
 use Rattle.rb_auditor.proofs.Placed
 use Rattle.rb_auditor.proofs.posted.Posted.is_at.Goals as goal
@@ -21,12 +21,4 @@ returns-else-known-place c = λ m here.
     let same = c.are_same.ensures m (ap (λ (t : SentTable). slice_get t.all c.args.place) c.self.view_is ∙ here) in (
       λ yes. at ∙ sym all ∙ same.0 yes,
       λ there. same.1 (all ∙ sym at ∙ there),
-    )
-
-pub returns-in-None : goal.returns-in-None
-returns-in-None c = λ m here.
-    let none = Placed.past_places c.self.inside.all.now.items c.self.inside.places.items c.deref.result.now c.args.self.now c.args.position
-    c.self.view_is c.self.invariant c.deref.ensures.value c.in-None.ensures.lookup.3 in (
-      λ yes. absurd (false≢true yes),
-      λ there. cc,
     )
