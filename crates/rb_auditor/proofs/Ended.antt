@@ -12,6 +12,7 @@ use Rattle.rb_auditor.specs.Certificates.{Certifies}
 use Rattle.rb_auditor.specs.Findings.{IsReplay}
 use Rattle.rb_auditor.specs.Kept.{AreAllNotes, AreNotes, entries_noted, histories_in}
 use Rattle.rb_auditor.specs.Replays.{seen_at, ended_sites}
+use Rattle.rb_auditor.proofs.Kept
 use Rattle.rb_auditor.proofs.Refuting
 use Rattle.rb_auditor.proofs.Replaying
 
@@ -22,8 +23,7 @@ at_end s i x n ms a replay =
     let within : length n.steps.items ≤ length (entries_noted n) = a.judged.within in
     let whole : ¬ (length n.steps.items < length (entries_noted n)) =
     λ less. a.judged.wrong less (Replaying.replay-take s i (length n.steps.items + 1) (entries_noted n) replay) in
-    ap (λ t. record x { settings = t }) a.settings ∙ ap (λ k. record x { settings = s; me = k }) a.me
-    ∙ ap (seen_at s i) (a.entries (omega (arith, within, whole)))
+    Kept.site_is a (omega (arith, within, whole))
 
 -- sites that are each at the end of its history are those of the histories
 all_at_end : (s : Settings) (i : ℕ) (xs : List SeenSite) (hs : List (List Entry)) → length xs ≡ length hs

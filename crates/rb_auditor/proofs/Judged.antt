@@ -12,7 +12,7 @@ use Rattle.rb_site.specs.declared.event.Event.{Event}
 use Rattle.rb_site.specs.declared.event.Event.TheVariants.{Receive}
 use Rattle.rb_site.specs.declared.message.Message.{Message}
 use Rattle.rb_site.specs.Events.{sent_at}
-use Rattle.rb_site.specs.Histories.{IsAmong, IsFrom}
+use Rattle.rb_site.specs.Histories.{IsFrom}
 use Rattle.rb_site.proofs.Public.Lists.{map_at, map_back}
 use Rattle.rb_site.proofs.Public.Places.{same_number}
 use Rattle.rb_auditor.specs.declared.notes.Notes.{Notes}
@@ -163,19 +163,13 @@ own_comes : (before : List Message) (e : Event) → IsNoReceipt e → IsFrom bef
 own_comes before (Receive m) h = absurd h
 own_comes before _ h = tt
 
-received : (before : List Message) (e : Event) (m : Message) → e ≡ Receive m → IsAmong m before → IsFrom before e
-received before e m is among = subst (IsFrom before) (sym is) among
-
 -- if the step says nothing that is sent, the entry can't come
 pub held : (before ms : List Message) (e : Event) (sent : List Message) (step : Step) → IsStep ms e sent step
     → IsTakenAs before ms step None
     → ¬ IsFrom before e
 held before ms e sent Alone h k come = cc
 held before ms e sent (Receives at) ((m, is, there), none) (n, here, not) come =
-    not (subst (λ z. IsAmong z before) (Lists.same_item (slice_get ms at) m n there here) (the (subst (IsFrom before) is come)))
-  where
-    the : IsFrom before (Receive m) → IsAmong m before
-    the h = h
+    let same : m ≡ n = cc (there, here) in not (rw (is, same) at come)
 held before ms e sent (Sends count at) h k come = cc
 
 -- if it says what is sent, the entry may come, and sends that
@@ -183,7 +177,7 @@ pub comes : (before ms : List Message) (e : Event) (sent : List Message) (step :
     → IsTakenAs before ms step (Some posted) → IsFrom before e × (posted ≡ sent)
 comes before ms e sent Alone posted (own, none) k = (own_comes before e own, (let q : posted ≡ [] = cc in q) ∙ sym none)
 comes before ms e sent (Receives at) posted ((m, is, there), none) (n, here, among, nothing) = (
-  received before e m is (subst (λ z. IsAmong z before) (Lists.same_item (slice_get ms at) n m here there) among),
+  (let same : m ≡ n = cc (there, here) in rw (is, same) among),
   nothing ∙ sym none,
 )
 comes before ms e sent (Sends count at) posted (own, fits, is) k = (own_comes before e own, same ∙ sym is)

@@ -4,8 +4,8 @@ use Rattle.std.proofs.Common.{Option, Some, None, length-append}
 use Rattle.std.proofs.Common.{zero, suc, get_or, append_assoc, append-nil}
 use Rattle.std.specs.Prelude.{slice_get, slice_set, map, replicate}
 use Rattle.std.specs.List.{range_with_len}
-use Rattle.std.proofs.lemmas.Option.{get_or_from_slice_get, slice_get_read, slice_get_within}
-use Rattle.std.proofs.lemmas.List.FromFn.{get_or-map-range_with_len, length-map-range_with_len}
+use Rattle.std.proofs.lemmas.Option.{slice_get_read, slice_get_within}
+use Rattle.std.proofs.lemmas.List.FromFn.{length-map-range_with_len}
 use Rattle.std.proofs.lemmas.List.{length-set, map-set, take-append-le, take_all}
 use Rattle.rb_money.specs.Settings.{Settings}
 use Rattle.rb_site.specs.declared.entry.Entry.{Entry}
@@ -136,6 +136,13 @@ first_wrong s i x later old new ms y a whole not e f grown same =
     here : ¬ IsReplay s i (h ++ y ∷ [])
     here r = not (let e : x.entries ≡ h = a.entries whole in rw (a.settings, a.me, e) r)
 
+-- a site that records all its entries is the one after them
+pub site_is : {s : Settings} {i : ℕ} {x : SeenSite} {n : Notes} {ms : List Message} → AreNotes s i x n ms
+    → length n.steps.items ≡ length (entries_noted n) → x ≡ seen_at s i (entries_noted n)
+site_is {s} {i} {x} a whole =
+    ap (λ t. record x { settings = t }) a.settings ∙ ap (λ k. record x { settings = s; me = k }) a.me
+    ∙ ap (seen_at s i) (a.entries whole)
+
 -- the site records one entry more
 one_recorded : (s : Settings) (i : ℕ) (x later : SeenSite) (old new : Notes) (ms : List Message) (y : Entry) (step : Step)
     → AreNotes s i x old ms → length old.steps.items ≡ length (entries_noted old) → later ≡ record x { entries = x.entries ++ y ∷ [] }
@@ -167,8 +174,7 @@ one_recorded s i x later old new ms y step a whole is replayed new_step grown mo
     count = length-append steps (step ∷ [])
 
     now : x ≡ seen_at s i h
-    now = ap (λ t. record x { settings = t }) a.settings ∙ ap (λ k. record x { settings = s; me = k }) a.me
-        ∙ ap (seen_at s i) (a.entries whole)
+    now = site_is a whole
 
     here : IsReplay s i (h ++ y ∷ [])
     here = subst IsReplayed (is ∙ ap (λ (z : SeenSite). record z { entries = z.entries ++ y ∷ [] }) now) replayed
@@ -267,16 +273,13 @@ pub none_read : (s : Settings) (xs : List SeenSite) (ns : List Notes) (ms : List
 none_read s xs ns ms is count none = record {
   sites = ap length is ∙ length-map-range_with_len (first_seen s) 0 s.sites;
   notes = count;
-  each = λ i x n at there. notes_of i x n (ap (λ z. slice_get z i) (sym is) ∙ at) (none i n there)
-      (let less : i < length ns = slice_get_within ns i n there in omega arith);
+  each = λ i x n at there. notes_of i x n (rw is at at) (none i n there);
 }
   where
     notes_of : (i : ℕ) (x : SeenSite) (n : Notes) → slice_get (map (first_seen s) (range_with_len 0 s.sites)) i ≡ Some x
-        → (n.entries.items ≡ []) × (n.steps.items ≡ []) → i < s.sites → AreNotes s i x n ms
-    notes_of i x n at empty less =
-        let e : x ≡ first_seen s i =
-        sym (get_or_from_slice_get (map (first_seen s) (range_with_len 0 s.sites)) i x x at)
-        ∙ get_or-map-range_with_len (first_seen s) 0 s.sites i i x less (omega arith) in
+        → (n.entries.items ≡ []) × (n.steps.items ≡ []) → AreNotes s i x n ms
+    notes_of i x n at empty =
+        let (less, e) = Lists.at_number (first_seen s) s.sites i x at in
         let f : entries_noted n ≡ [] = ap (map (λ z. z.value)) empty.0 in
         record {
           settings = ap (λ (z : SeenSite). z.settings) e;

@@ -2,7 +2,6 @@ mod Results
 mod Lists
 mod Found
 mod Positions
-mod Placed
 mod Clocks
 mod Replaying
 mod Messages

@@ -4,6 +4,8 @@ use Rattle.std.proofs.Common.{Option, Some, ◌⊎◌, inl, inr}
 use Rattle.std.specs.Prelude.{map, replicate, slice_get, slice_set}
 use Rattle.std.specs.List.{range_with_len}
 use Rattle.std.proofs.lemmas.List.{length-take-le}
+use Rattle.std.proofs.lemmas.List.FromFn.{get_or-map-range_with_len, length-map-range_with_len}
+use Rattle.std.proofs.lemmas.Option.{get_or_from_slice_get, slice_get_within}
 use Rattle.rb_money.specs.Settings.{Settings}
 use Rattle.rb_site.specs.declared.entry.Entry.{Entry}
 use Rattle.rb_site.specs.Events.{ModelSite, first_site}
@@ -41,6 +43,15 @@ pub get_zero : (n i k : ℕ) → slice_get (replicate n 0) i ≡ Some k → k �
 get_zero zero i k h = cc
 get_zero (suc n) zero k h = cc
 get_zero (suc n) (suc i) k h = get_zero n i k h
+
+-- what is found at a place of what is made of each number below n is made of that place's
+pub at_number : {A : Type 0} (f : ℕ → A) (n i : ℕ) (x : A) → slice_get (map f (range_with_len 0 n)) i ≡ Some x
+    → (i < n) × (x ≡ f i)
+at_number f n i x at =
+    let many : length (map f (range_with_len 0 n)) ≡ n = length-map-range_with_len f 0 n in
+    let within : i < length (map f (range_with_len 0 n)) = slice_get_within _ i x at in
+    let less : i < n = omega arith in
+    (less, sym (get_or_from_slice_get _ i x x at) ∙ get_or-map-range_with_len f 0 n i i x less (omega arith))
 
 -- what two looks at one place give is one thing
 pub same_item : {A : Type 0} (o : Option A) (x y : A) → o ≡ Some x → o ≡ Some y → x ≡ y
@@ -143,8 +154,8 @@ get_front (g ∷ hs) (n ∷ ks) zero k h p q =
 get_front (g ∷ hs) (n ∷ ks) (suc i) k h p q = get_front hs ks i k h p q
 
 -- a prefix that is found at a place comes from the history and the number of entries that are there
-pub from_front : (hs : List (List Entry)) (ks : List ℕ) (i : ℕ) (f : List Entry) → slice_get (fronts_of hs ks) i ≡ Some f
-    → IsMadeOf hs ks i (λ f. f) f
+pub from_front : (hs : List (List Entry)) (ks : List ℕ) (i : ℕ) (f : List Entry)
+    → slice_get (fronts_of hs ks) i ≡ Some f → IsMadeOf hs ks i (λ f. f) f
 from_front [] ks i f p = cc
 from_front (g ∷ hs) [] i f p = cc
 from_front (g ∷ hs) (n ∷ ks) zero f p = record { history = g; taken = n; there = refl; at = refl; is = cc }

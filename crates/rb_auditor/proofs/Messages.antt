@@ -26,10 +26,7 @@ pub held_up : (ms : List Message) (xs rest : List Entry) (x : Entry) → IsHeldU
 held_up ms [] rest x h e come = cc
 held_up ms (y ∷ ys) rest x (m, is, not) e come =
     let event : x.event ≡ Receive m = (let same : x ≡ y = cc in rw same is) in
-    not (the (rw event at come))
-  where
-    the : IsFrom ms (Receive m) → IsAmong m ms
-    the h = h
+    not (rw event at come)
 
 -- what one entry more sends
 pub sends_more : (s : Settings) (t : ModelSite) (xs : List Entry) (x : Entry)

@@ -1,10 +1,10 @@
 -- The findings of an audit show that no world has the histories.
-use Rattle.std.proofs.Common.{◌≡◌, ℕ, ◌+◌, ◌<◌, List, [], ◌∷◌, ◌++◌, length, refl, ap, sym, subst, ◌∙◌, inl, inr, arith, Option, Some}
-use Rattle.std.proofs.Common.{None, false}
+use Rattle.std.proofs.Common.{◌≡◌, ℕ, ◌<◌, List, [], ◌∷◌, ◌++◌, length, refl, ap}
+use Rattle.std.proofs.Common.{sym, subst, ◌∙◌, inl, inr, arith, Option, Some, None, false}
 use Rattle.std.specs.Prelude.{slice_get}
 use Rattle.std.specs.Option.{option_map}
 use Rattle.std.proofs.lemmas.Bool.Decides.{nat_tests}
-use Rattle.std.proofs.lemmas.Option.{slice_get-map, slice_get_within}
+use Rattle.std.proofs.lemmas.Option.{slice_get-map}
 use Rattle.rb_money.specs.Settings.{Settings}
 use Rattle.rb_shadow.proofs.Public.Members
 use Rattle.rb_site.specs.declared.entry.Entry.{Entry}
@@ -25,6 +25,7 @@ use Rattle.std.proofs.lemmas.List.FromFn.{length-map-range_with_len}
 use Rattle.rb_auditor.specs.Certificates.{Certifies}
 use Rattle.rb_auditor.specs.Findings.{IsFirstWrong, IsReplay, IsStuckAt}
 use Rattle.rb_auditor.specs.Progress.{site_after}
+use Rattle.rb_auditor.proofs.Lists
 use Rattle.rb_auditor.proofs.Replaying
 use Rattle.rb_auditor.proofs.Runs
 
@@ -47,12 +48,8 @@ goes_on s i t x free reply a = record {
   run = SiteRuns.run_goes_on s t x.event a.run;
   stands = ap (site_after s i) grown ∙ Replaying.after_more s (first_site i) (history_of s t) x
       ∙ ap (λ u. after_event s u x.event) a.stands;
-  replays = subst (IsReplay s i) (sym grown) (subst (λ e. IsReplay s i (history_of s t ++ e
-      ∷ [])) noted (Seen.replayed-stepped (record {
-        settings = s;
-        me = i;
-        entries = history_of s t;
-      }) x.event (room_below s t free) a.replays));
+  replays = rw (grown, ← noted) (Seen.replayed-stepped (record { settings = s; me = i; entries = history_of s t })
+      x.event (room_below s t free) a.replays);
 }
   where
     grown : history_of s (after_event s t x.event) ≡ history_of s t ++ x ∷ []
@@ -87,14 +84,8 @@ run_at s (e ∷ es) w own all =
 
 first_all : (s : Settings) → AllAtTheirs s (first_world s)
 first_all s i t at =
-    let is : t ≡ first_site i = Stuck.first_sites 0 s.sites i t at ∙ ap first_site (let q : 0 + i ≡ i = omega arith in q) in
-    let less : i < s.sites = subst (λ n. i < n) (length-map-range_with_len first_site 0 s.sites)
-    (slice_get_within (first_world s).sites i t at) in
-    subst (IsAtItsHistory s i) (sym is) (record {
-      run = refl;
-      stands = refl;
-      replays = record { within = less; replays = tt; room = omega arith };
-    })
+    let (less, is) = Lists.at_number first_site s.sites i t at in
+    rw is (record { run = refl; stands = refl; replays = record { within = less; replays = tt; room = omega arith } })
 
 -- the histories of one world replay
 pub one_worlds_replay : (s : Settings) (hs : List (List Entry)) (i : ℕ) (h : List Entry) → AreOneWorlds s hs → slice_get hs i ≡ Some h →

@@ -102,8 +102,7 @@ pub steps_longer : (s : Settings) (i : ℕ) (h rest : List Entry) (ms : List Mes
 steps_longer s i h rest ms steps fits all k x step at is =
     let less : k < length steps = slice_get_within steps k step is in
     let same : take k (h ++ rest) ≡ take k h = take-append-le k h rest (omega arith) in
-    subst (λ f. IsStep ms x.event (sent_at s (site_after s i f) x.event) step) (sym same)
-    (all k x step (sym (get_before h rest k (omega arith)) ∙ at) is)
+    rw same (all k x step (sym (get_before h rest k (omega arith)) ∙ at) is)
 
 -- one entry more with its step
 pub steps_next : (s : Settings) (i : ℕ) (h : List Entry) (ms : List Message) (steps : List Step) (x : Entry) (step : Step)
@@ -115,9 +114,7 @@ steps_next s i h ms steps x step many all new k y st at is = elim (before_or_las
     | inl g ↦ (let less : k < length h = slice_get_within h k y g in absurd (omega arith))
     | inr (f, is_x) ↦
         let front : take k (h ++ x ∷ []) ≡ h = take-append-le k h (x ∷ []) (omega arith) ∙ take_all k h (omega arith) in
-        subst (λ g. IsStep ms y.event (sent_at s (site_after s i g) y.event) st) (sym front)
-        (subst (λ (z : Entry). IsStep ms z.event (sent_at s (site_after s i h) z.event) st) (sym is_x)
-        (subst (IsStep ms x.event (sent_at s (site_after s i h) x.event)) (sym same) new))
+        rw (front, is_x, same) new
   ]
 ]
 

@@ -33,22 +33,15 @@ none_recorded : (s : Settings) (a n : ℕ) → map recorded (map (first_seen s) 
 none_recorded s a zero = refl
 none_recorded s a (suc n) = ap (λ ks. 0 ∷ ks) (none_recorded s (a + 1) n)
 
-first_at : (s : Settings) (a n i : ℕ) (x : SeenSite) → slice_get (map (first_seen s) (range_with_len a n)) i ≡ Some x
-    → x ≡ first_seen s (a + i)
-first_at s a zero i x at = cc
-first_at s a (suc n) zero x at = let e : first_seen s a ≡ x = cc in sym e ∙ ap (first_seen s) (let q : a ≡ a + 0 = omega arith in q)
-first_at s a (suc n) (suc i) x at =
-    first_at s (a + 1) n i x at ∙ ap (first_seen s) (let q : a + 1 + i ≡ a + suc i = omega arith in q)
-
 -- before any event each site is along
 pub along_first : (s : Settings) (hs : List (List Entry)) (xs : List SeenSite) → xs ≡ map (first_seen s) (range_with_len 0 s.sites)
     → length hs ≡ s.sites → AreAlong s hs xs
 along_first s hs xs is n = record {
   sites = ap length is ∙ length-map-range_with_len (first_seen s) 0 s.sites ∙ sym n;
   each = λ i h x there at.
-      (let e : x ≡ first_seen s (0 + i) = first_at s 0 s.sites i x (ap (λ ys. slice_get ys i) (sym is) ∙ at) in
+      (let e : x ≡ first_seen s i = (Lists.at_number (first_seen s) s.sites i x (rw is at at)).1 in
       let none : length x.entries ≡ 0 = ap recorded e in
-      e ∙ ap (first_seen s) (let q : 0 + i ≡ i = omega arith in q) ∙ ap (λ k. seen_at s i (take k h)) (sym none));
+      e ∙ ap (λ k. seen_at s i (take k h)) (sym none));
 }
 
 -- and nothing is taken

@@ -5,7 +5,7 @@ use Rattle.std.specs.List.{filter_map}
 use Rattle.std.specs.Prelude.{map, slice_get}
 use Rattle.rb_auditor.specs.MessageLists.{MessageTable, SentTable}
 use Rattle.rb_auditor.proofs.Found
-use Rattle.rb_auditor.proofs.Placed
+use Rattle.rb_auditor.proofs.Positions
 use Rattle.rb_auditor.proofs.posted.Posted.add.Goals as goal
 
 pub invariant_of-self-in-loop-place : goal.invariant_of-self-in-loop-place
@@ -20,8 +20,8 @@ loop-place-preserved c =
     let less : c.loop-place.place < length all = omega (arith, c.requires, many, same, c.loop-place-test.true) in
     let next : k + 1 ≡ c.loop-place.place + 1 - c.args.first = omega (arith, c.loop-place.invariant.1) in
     let start = filter_map (slice_get c.self.inside.all.now.items) c.reserve.new.self.items in (
-      Placed.place_next all _ _ start c.args.first k c.loop-place.place (omega (arith, c.loop-place.invariant.1)) less
-          c.push_reserved.ensures.items c.loop-place.invariant.0
+      Positions.place_next all _ _ start c.args.first k c.loop-place.place (omega (arith, c.loop-place.invariant.1))
+          less c.push_reserved.ensures.items c.loop-place.invariant.0
           ∙ ap (λ n. map (λ m. Some m) (start ++ take n (drop c.args.first all))) next,
       omega (arith, c.loop-place.invariant.1),
       omega (arith, c.loop-place.invariant.1, c.loop-place.invariant.2, c.push_reserved.ensures.len, c.push_reserved.ensures.capacity),
