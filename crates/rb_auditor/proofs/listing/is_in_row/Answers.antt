@@ -11,8 +11,11 @@ returns-in-Some-get-clause-known c = λ m here yes. Recorded.at_place c.args.pos
 
 pub returns-in-Some-get-clause-found : goal.returns-in-Some-get-clause-found
 returns-in-Some-get-clause-found c = λ m positions position here there at known.
-    let row : positions ≡ c.in-Some.positions.now.items = cc (there, Listed.row_at c.args.rows.now c.args.row
-    c.in-Some.positions.now c.in-Some.ensures.lookup.3.0 c.in-Some.ensures.lookup.1) in
+    let row : positions ≡ c.in-Some.positions.now.items = cc (
+      there,
+      Listed.row_at c.args.rows.now c.args.row
+          c.in-Some.positions.now c.in-Some.ensures.lookup.3.0 c.in-Some.ensures.lookup.1,
+    ) in
     let listed : slice_get c.deref.result.now c.args.slot ≡ Some c.in-Some-get.position.now =
     slice_get_read c.deref.result.now (length c.deref.result.now) c.args.slot c.in-Some-get.position.now refl
     c.in-Some-get.ensures.lookup.3.0 c.in-Some-get.ensures.lookup.1 in
@@ -21,6 +24,9 @@ returns-in-Some-get-clause-found c = λ m positions position here there at known
 
 pub returns-in-None-get-clause-found : goal.returns-in-None-get-clause-found
 returns-in-None-get-clause-found c = λ m positions position here there at known.
-    let row : positions ≡ c.in-Some.positions.now.items = cc (there, Listed.row_at c.args.rows.now c.args.row
-    c.in-Some.positions.now c.in-Some.ensures.lookup.3.0 c.in-Some.ensures.lookup.1) in
+    let row : positions ≡ c.in-Some.positions.now.items = cc (
+      there,
+      Listed.row_at c.args.rows.now c.args.row
+          c.in-Some.positions.now c.in-Some.ensures.lookup.3.0 c.in-Some.ensures.lookup.1,
+    ) in
     cc (at, row, c.deref.ensures.value, slice_get_past c.deref.result.now c.args.slot c.in-None-get.ensures.lookup.3)

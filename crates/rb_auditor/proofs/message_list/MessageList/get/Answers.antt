@@ -42,8 +42,10 @@ returns-in_ok-get-in-Compact c =
 
 pub returns-in_err-get-in-Other : goal.returns-in_err-get-in-Other
 returns-in_err-get-in-Other c =
-    rw (other (goal.at.returns-in_err-get-in-Other c).After-deref-in-Other,
-    slice_get_past c.deref-in-Other.result.now c.in-Other.at c.in_err-get-in-Other.ensures.lookup.3)
+    rw (
+      other (goal.at.returns-in_err-get-in-Other c).After-deref-in-Other,
+      slice_get_past c.deref-in-Other.result.now c.in-Other.at c.in_err-get-in-Other.ensures.lookup.3,
+    )
     c.from_residual-in_err-get-in-Other.ensures
 
 pub returns-in_ok-get-in-Other : goal.returns-in_ok-get-in-Other

@@ -34,13 +34,20 @@ returns-in_err-at-in-Compact c =
 
 pub returns-in_ok-at-in-Compact : goal.returns-in_ok-at-in-Compact
 returns-in_ok-at-in-Compact c =
-    rw (compact (goal.at.returns-in_ok-at-in-Compact c).In-Compact, ← c.in_ok-at-in-Compact.ensures, c.name_row.ensures,
-    c.name_slot.ensures, c.name-name.ensures)
+    rw (
+      compact (goal.at.returns-in_ok-at-in-Compact c).In-Compact,
+      ← c.in_ok-at-in-Compact.ensures,
+      c.name_row.ensures,
+      c.name_slot.ensures,
+      c.name-name.ensures,
+    )
 
 pub returns-in_err-message-in-Other : goal.returns-in_err-message-in-Other
 returns-in_err-message-in-Other c =
-    rw (other (goal.at.returns-in_err-message-in-Other c).After-deref-in-Other,
-    slice_get_past c.deref-in-Other.result.now c.in-Other.at c.in_err-message-in-Other.ensures.lookup.3)
+    rw (
+      other (goal.at.returns-in_err-message-in-Other c).After-deref-in-Other,
+      slice_get_past c.deref-in-Other.result.now c.in-Other.at c.in_err-message-in-Other.ensures.lookup.3,
+    )
     c.from_residual-in_err-message-in-Other.ensures
 
 pub returns-in_ok-message-in-Other : goal.returns-in_ok-message-in-Other
