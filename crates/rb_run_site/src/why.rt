@@ -59,7 +59,8 @@ fn site_of(alloc: Global, config: &Config, line: &[u8]) -> Option<u8> {
         event: Event::Pass(0),
         reply: Reply::Taken(0),
     };
-    let (site, _written) = read_asked_entry(alloc, config, text_on(line)?, &mut entry, &mut id).ok()?;
+    let text = text_on(line)?;
+    let (site, _written) = read_asked_entry(alloc, config, text, &mut entry, &mut id).ok()?;
     Some(site)
 }
 
