@@ -1,52 +1,34 @@
 //! The table of shapes: what a value has to be, and what it is called.
 
 use crate::Expected;
-use crate::shapes::Role::{Elsewhere, Free, If, Named, Needed, One, Other, Stray};
+use crate::shapes::Role::{Free, If, Named, Needed, One, Other, Stray};
+use crate::shapes::Shape::{Every, Flag, Items, Name, Number, Object, Text, Unknown};
 use rb_history::BankName;
 use rb_money::{
     Config, MOST_BLUE, MOST_CENTS, MOST_EPOCH, MOST_HISTORY, MOST_INBOX, MOST_RATE, MOST_RED,
     MOST_SITES, MOST_SITES_OF_VERSION_1, Refusal,
 };
 
-/// What a value has to be, with its name: a number of the first range, of which a line may have the second, and a bank
-/// refuses the rest; a text, a list of these items or of any number of one shape, or an object.
+/// What a value has to be, and what it is called: a number of the first range, of which a line may have the second, and
+/// a bank refuses the rest; a text, or the name of an operation; a list of these items or of any number of one, by the
+/// names of their shapes; an object; true or false; or anything, after a key that its object doesn't have.
 #[derive(Clone, Copy)]
 pub enum Shape {
     Number(&'static str, Range, Range),
-    Text(&'static str, Rule),
-    Items(&'static str, &'static [Shape]),
-    Every(&'static str, &'static Shape),
+    Text(&'static str),
+    Name,
+    Items(&'static str, &'static [&'static str]),
+    Every(&'static str, &'static str),
     Object(&'static str, Keys),
     Flag,
-    /// The number of a refusal, a site with its name, that of an entry, the counts of a clock, and a site of these.
-    Refused,
-    Site(&'static str),
-    OwnSite,
-    Counts,
-    CountSite,
-    /// Anything, after a key that its object doesn't have.
     Unknown,
 }
 
 /// The least and the most of a number.
 pub type Range = (i64, u64);
 
-/// What a text has to be.
-#[derive(Clone, Copy)]
-pub enum Rule {
-    Any,
-    About,
-    Id,
-    Kind,
-    Name,
-    NewName,
-}
-
-/// Keys of an object by their part in it, in the order in which they are said, each with the shape of its value.
-pub type Keys = &'static [(Role, Row)];
-
-/// Keys of one part.
-pub type Row = &'static [(&'static str, Shape)];
+/// Keys of an object by their part in it, in the order in which they are said.
+pub type Keys = &'static [(Role, &'static [&'static str])];
 
 /// The part of keys in an object.
 #[derive(Clone, Copy, PartialEq, Eq)]
@@ -57,165 +39,98 @@ pub enum Role {
     Free,
     /// It may have each if its bank has a name, else these are words on the key.
     Named(&'static str),
-    /// It has each if its kind or its refusal is this one, else they are in another form of the object.
+    /// It has each if its kind or its refusal is this one.
     If(&'static str),
-    Elsewhere,
     /// They are in another kind of line, unless a key that is needed comes before them here: words on the key.
     Stray(&'static str),
     /// The same, with words on the object.
     Other(&'static str),
 }
 
-/// A word of the formats, without quotes.
+/// A word of the formats, without quotes; or another name of a shape.
 macro_rules! key {
     ($word:ident) => { rb_history::word!($word []) };
+    ($name:literal) => { $name };
 }
 
-/// The shape of this name, here or among the objects below, or a number that a line may have in its range alone.
-macro_rules! shape {
-    ($what:literal, $least:expr, $most:expr) => { Shape::Number($what, ($least, $most), ($least, $most)) };
-    (AMOUNT) => { Shape::Number("an amount in cents", (1, MOST_CENTS), (0, u64::MAX)) };
-    (BALANCE) => { shape!("a balance", 0, u64::MAX) };
-    (BLUE) => { shape!("the limit blue", 1, MOST_BLUE as u64) };
-    (CAUSE) => { shape!("a cause that isn't \"declined\"", 0, BYTE) };
-    (COUNT) => { shape!("a count", 0, WORD) };
-    (COUNTED) => { shape!("a count", 1, WORD) };
-    (EPOCH) => { shape!("an epoch", 0, WORD) };
-    (EPOCHS) => { shape!("the limit epoch", 1, MOST_EPOCH as u64) };
-    (HISTORY) => { shape!("the limit history", 1, MOST_HISTORY as u64) };
-    (HOME) => { Shape::Site("the home") };
-    (INBOX) => { shape!("the limit inbox", 1, MOST_INBOX as u64) };
-    (INDEX) => { shape!("an index", 0, BYTE) };
-    (LAST) => { shape!("the number of the last entries", 0, MOST_HISTORY as u64) };
-    (MESSAGE) => { shape!("a message's number", 0, WORD) };
-    (MOVED) => { shape!("what a row moved", i64::MIN, i64::MAX as u64) };
-    (PASSED_TO) => { Shape::Site("the site that the token is passed to") };
-    (POSITION) => { shape!("a position", 0, WORD) };
-    (RATE) => { Shape::Number("a rate in basis points", (0, MOST_RATE as u64), (0, WORD)) };
-    (RED) => { shape!("the number of red operations", 0, WORD) };
-    (REDS) => { shape!("the limit red", 1, MOST_RED as u64) };
-    (SENT) => { Shape::Number("an amount in cents", (0, MOST_CENTS), (0, u64::MAX)) };
-    (SITE) => { Shape::Site("a site") };
-    (SITES) => { shape!("the number of sites", 2, MOST_SITES as u64) };
-    (START) => { shape!("a starting balance in cents", 0, MOST_CENTS) };
-    (VERSION) => { shape!("the version", 1, 2) };
-    (WHY) => { shape!("why", 0, BYTE) };
-    (ABOUT) => { Shape::Text("what a question is about", Rule::About) };
-    (ACCOUNT) => { Shape::Text("the account", Rule::Any) };
-    (BANK) => { Shape::Text("the bank's name", Rule::Any) };
-    (EITHER) => { Shape::Text("an account", Rule::Any) };
-    (ID) => { Shape::Text("an id", Rule::Id) };
-    (KIND) => { Shape::Text("kind", Rule::Kind) };
-    (NAME) => { Shape::Text("an operation's name", Rule::Name) };
-    (NEW_NAME) => { Shape::Text("an account's name", Rule::NewName) };
-    (SECOND) => { Shape::Text("the second account", Rule::Any) };
-    (ACCOUNTS) => { Shape::Every("the value of accounts", &items!["an account"; NEW_NAME, START]) };
-    (AS_OF) => { items!["[account, position] of asof"; ACCOUNT, POSITION] };
-    (BATCH) => { Shape::Every("a batch", &REQUEST) };
-    (COUNTS) => { Shape::Every("in version 2 a clock", &items!["a site with its count"; COUNT_SITE, COUNTED]) };
-    (COUNT_SITE) => { Shape::CountSite };
-    (DEPOSIT) => { items!["[account, amount] of a deposit"; ACCOUNT, AMOUNT] };
-    (DEPS) => { Shape::Items("the clock", &[Shape::Counts, shape!(RED)]) };
-    (FIRST_COUNTS) => { Shape::Items("in version 1 a clock", &[shape!(COUNT); MOST_SITES_OF_VERSION_1]) };
-    (FLAG) => { Shape::Flag };
-    (INTEREST) => { items!["[account, rate] of interest"; ACCOUNT, RATE] };
-    (NAMES) => { Shape::Every("the value of names", &shape!(NAME)) };
-    (OWN_SITE) => { Shape::OwnSite };
-    (REFUSED) => { Shape::Refused };
-    (ROW) => { items!["a row"; POSITION, NAME, KIND, MOVED, FLAG, BALANCE] };
-    (ROWS) => { Shape::Every("the value of rows", &shape!(ROW)) };
-    (TOKEN) => { items!["the token"; EPOCH, SITE, RED] };
-    (TRANSFER) => { items!["[from, to, amount] of a transfer"; EITHER, EITHER, AMOUNT] };
-    (WITHDRAWAL) => { items!["[account, amount] of a withdrawal"; ACCOUNT, AMOUNT] };
-    ($name:ident) => { $name };
+/// Some of these.
+macro_rules! keys {
+    ([$($key:tt)*]) => { &[$(key!($key)),*] };
+    ($keys:ident) => { $keys };
 }
 
-/// A list of these items.
-macro_rules! items {
-    ($what:literal; $($shape:ident),*) => { Shape::Items($what, &[$(shape!($shape)),*]) };
+/// Keys of an object by their parts.
+macro_rules! parts {
+    ($($role:expr => $keys:tt),*) => { &[$(($role, keys!($keys))),*] };
 }
 
-/// Keys with the shapes of their values.
-macro_rules! row {
-    (ASKED) => { row!([batch BATCH, apply NAME, pass PASSED_TO, balance ACCOUNT, asof AS_OF, statement ACCOUNT]) };
-    (RECEIVED) => { row!([shadow SHADOW, token TOKEN]) };
-    ([$($word:ident $shape:ident),*]) => { &[$((key!($word), shape!($shape))),*] };
-    ($name:ident) => { $name };
+/// A number of this range, of which a line may have more, from 0 to the last of these, if it is there.
+macro_rules! number {
+    ($what:literal, $least:expr, $most:expr) => { Number($what, ($least, $most as u64), ($least, $most as u64)) };
+    ($what:literal, $least:expr, $most:expr; $taken:expr) => { Number($what, ($least, $most), (0, $taken as u64)) };
 }
 
-/// An object of these keys, by their parts.
-macro_rules! object {
-    ($what:literal; $($role:expr => $row:tt),*) => { Shape::Object($what, &[$(($role, row!($row))),*]) };
+/// The shape of a name, by a table in which some have the same.
+macro_rules! shapes {
+    ($name:expr; $($($key:tt)|* $(if $test:expr)? => $shape:expr;)*) => {
+        match $name { $($(key!($key))|* $(if $test)? => $shape,)* _ => Unknown }
+    };
 }
-
-/// Keys in another kind of line, by what these words call it.
-macro_rules! other {
-    (CONFIG) => { Other(
-        "the first line is the configuration, as {\"accounts\":[[\"ann\",0]],\"sites\":2,\"version\":1}") };
-    (AFTER) => { Other("a configuration is the first line alone") };
-    (ENTRY) => { Other("this is a command, and a history has entries; `rbbank script` takes commands") };
-}
-
-const BYTE: u64 = u8::MAX as u64;
-
-const WORD: u64 = u32::MAX as u64;
 
 /// The keys of requests.
-pub const REQUESTS: Row =
-    row!([deposit DEPOSIT, withdraw WITHDRAWAL, interest INTEREST, transfer TRANSFER, cancel NAME]);
+pub const REQUESTS: &[&str] = keys!([deposit withdraw interest transfer cancel]);
 
-const CONFIG: Shape = object!["a configuration";
-    other!(CONFIG) => REQUESTS, other!(CONFIG) => ASKED, other!(CONFIG) => [deliver MESSAGE, event EVENT],
-    Needed => [accounts ACCOUNTS, sites SITES, version VERSION],
-    Free => [blue BLUE, red REDS, inbox INBOX, history HISTORY, epoch EPOCHS]];
+const ASKED: &[&str] = keys!([batch apply pass balance asof statement]);
 
-const COMMAND: Shape = object!["a command";
-    Other("this is an entry of a history, and a script has commands; `rbbank audit` takes entries") => [event EVENT],
-    other!(AFTER) => [accounts ACCOUNTS],
-    Stray("\"shadow\" is in histories alone; in a script \"deliver\" brings a message, by its number") =>
-        [shadow SHADOW],
-    Stray("\"token\" is in histories alone; in a script \"deliver\" brings a message, by its number") => [token TOKEN],
-    Stray("ids are for `rbbank site`") => [id ID],
-    Stray("questions are for `rbbank site`") => [about ABOUT, resend LAST],
-    One => REQUESTS, One => ASKED, One => [deliver MESSAGE], Needed => [site SITE]];
+// What is said of keys in another kind of line.
+const NO_CONFIG: &str =
+    "the first line is the configuration, as {\"accounts\":[[\"ann\",0]],\"sites\":2,\"version\":1}";
 
-const ENTRY: Shape = object!["an entry"; Needed => [event EVENT], other!(ENTRY) => REQUESTS,
-    other!(ENTRY) => ASKED, other!(ENTRY) => [deliver MESSAGE], Needed => [reply REPLY, site OWN_SITE],
-    Free => [id ID]];
+const AFTER_CONFIG: &str = "a configuration is the first line alone";
 
-const LINE: Shape = object!["an event";
-    Other("this is an entry of a history, and a site takes events") => [event EVENT],
-    other!(AFTER) => [accounts ACCOUNTS],
-    Stray("a site takes what another one sent: \"shadow\" or \"token\"") => [deliver MESSAGE],
-    Stray("the events of a site have no \"site\"; `rbbank script` takes commands of all sites") => [site SITE],
-    One => REQUESTS, One => ASKED, One => [about ABOUT, resend LAST], One => RECEIVED, Free => [id ID],
-    Named("the bank of this site has no name: `--bank` gives it one") => [bank BANK]];
+const NO_ENTRY: &str =
+    "this is a command, and a history has entries; `rbbank script` takes commands";
 
-const REQUEST: Shape = object!["a request of a batch"; One => REQUESTS];
+const CONFIG: Keys = parts![
+    Other(NO_CONFIG) => REQUESTS, Other(NO_CONFIG) => ASKED, Other(NO_CONFIG) => [deliver event],
+    Needed => [accounts sites version], Free => [blue red inbox history epoch]];
 
-const EVENT: Shape = object!["an event";
-    Other("a history has what was delivered: \"shadow\" or \"token\"") => [deliver MESSAGE], One => REQUESTS,
-    One => ASKED, One => RECEIVED];
+const COMMAND: Keys = parts![
+    Other("this is an entry of a history, and a script has commands; `rbbank audit` takes entries") => [event],
+    Other(AFTER_CONFIG) => [accounts],
+    Stray("\"shadow\" is in histories alone; in a script \"deliver\" brings a message, by its number") => [shadow],
+    Stray("\"token\" is in histories alone; in a script \"deliver\" brings a message, by its number") => [token],
+    Stray("ids are for `rbbank site`") => [id], Stray("questions are for `rbbank site`") => [about resend],
+    One => REQUESTS, One => ASKED, One => [deliver], Needed => [site]];
 
-const SHADOW: Shape = object!["a received operation";
-    Needed => [account ACCOUNT, amount SENT, deps DEPS, home HOME, kind KIND, name NAME],
-    If(key!(cancel)) => [target NAME], If(key!(transfer)) => [to SECOND]];
+const ENTRY: Keys = parts![Needed => [event], Other(NO_ENTRY) => REQUESTS, Other(NO_ENTRY) => ASKED,
+    Other(NO_ENTRY) => [deliver], Needed => [reply site], Free => [id]];
 
-const REPLY: Shape = object!["a reply";
-    One => [held NAME, already NAME, applied NAME, taken EPOCH, stale EPOCH, passed EPOCH, balance BALANCE,
-    names NAMES],
-    Elsewhere => [kind KIND, name NAME, start BALANCE, rows ROWS, refused REFUSED, position POSITION, seen COUNT,
-    needed COUNT, index INDEX, cause CAUSE, why WHY]];
+const LINE: Keys = parts![
+    Other("this is an entry of a history, and a site takes events") => [event], Other(AFTER_CONFIG) => [accounts],
+    Stray("a site takes what another one sent: \"shadow\" or \"token\"") => [deliver],
+    Stray("the events of a site have no \"site\"; `rbbank script` takes commands of all sites") => [site],
+    One => REQUESTS, One => ASKED, One => [about resend shadow token], Free => [id],
+    Named("the bank of this site has no name: `--bank` gives it one") => [bank]];
 
-/// The forms of a reply that have other keys.
-pub const MADE: Shape = object!["what was made"; Needed => [kind KIND, name NAME]];
+const EVENT: Keys = parts![
+    Other("a history has what was delivered: \"shadow\" or \"token\"") => [deliver],
+    One => REQUESTS, One => ASKED, One => [shadow token]];
 
-pub const STATEMENT: Shape =
-    object!["a statement"; Needed => [start BALANCE, rows ROWS, balance BALANCE]];
+const REQUEST: Keys = parts![One => REQUESTS];
 
-pub const REFUSAL: Shape = object!["refusal "; Needed => [refused REFUSED],
-    If("6") => [position POSITION], If("9") => [seen COUNT, needed COUNT], If("13") => [index INDEX, cause CAUSE],
-    If("17") => [why WHY]];
+const SHADOW: Keys = parts![
+    Needed => [account amount deps home kind name], If(key!(cancel)) => [target], If(key!(transfer)) => [to]];
+
+const REPLY: Keys = parts![One => [held already applied taken stale passed balance names]];
+
+/// The keys of replies in other forms.
+pub const MADE: Keys = parts![Needed => [kind name]];
+
+pub const STATEMENT: Keys = parts![Needed => [start rows balance]];
+
+pub const REFUSAL: Keys = parts![
+    Needed => [refused], If("6") => [position], If("9") => [seen needed], If("13") => [index cause], If("17") => [why]];
 
 /// What the shapes of a line depend on: what is expected, and the bank once there is one; a site's bank has a name.
 #[derive(Clone, Copy)]
@@ -225,33 +140,82 @@ pub enum Terms<'a> {
 }
 
 impl Terms<'_> {
-    /// The shape of a whole line.
-    pub fn root(self) -> Shape {
-        match self {
-            Terms::Line(Expected::Config, _) => CONFIG,
-            Terms::Line(Expected::Command, _) => COMMAND,
-            Terms::Line(Expected::Entry, _) => ENTRY,
-            Terms::Site(_, _) => LINE,
-        }
-    }
-
-    /// The shape, without those that depend on the bank.
-    pub fn shape(self, shape: Shape) -> Shape {
-        const FIRST_COUNTS: Shape = shape!(FIRST_COUNTS);
-        const COUNTS: Shape = shape!(COUNTS);
-        let (version, sites) = match self {
-            Terms::Site(it, _) | Terms::Line(_, Some(it)) => (it.version(), it.sites()),
-            Terms::Line(_, None) => (1, u8::MAX),
+    /// The shape of this name: of the value of a key, of an item of a list, or, without one, of a whole line.
+    pub fn shape_of(self, name: &str) -> Shape {
+        let (line, config) = match self {
+            Terms::Line(Expected::Config, config) => (Object("a configuration", CONFIG), config),
+            Terms::Line(Expected::Command, config) => (Object("a command", COMMAND), config),
+            Terms::Line(Expected::Entry, config) => (Object("an entry", ENTRY), config),
+            Terms::Site(config, _) => (Object("an event", LINE), Some(config)),
         };
+        let (version, sites) = config.map_or((1, u8::MAX), |it| (it.version(), it.sites()));
         let last = u64::from(sites.saturating_sub(1));
-        match shape {
-            Shape::Refused => shape!("a refusal", 1, Refusal::SameAccount.number().into()),
-            Shape::Site(what) => Shape::Number(what, (0, last), (0, BYTE)),
-            Shape::OwnSite => shape!("a site", 0, last),
-            Shape::CountSite => Shape::Number("a site", (0, last), (0, MOST_SITES as u64 - 1)),
-            Shape::Counts if version == 1 => FIRST_COUNTS,
-            Shape::Counts => COUNTS,
-            shape => shape,
+        let is_entry = matches!(self, Terms::Line(Expected::Entry, _));
+        shapes! { name;
+            "" => line;
+            // Requests, and what else is asked.
+            deposit => Items("[account, amount] of a deposit", keys!([account "cents"]));
+            withdraw => Items("[account, amount] of a withdrawal", keys!([account "cents"]));
+            interest => Items("[account, rate] of interest", keys!([account "rate"]));
+            transfer => Items("[from, to, amount] of a transfer", keys!(["either" "either" "cents"]));
+            batch => Every("a batch", "request");
+            "request" => Object("a request of a batch", REQUEST);
+            asof => Items("[account, position] of asof", keys!([account position]));
+            account | balance | statement => Text("the account");
+            "either" => Text("an account");
+            "cents" => number!("an amount in cents", 1, MOST_CENTS; u64::MAX);
+            "rate" => number!("a rate in basis points", 0, MOST_RATE as u64; u32::MAX);
+            position => number!("a position", 0, u32::MAX);
+            cancel | apply | name | target | held | already | applied => Name;
+            pass => number!("the site that the token is passed to", 0, last; u8::MAX);
+            deliver => number!("a message's number", 0, u32::MAX);
+            about => Text("what a question is about");
+            resend => number!("the number of the last entries", 0, MOST_HISTORY);
+            site if is_entry => number!("a site", 0, last);
+            site | "sender" => number!("a site", 0, last; u8::MAX);
+            id => Text("an id");
+            bank => Text("the bank's name");
+            // What is received.
+            shadow => Object("a received operation", SHADOW);
+            amount => number!("an amount in cents", 0, MOST_CENTS; u64::MAX);
+            deps => Items("the clock", keys!(["counts" "reds"]));
+            "counts" if version == 1 => Items("in version 1 a clock", &["count"; MOST_SITES_OF_VERSION_1]);
+            "counts" => Every("in version 2 a clock", "site with count");
+            "site with count" => Items("a site with its count", keys!(["counted site" "its count"]));
+            "counted site" => number!("a site", 0, last; MOST_SITES - 1);
+            "its count" => number!("a count", 1, u32::MAX);
+            "count" | seen | needed => number!("a count", 0, u32::MAX);
+            "reds" => number!("the number of red operations", 0, u32::MAX);
+            home => number!("the home", 0, last; u8::MAX);
+            kind => Text("kind");
+            to => Text("the second account");
+            token => Items("the token", keys!([taken "sender" "reds"]));
+            // Entries.
+            event => Object("an event", EVENT);
+            reply => Object("a reply", REPLY);
+            taken | stale | passed => number!("an epoch", 0, u32::MAX);
+            start => number!("a balance", 0, u64::MAX);
+            names => Every("the value of names", key!(name));
+            rows => Every("the value of rows", "row");
+            "row" => Items("a row", keys!([position name kind "moved" "cancelled" start]));
+            "moved" => number!("what a row moved", i64::MIN, i64::MAX);
+            "cancelled" => Flag;
+            refused => number!("a refusal", 1, Refusal::SameAccount.number());
+            index => number!("an index", 0, u8::MAX);
+            cause => number!("a cause that isn't \"declined\"", 0, u8::MAX);
+            why => number!("why", 0, u8::MAX);
+            // Configurations.
+            accounts => Every("the value of accounts", "new account");
+            "new account" => Items("an account", keys!(["new name" "new cents"]));
+            "new name" => Text("an account's name");
+            "new cents" => number!("a starting balance in cents", 0, MOST_CENTS);
+            sites => number!("the number of sites", 2, MOST_SITES);
+            version => number!("the version", 1, 2);
+            blue => number!("the limit blue", 1, MOST_BLUE);
+            red => number!("the limit red", 1, MOST_RED);
+            inbox => number!("the limit inbox", 1, MOST_INBOX);
+            history => number!("the limit history", 1, MOST_HISTORY);
+            epoch => number!("the limit epoch", 1, MOST_EPOCH);
         }
     }
 }

@@ -1,7 +1,7 @@
 use Rattle.std.proofs.Common.{length, ap, arith, string_bytes, subst, sym}
 use Rattle.rb_reasons.specs.Reasons.{IsPlain}
 use Rattle.rb_reasons.proofs.Short.{all_plain, shorter}
-use Rattle.rb_reasons.proofs.text.write_short_reason.Goals as goal
+use Rattle.rb_reasons.proofs.text.reason_at_site.Goals as goal
 
 pub returns-in-Ok-clause-plain : goal.returns-in-Ok-clause-plain
 returns-in-Ok-clause-plain c =

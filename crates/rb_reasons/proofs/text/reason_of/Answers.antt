@@ -1,6 +1,6 @@
 use Rattle.std.proofs.Common.{◌≤◌, length, ap, arith, string_bytes}
 use Rattle.rb_reasons.proofs.Short.{short}
-use Rattle.rb_reasons.proofs.text.write_reason.Goals as goal
+use Rattle.rb_reasons.proofs.text.reason_of.Goals as goal
 
 pub returns-in-Ok-clause-reason : goal.returns-in-Ok-clause-reason
 returns-in-Ok-clause-reason c = (
