@@ -120,7 +120,7 @@ def refusals():
     """Each number of a refusal, with its name and what it means."""
     ledger = read(CRATES, "rb_money", "src", "refusal.rt")
     of_ledger = re.findall(r"Refusal::(\w+)(?: \{ \.\. \})? => ([1-9]\d*),", ledger)
-    of_site = re.findall(r"(?m)^const (OTHER_\w+): u64 = (\d+);", read(CRATES, "rb_node", "src", "again.rt"))
+    of_site = re.findall(r"(?m)^pub const (OTHER_\w+)_REFUSED: u64 = (\d+);", ledger)
     named = {int(number): upper(name) for name, number in [*of_ledger, *of_site]}
     return {number: (named.get(number), re.sub(r" \(only `.*", "", bank.meaning(number)))
             for number in sorted(named | bank.NUMBERS)}

@@ -31,4 +31,4 @@ pub use limits::{
 pub use number::read_number;
 pub use place::Place;
 pub use rate::{BASIS_POINTS_OF_ALL, MOST_RATE, Rate};
-pub use refusal::{Cause, Refusal};
+pub use refusal::{Cause, OTHER_BANK_REFUSED, OTHER_REQUEST_REFUSED, Refusal};

@@ -1,6 +1,12 @@
 //! Refusals.
 ghost use Rattle.std.specs.Prelude.{◌≡◌};
 
+/// The number by which a site's line refuses another request of a known id. It is no `Refusal`: no site records it.
+pub const OTHER_REQUEST_REFUSED: u64 = 25;
+
+/// The number by which a site's line refuses one that is to another bank. It is no `Refusal` either.
+pub const OTHER_BANK_REFUSED: u64 = 26;
+
 /// The cause that stopped a batch: a withdrawal or a transfer that would be declined, or a refusal by its number.
 #[derive(Clone, Copy, Debug, PartialEq, Eq)]
 pub enum Cause {

@@ -7,6 +7,7 @@ use Rattle.serde_json.specs.Data.{Data, Members, array, boolean, no_items, objec
 use Rattle.serde_json.specs.Written.{compact_text}
 use Rattle.rb_lines.specs.Lines.{is_long}
 use Rattle.rb_money.specs.Settings.{Settings}
+use Rattle.rb_money.specs.declared.refusal.TheConstants.{OTHER_BANK_REFUSED, OTHER_REQUEST_REFUSED}
 use Rattle.rb_shadow.specs.Operations.{clock_of, find_in}
 use Rattle.rb_shadow.specs.declared.op_name.OpName.{OpName}
 use Rattle.rb_shadow.specs.declared.shadow.Shadow.{Shadow}
@@ -74,13 +75,13 @@ refused_json id n = object (id_member id
     (member (codes "sends") (array no_items)
     (member (codes "then") (array no_items) no_members))))
 
--- the answer to another request of a known id: it is refused by 25, which is no refusal of a site
+-- the answer to another request of a known id
 abbrev pub other_request_json : List ℕ → Data
-other_request_json id = refused_json id 25
+other_request_json id = refused_json id OTHER_REQUEST_REFUSED
 
--- the answer to a line of another bank: it is refused by 26, which is no refusal of a site
+-- the answer to a line of another bank
 abbrev pub other_bank_json : Data
-other_bank_json = refused_json [] 26
+other_bank_json = refused_json [] OTHER_BANK_REFUSED
 
 -- the line of what is sent again; there is none if nothing was sent
 abbrev pub sent_line : Settings → List ℕ → List Message → List ℕ

@@ -17,15 +17,10 @@ use rb_history::write::append::{append, append_number};
 use rb_history::{LineFault, RequestId, spell};
 use rb_kit::List;
 use rb_lines::whole_or_none;
+use rb_money::{OTHER_BANK_REFUSED, OTHER_REQUEST_REFUSED};
 use rb_shadow::OpName;
 use rb_site::{Event, Message};
 use std::alloc::{AllocError, Global};
-
-/// The refusal of another request of a known id. No refusal of a site has this number.
-const OTHER_REQUEST: u64 = 25;
-
-/// The refusal of a line of another bank. No refusal of a site has this number.
-const OTHER_BANK: u64 = 26;
 
 /// Adds the name of a message's operation, if it has one.
 fn push_name(names: &mut Vec<OpName>, message: &Message) -> Result<(), AllocError>
@@ -72,7 +67,7 @@ pub(crate) fn append_other_bank(alloc: Global, answers: &mut Vec<u8>) -> Result<
 {
     let no_id = RequestId::none(alloc);
     let before = answers.len();
-    let done = append_refusal(answers, &no_id, OTHER_BANK);
+    let done = append_refusal(answers, &no_id, OTHER_BANK_REFUSED);
     Ok(whole_or_none(done, answers, before)?)
 }
 
@@ -121,6 +116,6 @@ impl<M: Records> Node<M> {
         if known.event.is(event) {
             return self.append_made(out, id, known);
         }
-        append_refusal(out, id, OTHER_REQUEST)
+        append_refusal(out, id, OTHER_REQUEST_REFUSED)
     }
 }
