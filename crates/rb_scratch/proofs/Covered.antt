@@ -14,7 +14,7 @@ use Rattle.rb_shadow.specs.declared.colour.Colour.TheVariants.{Blue as BlueColou
 use Rattle.rb_shadow.specs.Operations.{colour_in}
 use Rattle.rb_shadow.specs.Operations.{colour_of, kind_in, target_of, bal, find_in, delta, moved}
 use Rattle.rb_shadow.specs.Operations.{receiver_of, other_of, arrived, is_on, accounts_on}
-use Rattle.rb_shadow.specs.Sound.{is_misdirected}
+use Rattle.rb_shadow.proofs.Public.SoundFacts.{is_misdirected}
 use Rattle.rb_shadow.proofs.Public.Members
 use Rattle.rb_ledger.specs.Valid.{IsValid, HasTarget}
 use Rattle.rb_ledger.specs.Checks.{overdraws}

@@ -10,7 +10,7 @@ use Rattle.rb_scratch.specs.Requests.{Plan, plan_of}
 
 -- the plan with the effect's account, amount and kind
 abbrev pub plan_of_effect : Effect → Plan
-plan_of_effect e = record { account = e.account; amount = e.amount; kind = e.kind }
+plan_of_effect e = record { account = e.account; amount = e.amount.0; kind = e.kind }
 
 -- what was decided on a request is its plan, or the reason to refuse it
 abbrev pub IsDecision : Settings → List Shadow → Request → Result Effect Refusal → Type 0

@@ -36,7 +36,7 @@ fn deposit(ledger: &Ledger, account: Place, amount: u64) -> Result<Effect, Refus
     if ledger.config().accounts().len() <= account.0 as usize {
         return Err(Refusal::UnknownAccount);
     }
-    Amount::new(amount)?;
+    let amount = Amount::new(amount)?.cents();
     Ok(Effect {
         account,
         amount,
@@ -54,8 +54,8 @@ fn withdrawal(ledger: &Ledger, account: Place, amount: u64) -> Result<Effect, Re
     let Some(balance) = ledger.balance(account) else {
         return Err(Refusal::UnknownAccount);
     };
-    Amount::new(amount)?;
-    let kind = if balance < amount {
+    let amount = Amount::new(amount)?.cents();
+    let kind = if balance < amount.0 {
         Kind::Declined
     } else {
         Kind::Withdraw
@@ -80,11 +80,11 @@ fn transfer(ledger: &Ledger, from: Place, to: Place, amount: u64) -> Result<Effe
     if ledger.config().accounts().len() <= to.0 as usize {
         return Err(Refusal::UnknownAccount);
     }
-    Amount::new(amount)?;
+    let amount = Amount::new(amount)?.cents();
     if from.0 == to.0 {
         return Err(Refusal::SameAccount);
     }
-    let covered = amount <= balance;
+    let covered = amount.0 <= balance;
     let kind = if covered {
         Kind::Transfer { to }
     } else {
@@ -108,10 +108,9 @@ fn interest(ledger: &Ledger, account: Place, rate: u32) -> Result<Effect, Refusa
         return Err(Refusal::UnknownAccount);
     };
     let rate = Rate::new(rate)?;
-    let delta = interest_of(Cents(balance), rate)?;
     Ok(Effect {
         account,
-        amount: delta.0,
+        amount: interest_of(Cents(balance), rate)?,
         kind: Kind::Interest,
         colour: Colour::Blue,
     })
@@ -126,7 +125,7 @@ fn cancellation(ledger: &Ledger, target: OpName) -> Result<Effect, Refusal>
     let plan = cancel_of(ledger, target)?;
     Ok(Effect {
         account: plan.account,
-        amount: plan.amount,
+        amount: Cents(plan.amount),
         kind: Kind::Cancel { target },
         colour: plan.colour,
     })
@@ -199,7 +198,7 @@ fn operation(ledger: &Ledger, me: u8, effect: Effect) -> Result<Shadow, Refusal>
         home: me,
         deps: ledger.clock().deps(),
         account: effect.account,
-        amount: effect.amount,
+        amount: effect.amount.0,
         kind: effect.kind,
     })
 }

@@ -20,11 +20,12 @@ use Rattle.rb_shadow.specs.declared.colour.Colour.{Colour}
 use Rattle.rb_shadow.specs.declared.colour.Colour.TheVariants.{Blue as BlueColour, Red as RedColour}
 use Rattle.rb_shadow.specs.Operations.{names, past, IsWithin, colour_in, number_of, entry_of, red_count, blue_count, clock_of}
 use Rattle.rb_shadow.specs.Operations.{colour_of, kind_in, target_of, is_cancelled, bal, moved}
-use Rattle.rb_shadow.specs.Operations.{receiver_of, is_on, names_of_clock}
-use Rattle.rb_shadow.specs.Sound.{fault_of, IsSound, is_absent, is_foreign, limit_of, may_be_nothing, is_miscoloured, is_misdirected}
+use Rattle.rb_shadow.specs.Operations.{receiver_of, is_on, names_of_clock, same_colour, shown_colour}
+use Rattle.rb_shadow.specs.Sound.{fault_of, IsSound, is_absent, is_foreign, limit_of, may_be_nothing}
 use Rattle.rb_shadow.proofs.Public.Members
 use Rattle.rb_shadow.proofs.Public.Clocks
 use Rattle.rb_shadow.proofs.Public.SoundFacts
+use Rattle.rb_shadow.proofs.Public.SoundFacts.{is_misdirected}
 use Rattle.rb_ledger.specs.Valid.{IsValid, HasTarget}
 use Rattle.rb_ledger.specs.Checks.{overdraws}
 use Rattle.rb_money.specs.declared.cents.TheConstants.{MOST_CENTS}
@@ -84,7 +85,8 @@ numbered s me us RedColour h = fits s.limits.red (red_count us) h
     fits : (m n : ℕ) → n + 1 ≤ m → (n + 1 == 0 || nat_lt m (n + 1)) ≡ false
     fits m n h = Members.false-or (n + 1 == 0) (nat_lt m (n + 1)) (grind (arith, nat_tests)) (grind (arith, nat_tests))
 
-well_coloured : (me : ℕ) (us : List Shadow) (k : Kind) (o : Option Kind) → is_miscoloured k (next_name me us (colour_of k o)) ≡ false
+well_coloured : (me : ℕ) (us : List Shadow) (k : Kind) (o : Option Kind) →
+    (not (is_some (target_of k)) && not (same_colour (shown_colour (next_name me us (colour_of k o))) (colour_of k None))) ≡ false
 well_coloured me us (Cancel x) o = refl
 well_coloured me us _ o = refl
 
