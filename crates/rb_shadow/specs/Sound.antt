@@ -35,39 +35,31 @@ may_be_nothing Interest = true
 may_be_nothing (Cancel x) = true
 may_be_nothing _ = false
 
--- the receiver, if there is one, is no account of the configuration, or the own account
-abbrev pub is_misdirected : ℕ → Place → Option Place → Bool
-is_misdirected accounts own None = false
-is_misdirected accounts own (Some to) = nat_le accounts to.0 || (to.0 == own.0)
-
--- by its kind alone the name can't be of this colour: a kind that isn't a cancellation has one colour
-abbrev pub is_miscoloured : Kind → OpName → Bool
-is_miscoloured k x = not (is_some (target_of k)) && not (same_colour (shown_colour x) (colour_of k None))
-
--- it cancels what its home can't have applied: a target of a site that the bank doesn't have, or one that the clock
--- doesn't count
-abbrev pub cancels_unseen : ℕ → Kind → Deps → Bool
-cancels_unseen sites k c = unless (λ x. is_absent sites x || not (names_of_clock c x)) (target_of k) false
-
 -- each entry is within the limit, and 0 past the sites
 abbrev pub are_entries : ℕ → ℕ → List ℕ → Bool
 are_entries sites limit [] = true
 are_entries sites limit (n ∷ ns) = (if sites == 0 then n == 0 else nat_le n limit) && are_entries (sites - 1) limit ns
 
--- the entries are those of a clock for this number of sites
-abbrev pub is_clock : ℕ → Limits → Deps → Bool
-is_clock sites l c = are_entries sites l.blue c.blue && nat_le c.red l.red
-
--- the first thing that is wrong with a shadow by itself, in a configuration
+-- the first thing that is wrong with a shadow by itself, in a configuration:
+-- 1: its home is no site, or its name is of another one;
+-- 2: its number is 0 or over the limit;
+-- 3: its account is none of the configuration's; or its receiver, if there is one, is none of these or the own account;
+-- 4: its amount is too large, or 0;
+-- 5: it is no cancellation, and its name isn't of its kind's colour;
+-- 6: it cancels what its home can't have applied: a target of a site that the bank doesn't have, or one that the clock
+-- doesn't count;
+-- 7: its entries aren't those of a clock for this number of sites, or don't come just before its name
 unfoldable pub fault_of : Settings → Shadow → Option ℕ
 fault_of s v =
     if nat_le s.sites v.home || is_foreign v.name v.home then Some 1
     else (if number_of v.name == 0 || nat_lt (limit_of s.limits v.name) (number_of v.name) then Some 2
-    else (if nat_le (length s.starts) v.account.0 || is_misdirected (length s.starts) v.account (receiver_of v.kind) then Some 3
+    else (if nat_le (length s.starts) v.account.0
+    || unless (λ to. nat_le (length s.starts) to.0 || (to.0 == v.account.0)) (receiver_of v.kind) false then Some 3
     else (if nat_lt MOST_CENTS v.amount || (v.amount == 0 && not (may_be_nothing v.kind)) then Some 4
-    else (if is_miscoloured v.kind v.name then Some 5
-    else (if cancels_unseen s.sites v.kind v.deps then Some 6
-    else (if not (is_clock s.sites s.limits v.deps) || not (entry_of v.deps v.name + 1 == number_of v.name) then Some 7
+    else (if not (is_some (target_of v.kind)) && not (same_colour (shown_colour v.name) (colour_of v.kind None)) then Some 5
+    else (if unless (λ x. is_absent s.sites x || not (names_of_clock v.deps x)) (target_of v.kind) false then Some 6
+    else (if not (are_entries s.sites s.limits.blue v.deps.blue && nat_le v.deps.red s.limits.red)
+    || not (entry_of v.deps v.name + 1 == number_of v.name) then Some 7
     else None))))))
 
 -- nothing is wrong with it by itself

@@ -2,11 +2,11 @@
 //!
 //! The test of the entries has no early end, so that several are compared at once. In a bank of up to three sites the
 //! limit applies to the first entries alone, and all others are compared with 0.
-ghost use Rattle.std.specs.Prelude.{◌≡◌, ◌≤◌, length, ℕ};
+ghost use Rattle.std.specs.Prelude.{◌≡◌, ◌≤◌, ◌&&◌, length, nat_le, ℕ};
 ghost use Rattle.rb_money.specs.declared.limits.TheConstants.{MOST_SITES};
 ghost use Rattle.rb_shadow.specs.declared.deps.TheConstants.{FEW};
 ghost use Rattle.rb_shadow.specs.Operations.{entry_of, names_of_clock};
-ghost use Rattle.rb_shadow.specs.Sound.{are_entries, is_clock};
+ghost use Rattle.rb_shadow.specs.Sound.{are_entries};
 
 use crate::OpName;
 use rb_money::{Limits, MOST_SITES};
@@ -43,7 +43,7 @@ impl Deps {
     /// Whether the entries are within their limits, and 0 for all but the first `sites` sites.
     #[inline(always)]
     pub(crate) fn is_clock(&self, sites: u8, limits: Limits) -> bool
-        ensures { result ≡ is_clock sites limits self.now }
+        ensures { result ≡ (are_entries sites limits.blue self.now.blue && nat_le self.now.red limits.red) }
     {
         are_within(&self.blue, sites, limits.blue) && self.red <= limits.red
     }

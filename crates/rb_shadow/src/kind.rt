@@ -1,10 +1,12 @@
 //! Kinds of operations.
 //!
 //! Each table has a line for each kind, so a new kind without its line is refused.
-ghost use Rattle.std.specs.Prelude.{◌≡◌, ◌≤◌, ◌⊎◌, pos, ◌+ℤ◌};
+ghost use Rattle.std.specs.Prelude.{◌≡◌, ◌≤◌, ◌⊎◌, ◌||◌, ◌&&◌, ◌==◌, None, false, is_some, nat_le, not, pos, ◌+ℤ◌};
+ghost use Rattle.rb_money.specs.Refusals.{unless};
 ghost use Rattle.rb_shadow.specs.Operations.{target_of, receiver_of, colour_of, moved, may_be_cancelled};
+ghost use Rattle.rb_shadow.specs.Operations.{names_of_clock, same_colour, shown_colour};
 ghost use Rattle.rb_shadow.specs.Labels.{label_of};
-ghost use Rattle.rb_shadow.specs.Sound.{cancels_unseen, is_miscoloured, is_misdirected, may_be_nothing};
+ghost use Rattle.rb_shadow.specs.Sound.{is_absent, may_be_nothing};
 
 use crate::{Colour, Deps, Label, OpName};
 use rb_money::Place;
@@ -132,7 +134,7 @@ impl Kind {
     /// Whether it would move money to an account whose place isn't below `accounts`, or to its own.
     #[inline(always)]
     pub(crate) fn is_misdirected(self, accounts: usize, own: Place) -> bool
-        ensures { result ≡ is_misdirected accounts own (receiver_of self) }
+        ensures { result ≡ unless (λ to. nat_le accounts to.0 || (to.0 == own.0)) (receiver_of self) false }
     {
         match self.receiver() {
             Some(to) => usize::from(to.0) >= accounts || to.0 == own.0,
@@ -142,7 +144,8 @@ impl Kind {
 
     /// Whether no operation of this kind, whatever its target, has a name of this colour.
     pub(crate) fn is_miscoloured(self, name: OpName) -> bool
-        ensures { result ≡ is_miscoloured self name }
+        ensures { result ≡ (not (is_some (target_of self))
+            && not (same_colour (shown_colour name) (colour_of self None))) }
     {
         match self.target() {
             Some(_) => false,
@@ -153,7 +156,7 @@ impl Kind {
     /// Whether it cancels an operation of a site that the bank doesn't have, or one that the clock doesn't count.
     #[inline(always)]
     pub(crate) fn cancels_unseen(self, sites: u8, deps: &Deps) -> bool
-        ensures { result ≡ cancels_unseen sites self deps.now }
+        ensures { result ≡ unless (λ x. is_absent sites x || not (names_of_clock deps.now x)) (target_of self) false }
     {
         match self.target() {
             Some(target) => target.is_absent(sites) || !deps.covers(target),

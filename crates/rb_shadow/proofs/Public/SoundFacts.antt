@@ -1,19 +1,24 @@
 -- Facts of a sound shadow.
 use Rattle.std.proofs.Common.{◌≡◌, ℕ, ◌+◌, ◌≤◌, Bool, true, false, cond, not, ◌&&◌, length, refl, arith}
-use Rattle.std.specs.Prelude.{nat_le, nat_lt, ◌==◌, Option, Some, None}
+use Rattle.std.specs.Prelude.{nat_le, nat_lt, ◌==◌, ◌||◌, Option, Some, None, is_some}
 use Rattle.std.proofs.lemmas.Bool.Decides.{nat_tests}
+use Rattle.rb_money.specs.Refusals.{unless}
 use Rattle.rb_money.specs.Settings.{Settings}
 use Rattle.rb_money.specs.declared.limits.TheConstants.{MOST_SITES}
 use Rattle.rb_money.specs.declared.cents.TheConstants.{MOST_CENTS}
+use Rattle.rb_money.specs.declared.place.Place.{Place}
 use Rattle.rb_money.proofs.Public.Tests.{alike}
 use Rattle.rb_shadow.specs.declared.shadow.Shadow.{Shadow}
 use Rattle.rb_shadow.specs.declared.op_name.OpName.{OpName}
 use Rattle.rb_shadow.specs.declared.op_name.OpName.TheVariants.{Blue, Red}
-use Rattle.rb_shadow.specs.Operations.{number_of, entry_of, receiver_of}
-use Rattle.rb_shadow.specs.Sound.{fault_of, IsSound, is_absent, is_foreign, limit_of, may_be_nothing, is_misdirected, is_miscoloured}
-use Rattle.rb_shadow.specs.Sound.{cancels_unseen, is_clock}
+use Rattle.rb_shadow.specs.Operations.{number_of, entry_of, receiver_of, target_of, names_of_clock, same_colour, shown_colour, colour_of}
+use Rattle.rb_shadow.specs.Sound.{fault_of, IsSound, are_entries, is_absent, is_foreign, limit_of, may_be_nothing}
 use Rattle.rb_shadow.proofs.Public.Members
 use Rattle.rb_shadow.proofs.Public.Clocks.{IsNext, IsHoused}
+
+-- a receiver is no account of the configuration, or the own account
+abbrev pub is_misdirected : ℕ → Place → Option Place → Bool
+is_misdirected accounts own receiver = unless (λ to. nat_le accounts to.0 || (to.0 == own.0)) receiver false
 
 -- the tests of `fault_of`, each passed
 pub record SoundFacts (s : Settings) (v : Shadow) : Type 0 where
@@ -25,9 +30,9 @@ pub record SoundFacts (s : Settings) (v : Shadow) : Type 0 where
   pub receiver : is_misdirected (length s.starts) v.account (receiver_of v.kind) ≡ false
   pub amount : nat_lt MOST_CENTS v.amount ≡ false
   pub something : (v.amount == 0 && not (may_be_nothing v.kind)) ≡ false
-  pub coloured : is_miscoloured v.kind v.name ≡ false
-  pub seen : cancels_unseen s.sites v.kind v.deps ≡ false
-  pub clock : not (is_clock s.sites s.limits v.deps) ≡ false
+  pub coloured : (not (is_some (target_of v.kind)) && not (same_colour (shown_colour v.name) (colour_of v.kind None))) ≡ false
+  pub seen : unless (λ x. is_absent s.sites x || not (names_of_clock v.deps x)) (target_of v.kind) false ≡ false
+  pub clock : not (are_entries s.sites s.limits.blue v.deps.blue && nat_le v.deps.red s.limits.red) ≡ false
   pub entry : not (entry_of v.deps v.name + 1 == number_of v.name) ≡ false
 
 go_on : (b : Bool) (w : ℕ) (r : Option ℕ) → cond b (Some w) r ≡ None → (b ≡ false) × (r ≡ None)
