@@ -1,6 +1,5 @@
 -- A number after a call, between numbers that hold either way.
-use Rattle.std.proofs.Common.{◌≡◌, ℕ, ◌≤◌, arith, Result, Ok, Err, OnOk, OnErr}
-use Rattle.std.specs.declared.alloc.AllocError.{AllocError}
+use Rattle.rb_ledger.proofs.Words.{◌≡◌, ℕ, ◌≤◌, arith, Result, Ok, Err, OnOk, OnErr, AllocError}
 
 -- it is at least what both of its values are at least
 pub at_least : (r : Result (Unit {0}) AllocError) (n m l k : ℕ) → OnOk r (n ≡ l) → OnErr r (n ≡ m) → k ≤ l → k ≤ m → k ≤ n

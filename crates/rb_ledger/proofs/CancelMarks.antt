@@ -1,21 +1,15 @@
 -- Which operations are cancelled, from one list to the next.
-use Rattle.std.proofs.Common.{◌≡◌, ℕ, zero, suc, ◌+◌, ◌-◌, ◌<◌, ◌≤◌, Bool, true, false, cond, List, [], ◌∷◌, ◌++◌}
-use Rattle.std.proofs.Common.{length, take, get_or, set}
-use Rattle.std.proofs.Common.{map, refl, ap, sym, ◌∙◌, arith, ◌⊎◌, inl, inr, Some, None, length-set}
-use Rattle.std.specs.Prelude.{slice_get, nat_lt, option_and_then, is_some}
-use Rattle.std.proofs.lemmas.Bool.Decides.{nat_tests}
-use Rattle.std.proofs.lemmas.List.{length-map, map_push, map-set, set-set, set-get_or, take_at}
+use Rattle.rb_ledger.proofs.Words.{◌≡◌, ℕ, zero, suc, ◌+◌, ◌-◌, ◌≤◌, Bool, true, false, cond, List, [], ◌∷◌, ◌++◌}
+use Rattle.rb_ledger.proofs.Words.{length, take, get_or, set, map, refl, ap, sym, ◌∙◌, arith, inl, inr, Some, None}
+use Rattle.rb_ledger.proofs.Words.{length-set, slice_get, nat_lt, option_and_then, is_some, length-map, map_push}
+use Rattle.rb_ledger.proofs.Words.{map-set, set-set, set-get_or, take_at, Settings, Shadow, OpName, is_cancelled}
+use Rattle.rb_ledger.proofs.Words.{target_of, Cancels, IsValid, position_of, operation_at, find_position}
+use Rattle.rb_ledger.proofs.Words.{first_cancel_in, first_cancel_from, all_cancels, all_cancelled, cancels_of}
+use Rattle.rb_ledger.proofs.Words.{counted_at, changed_at, no_cancels, one_more, marked_at, is_below, not_below}
+use Rattle.rb_ledger.proofs.Words.{cancel_count}
 use Rattle.std.proofs.Math.ListN.{get_or-map}
-use Rattle.rb_money.specs.Settings.{Settings}
 use Rattle.rb_money.proofs.Public.Tests
-use Rattle.rb_shadow.specs.declared.shadow.Shadow.{Shadow}
-use Rattle.rb_shadow.specs.declared.op_name.OpName.{OpName}
-use Rattle.rb_shadow.specs.Operations.{is_cancelled, target_of}
 use Rattle.rb_shadow.proofs.Public.Members
-use Rattle.rb_ledger.specs.declared.marks.Cancels.{Cancels}
-use Rattle.rb_ledger.specs.Valid.{IsValid, position_of, operation_at, find_position, first_cancel_in, first_cancel_from}
-use Rattle.rb_ledger.specs.Index.{all_cancels, all_cancelled, cancels_of, counted_at, changed_at, no_cancels, one_more}
-use Rattle.rb_ledger.specs.LinkLists.{marked_at}
 use Rattle.rb_ledger.proofs.Public.Legal
 use Rattle.rb_ledger.proofs.CancelFacts
 use Rattle.rb_ledger.proofs.FoundNames
@@ -24,20 +18,12 @@ use Rattle.rb_ledger.proofs.FoundNames
 abbrev counted : Cancels → Bool
 counted c = nat_lt 0 c.count
 
--- a number that is above 0, and one that is not, by the test
-is_more : (n : ℕ) → 0 < n → nat_lt 0 n ≡ true
-is_more n h = grind (arith, nat_tests)
-
-is_none : (n : ℕ) → n ≡ 0 → nat_lt 0 n ≡ false
-is_none n h = grind (arith, nat_tests)
-
 -- what has some cancellations is cancelled
 by_count : (us : List Shadow) (x : OpName) → counted (cancels_of us x) ≡ is_cancelled us x
-by_count us x = at (Members.bool_cases (is_cancelled us x))
-  where
-    at : (is_cancelled us x ≡ true) ⊎ (is_cancelled us x ≡ false) → counted (cancels_of us x) ≡ is_cancelled us x
-    at (inl e) = is_more _ (CancelFacts.counted_some us x e) ∙ sym e
-    at (inr e) = is_none _ (CancelFacts.counted_none us x e) ∙ sym e
+by_count us x = elim (Members.bool_cases (is_cancelled us x)) [
+  | inl e ↦ is_below 0 (cancel_count us x) (CancelFacts.counted_some us x e) ∙ sym e
+  | inr e ↦ not_below 0 (cancel_count us x) (omega (arith, CancelFacts.counted_none us x e)) ∙ sym e
+]
 
 -- the same of all operations
 by_counts : (us vs : List Shadow) → map counted (map (λ (u : Shadow). cancels_of us u.name) vs)
@@ -50,7 +36,7 @@ by_counts us (v ∷ vs) = ap (λ b. b ∷ map counted (map (λ (u : Shadow). can
 changed_marks : (n p : ℕ) (cs : List Cancels) → map counted (changed_at n (one_more p) cs) ≡ marked_at n true (map counted cs)
 changed_marks zero p cs = refl
 changed_marks (suc i) p cs = map-set counted cs i (one_more p (get_or cs i no_cancels))
-    ∙ ap (set (map counted cs) i) (is_more ((get_or cs i no_cancels).count + 1) (omega arith))
+    ∙ ap (set (map counted cs) i) (is_below 0 ((get_or cs i no_cancels).count + 1) (omega arith))
 
 -- with one more operation
 pub marks_push : (s : Settings) (us : List Shadow) (h : Shadow) → IsValid s (us ++ h ∷ []) →

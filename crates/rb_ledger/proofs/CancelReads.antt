@@ -1,22 +1,12 @@
 -- Reads of the numbers of cancellations.
-use Rattle.std.proofs.Common.{◌≡◌, ℕ, zero, suc, ◌-◌, ◌≤◌, true, false, cond, List, [], ◌∷◌, ◌++◌, length}
-use Rattle.std.proofs.Common.{get_or, map, refl, ap, sym, ◌∙◌, arith, ◌⊎◌, inl, inr, Some, None}
-use Rattle.std.specs.Prelude.{slice_get, Option, option_map, option_and_then}
-use Rattle.std.proofs.lemmas.List.{length-map}
-use Rattle.std.proofs.lemmas.Option.{slice_get-map, slice_get_past}
-use Rattle.rb_money.specs.Settings.{Settings}
-use Rattle.rb_shadow.specs.declared.shadow.Shadow.{Shadow}
-use Rattle.rb_shadow.specs.declared.op_name.OpName.{OpName}
-use Rattle.rb_shadow.specs.Operations.{is_cancelled, cancel_count, cancels, target_of}
+use Rattle.rb_ledger.proofs.Words.{◌≡◌, ℕ, zero, suc, ◌-◌, ◌≤◌, true, false, cond, List, [], ◌∷◌, ◌++◌, length, get_or}
+use Rattle.rb_ledger.proofs.Words.{map, refl, ap, sym, ◌∙◌, arith, ◌⊎◌, inl, inr, Some, None, slice_get, Option}
+use Rattle.rb_ledger.proofs.Words.{option_map, option_and_then, length-map, slice_get-map, slice_get_past, Settings}
+use Rattle.rb_ledger.proofs.Words.{Shadow, OpName, is_cancelled, cancel_count, cancels, target_of, Cancels, Index}
+use Rattle.rb_ledger.proofs.Words.{count_by-le-length, MOST_OPERATIONS, IsValid, position_of, operation_at}
+use Rattle.rb_ledger.proofs.Words.{first_cancel_in, first_cancel_from, IsIndex, all_cancels, cancels_of, no_cancels}
 use Rattle.rb_shadow.proofs.Public.Members
-use Rattle.rb_ledger.specs.declared.marks.Cancels.{Cancels}
-use Rattle.rb_ledger.specs.declared.index.Index.{Index}
-use Rattle.std.proofs.lemmas.List.Sums.{count_by-le-length}
-use Rattle.rb_money.specs.declared.limits.TheConstants.{MOST_OPERATIONS}
-use Rattle.rb_money.proofs.Public.Tests.{at_most, equal, number_sound}
 use Rattle.rb_money.proofs.Public.Tests
-use Rattle.rb_ledger.specs.Valid.{IsValid, position_of, operation_at, first_cancel_in, first_cancel_from}
-use Rattle.rb_ledger.specs.Index.{IsIndex, all_cancels, cancels_of, no_cancels}
 use Rattle.rb_ledger.proofs.Public.Legal
 use Rattle.rb_ledger.proofs.Lengths
 use Rattle.rb_ledger.proofs.CancelFacts

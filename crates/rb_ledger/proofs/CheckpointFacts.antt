@@ -1,17 +1,9 @@
 -- The checkpoints of a list, from one list to the next, and what is read of them.
-use Rattle.std.proofs.Common.{◌≡◌, ℕ, zero, suc, ◌+◌, ◌-◌, ◌*◌, ◌<◌, ◌≤◌, List, [], ◌∷◌, ◌++◌, length, take, map, refl, ap, sym, ◌∙◌, subst}
-use Rattle.std.proofs.Common.{arith, ◌⊎◌, inl, inr, Some, None, length-append, length-take-le}
-use Rattle.std.specs.Prelude.{slice_get, Option, option_map}
-use Rattle.std.proofs.lemmas.List.{length-map, take-append-le, take_all}
-use Rattle.std.proofs.lemmas.Option.{slice_get-map, slice_get_within}
-use Rattle.rb_money.specs.Settings.{Settings, IsConfigured}
-use Rattle.rb_money.specs.declared.place.Place.{Place}
-use Rattle.rb_shadow.specs.declared.shadow.Shadow.{Shadow}
-use Rattle.rb_ledger.specs.declared.checkpoints.Checkpoints.{Checkpoints}
-use Rattle.rb_ledger.specs.declared.marks.Head.{Head}
-use Rattle.rb_ledger.specs.Checkpoints.{AreCheckpoints, as_of}
-use Rattle.rb_ledger.specs.Index.{AreHeads}
-use Rattle.rb_ledger.specs.OnAccount.{IsOn, IsNoneAfter, IsLast}
+use Rattle.rb_ledger.proofs.Words.{◌≡◌, ℕ, zero, suc, ◌+◌, ◌-◌, ◌*◌, ◌<◌, ◌≤◌, List, [], ◌∷◌, ◌++◌, length, take, map}
+use Rattle.rb_ledger.proofs.Words.{refl, ap, sym, ◌∙◌, subst, arith, ◌⊎◌, inl, inr, Some, None, length-append}
+use Rattle.rb_ledger.proofs.Words.{length-take-le, slice_get, Option, option_map, length-map, take-append-le, take_all}
+use Rattle.rb_ledger.proofs.Words.{slice_get-map, slice_get_within, Settings, IsConfigured, Place, Shadow, Checkpoints}
+use Rattle.rb_ledger.proofs.Words.{Head, AreCheckpoints, as_of, AreHeads, IsOn, IsNoneAfter, IsLast}
 use Rattle.rb_ledger.proofs.Public.Fronts
 use Rattle.rb_ledger.proofs.Public.OnAccount
 
@@ -41,17 +33,10 @@ pub get_joined : {X : Type 0} (xs ys : List X) (i : ℕ) (z : X) → slice_get (
     ((i < length xs) × (slice_get xs i ≡ Some z)) ⊎ ((length xs ≤ i) × (slice_get ys (i - length xs) ≡ Some z))
 get_joined [] ys i z e = inr (omega arith, ap (slice_get ys) (let a : i - 0 ≡ i = omega arith in a) ∙ e)
 get_joined (x ∷ xs) ys zero z e = inl (omega arith, e)
-get_joined (x ∷ xs) ys (suc i) z e = at (get_joined xs ys i z e)
-  where
-    at : ((i < length xs) × (slice_get xs i ≡ Some z)) ⊎ ((length xs ≤ i) × (slice_get ys (i - length xs) ≡ Some z)) →
-        ((suc i < suc (length xs)) × (slice_get xs i ≡ Some z))
-        ⊎ ((suc (length xs) ≤ suc i) × (slice_get ys (suc i - suc (length xs)) ≡ Some z))
-    at (inl (low, there)) = inl (omega arith, there)
-    at (inr (high, there)) = inr (
-      omega arith,
-      ap (slice_get ys)
-          (let a : suc i - suc (length xs) ≡ i - length xs = omega arith in a) ∙ there,
-    )
+get_joined (x ∷ xs) ys (suc i) z e = elim (get_joined xs ys i z e) [
+  | inl k ↦ inl (omega (arith, k.0), k.1)
+  | inr k ↦ inr (omega (arith, k.0), ap (slice_get ys) (let a : suc i - suc (length xs) ≡ i - length xs = omega arith in a) ∙ k.1)
+]
 
 -- ---- from one list to the next
 

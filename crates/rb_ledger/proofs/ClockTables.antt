@@ -1,15 +1,13 @@
 -- Lists of clocks after a change.
-use Rattle.std.proofs.Common.{◌≡◌, ℕ, zero, suc, ◌+◌, ◌-◌, ◌*◌, ◌<◌, ◌≤◌, List, [], ◌∷◌, ◌++◌, length, take, drop, get_or}
-use Rattle.std.proofs.Common.{append_assoc, mul-le-mul_right}
-use Rattle.std.proofs.Common.{refl, ap, sym, ◌∙◌, subst, arith, inl, inr, Some, ◌⊎◌, length-take-le}
-use Rattle.std.specs.Prelude.{replicate, slice_get, slice_set}
-use Rattle.std.proofs.lemmas.Bool.{cases_lt}
-use Rattle.std.proofs.lemmas.List.{drop-append-le, take-append-le, take-take, take-append-drop, length-drop}
-use Rattle.std.proofs.lemmas.List.{drop-drop, drop-take, length-append, length-map, length_push, take_all}
-use Rattle.std.proofs.lemmas.List.{take_more}
-use Rattle.std.proofs.Math.Seq.{drop-append_seam}
-use Rattle.rb_ledger.specs.declared.counts.TheConstants.{LESS}
-use Rattle.rb_ledger.specs.ClockLists.{AreBased, AreNear, base_of, clocks_of, kept_step, step_added, steps_of, sums}
+use Rattle.rb_ledger.proofs.Words.{◌≡◌, ℕ, zero, suc, ◌+◌, ◌-◌, ◌*◌, ◌<◌, ◌≤◌, List, [], ◌∷◌, ◌++◌, length, take, drop}
+use Rattle.rb_ledger.proofs.Words.{get_or, append_assoc, mul-le-mul_right, refl, ap, sym, ◌∙◌, subst, arith, inl, inr}
+use Rattle.rb_ledger.proofs.Words.{Some, ◌⊎◌, length-take-le, replicate, slice_get, slice_set, cases_lt, drop-append-le}
+use Rattle.rb_ledger.proofs.Words.{take-append-le, take-take, take-append-drop, length-drop, drop-drop, drop-take}
+use Rattle.rb_ledger.proofs.Words.{length-append, length-map, length_push, take_all, take_more, drop-append_seam, LESS}
+use Rattle.rb_ledger.proofs.Words.{AreNear, base_of, clocks_of, kept_step, step_added, steps_of, sums}
+use Rattle.std.proofs.Math.Seq.{set-append_seam}
+use Rattle.std.proofs.lemmas.List.{length-take}
+use Rattle.rb_ledger.specs.ClockLists.{AreBased}
 
 -- ---- the counts of a clock
 
@@ -173,17 +171,9 @@ based_low w before n (p ∷ os) (suc i) o (low, within, are) there =
 
 -- ---- without the last clocks
 
--- no more items are there of the first ones
-fewer : (n : ℕ) (os : List ℕ) → length (take n os) ≤ length os
-fewer zero os = omega arith
-fewer (suc n) [] = omega arith
-fewer (suc n) (o ∷ os) = omega (arith, fewer n os)
-
--- nor more than are taken
+-- no more items are taken than there shall be
 pub at_most : (n : ℕ) (os : List ℕ) → length (take n os) ≤ n
-at_most zero os = omega arith
-at_most (suc n) [] = omega arith
-at_most (suc n) (o ∷ os) = omega (arith, at_most n os)
+at_most n os = omega (arith, length-take n os)
 
 -- the bases of the first clocks
 bases_cut : (w n m : ℕ) (bs os : List ℕ) → AreBased w 0 (length bs) os → m ≡ length (take n os) * w →
@@ -215,7 +205,7 @@ pub cut : (w n m : ℕ) (bs os ss cs ps ts : List ℕ) → AreBased w 0 (length 
     ps ≡ take n os → m ≡ length ps * w → cs ≡ take m bs → ts ≡ take m ss → IsCut w n bs os ss cs ps ts
 cut w n m bs os ss cs ps ts are count first is bases steps =
     let much : m ≡ length (take n os) * w = is ∙ ap (λ xs. length xs * w) first in
-    let room : length (take n os) * w ≤ length os * w = mul-le-mul_right w (fewer n os) in
+    let room : length (take n os) * w ≤ length os * w = mul-le-mul_right w (omega (arith, length-take n os)) in
     record {
       steps = ap length steps ∙ length-take-le m ss (omega (arith, much, room, count)) ∙ is;
       few = omega (arith, ap length bases, at_most m bs, is);
@@ -312,11 +302,6 @@ same_but (k ∷ ks) (m ∷ ns) (suc own) n many each =
     (λ i low apart. each (suc i) (omega (arith, low)) (λ e. apart (omega (arith, e)))) in
     ap (λ x. x ∷ slice_set ks own n) (each zero (omega arith) (λ e. omega (arith, e))) ∙ ap (λ xs. m ∷ xs) rest
 
--- an item is set behind the first ones
-set_seam : (xs ys : List ℕ) (y x : ℕ) → slice_set (xs ++ y ∷ ys) (length xs) x ≡ xs ++ x ∷ ys
-set_seam [] ys y x = refl
-set_seam (z ∷ xs) ys y x = ap (λ zs. z ∷ zs) (set_seam xs ys y x)
-
 -- one more entry is read, if there are zeros behind those so far
 pub read_on : (ns bs : List ℕ) (j x : ℕ) → bs ≡ take j (drop 1 ns) ++ replicate (16 - j) 0 → j + 1 < length ns → j < 16 →
     x ≡ get_or ns (j + 1) 0 → slice_set bs j x ≡ take (j + 1) (drop 1 ns) ++ replicate (16 - (j + 1)) 0
@@ -328,7 +313,7 @@ read_on (n ∷ ms) bs j x is near small read =
     let one : j + 1 ≡ suc j = omega arith in
     ap (λ xs. slice_set xs j x) (is ∙ ap (λ k. take j ms ++ replicate k 0) next)
     ∙ ap (λ k. slice_set (take j ms ++ 0 ∷ rest) k x) (sym long)
-    ∙ set_seam (take j ms) rest 0 x
+    ∙ set-append_seam (take j ms) 0 rest x
     ∙ ap (λ y. take j ms ++ y ∷ rest) (read ∙ ap (λ k. get_or (n ∷ ms) k 0) one)
     ∙ sym (ap (λ xs. xs ++ rest) (take_more ms j 0 (omega (arith, near))) ∙ append_assoc (take j ms) (get_or ms j 0 ∷ []) rest)
 

@@ -1,20 +1,8 @@
 -- A ledger and its log as of a position, from one position to the next.
-use Rattle.std.proofs.Common.{◌≡◌, ℕ, ◌+◌, ◌-◌, ◌<◌, List, [], ◌∷◌, ◌++◌, length, length-take-le, take, drop}
-use Rattle.std.proofs.Common.{ap, sym, ◌∙◌, subst, arith, Some}
-use Rattle.std.specs.Prelude.{slice_get}
-use Rattle.std.proofs.lemmas.List.{take-append-drop, take_all}
-use Rattle.std.proofs.lemmas.Option.{slice_get_within}
-use Rattle.rb_money.specs.Settings.{Settings}
-use Rattle.rb_shadow.specs.declared.shadow.Shadow.{Shadow}
-use Rattle.rb_undo.specs.declared.parts.UndoParts.{UndoParts}
-use Rattle.rb_undo.specs.Log.{Log}
-use Rattle.rb_ledger.specs.declared.marks.Links.{Links}
-use Rattle.rb_ledger.specs.declared.index.Index.{Index}
-use Rattle.rb_ledger.specs.Book.{Book}
-use Rattle.rb_ledger.specs.Valid.{IsValid, parts_of}
-use Rattle.rb_ledger.specs.Records.{records_of}
-use Rattle.rb_ledger.specs.Index.{IsIndex, IsLinked, AreLinks}
-use Rattle.rb_ledger.specs.Cursor.{IsAt}
+use Rattle.rb_ledger.proofs.Words.{◌≡◌, ℕ, ◌+◌, ◌-◌, ◌<◌, List, [], ◌∷◌, ◌++◌, length, length-take-le, take, drop, ap}
+use Rattle.rb_ledger.proofs.Words.{sym, ◌∙◌, subst, arith, Some, slice_get, take-append-drop, take_all}
+use Rattle.rb_ledger.proofs.Words.{slice_get_within, Settings, Shadow, UndoParts, Log, Links, Index, Book, IsValid}
+use Rattle.rb_ledger.proofs.Words.{parts_of, records_of, IsIndex, IsLinked, AreLinks, IsAt}
 use Rattle.rb_ledger.proofs.Public.OnAccount
 use Rattle.rb_ledger.proofs.Public.Legal
 use Rattle.rb_ledger.proofs.Public.Fronts

@@ -1,21 +1,12 @@
 -- The operation at a position, and under a name that was found.
-use Rattle.std.proofs.Common.{◌≡◌, ℕ, zero, suc, ◌-◌, ◌<◌, ◌≤◌, true, false, cond, List, [], ◌∷◌, length}
-use Rattle.std.proofs.Common.{get_or, refl, ap, sym, ◌∙◌, arith, ◌⊎◌, inl, inr, Some, None}
-use Rattle.std.specs.Prelude.{slice_get, ◌==◌, Option, option_map, option_and_then, unwrap_or}
-use Rattle.std.proofs.lemmas.Bool.Decides.{nat_tests}
-use Rattle.std.proofs.lemmas.Option.{slice_get_within, get_or_from_slice_get}
-use Rattle.rb_money.specs.declared.place.Place.{Place}
-use Rattle.rb_shadow.specs.declared.shadow.Shadow.{Shadow}
-use Rattle.rb_shadow.specs.declared.op_name.OpName.{OpName}
-use Rattle.rb_shadow.specs.Operations.{names, find_in, same_shadow, Among}
-use Rattle.rb_shadow.specs.Operations.{kind_in, receiver_of, target_of, other_of}
-use Rattle.rb_shadow.specs.declared.kind.Kind.{Kind}
-use Rattle.rb_shadow.specs.declared.kind.Kind.TheVariants.{Deposit, Withdraw, Declined, Interest, Cancel, Transfer}
+use Rattle.rb_ledger.proofs.Words.{◌≡◌, ℕ, zero, suc, ◌-◌, ◌<◌, ◌≤◌, false, cond, List, [], ◌∷◌, length, get_or, refl}
+use Rattle.rb_ledger.proofs.Words.{ap, sym, ◌∙◌, arith, inl, inr, Some, None, slice_get, ◌==◌, Option, option_map}
+use Rattle.rb_ledger.proofs.Words.{option_and_then, unwrap_or, nat_tests, slice_get_within, get_or_from_slice_get}
+use Rattle.rb_ledger.proofs.Words.{Place, Shadow, OpName, names, find_in, same_shadow, Among, kind_in, receiver_of}
+use Rattle.rb_ledger.proofs.Words.{target_of, other_of, Kind, Deposit, Withdraw, Declined, Interest, Cancel, Transfer}
+use Rattle.rb_ledger.proofs.Words.{operation_at, find_position, position_from, position_of, HasTarget}
 use Rattle.rb_shadow.proofs.Public.Members
-use Rattle.rb_money.proofs.Public.Tests.{at_most, equal, number_sound}
 use Rattle.rb_money.proofs.Public.Tests
-use Rattle.rb_ledger.specs.Valid.{operation_at, find_position, position_from, position_of}
-use Rattle.rb_ledger.specs.Valid.{HasTarget}
 use Rattle.rb_ledger.proofs.CancelFacts
 use Rattle.rb_ledger.proofs.Overdraws
 use Rattle.rb_ledger.proofs.Public.OnAccount.{element}
@@ -47,20 +38,19 @@ none_there us (suc p) e low =
 -- what is at the position that was found
 pub found_there : (us : List Shadow) (x : OpName) (p : ℕ) → Some p ≡ find_position us x →
     (t : Shadow) × (operation_at us p ≡ Some t) × (t.name ≡ x) × (find_in us x ≡ Some t)
-found_there us x p e = at (Members.bool_cases (names us x))
-  where
-    at : (names us x ≡ true) ⊎ (names us x ≡ false) → (t : Shadow) × (operation_at us p ≡ Some t) × (t.name ≡ x) × (find_in us x ≡ Some t)
-    at (inr d) = let none : Some p ≡ None = e ∙ ap (λ b. cond b (Some (position_from 1 us x)) None) d in cc
-    at (inl d) =
-        let (q, t, there, named, stood, found) = CancelFacts.found_at 1 us x d in
-        let one : Some p ≡ Some (position_from 1 us x) = e ∙ ap (λ b. cond b (Some (position_from 1 us x)) None) d in
-        let is : p ≡ position_from 1 us x = cc in
-        let back : p - 1 ≡ q = omega (arith, is, stood) in (
-          t,
-          ap (λ b. cond b None (slice_get us (p - 1))) (Tests.positive p (omega (arith, is, stood))) ∙ ap (slice_get us) back ∙ there,
-          named,
-          found,
-        )
+found_there us x p e = elim (Members.bool_cases (names us x)) [
+  | inl d ↦
+      let (q, t, there, named, stood, found) = CancelFacts.found_at 1 us x d in
+      let one : Some p ≡ Some (position_from 1 us x) = e ∙ ap (λ b. cond b (Some (position_from 1 us x)) None) d in
+      let is : p ≡ position_from 1 us x = cc in
+      let back : p - 1 ≡ q = omega (arith, is, stood) in (
+        t,
+        ap (λ b. cond b None (slice_get us (p - 1))) (Tests.positive p (omega (arith, is, stood))) ∙ ap (slice_get us) back ∙ there,
+        named,
+        found,
+      )
+  | inr d ↦ let none : Some p ≡ None = e ∙ ap (λ b. cond b (Some (position_from 1 us x)) None) d in cc
+]
 
 -- a name that wasn't found is none of the list's
 pub found_none : (us : List Shadow) (x : OpName) → None ≡ find_position us x → names us x ≡ false
@@ -116,21 +106,19 @@ other_unfound us x e = sym (ap (option_and_then receiver_of) (Lookups.kind_found
 
 -- a name of which there is no position was not found
 unfound_at : (us : List Shadow) (x : OpName) → 0 ≡ position_from 1 us x → None ≡ find_position us x
-unfound_at us x e = at (Members.bool_cases (names us x))
-  where
-    at : (names us x ≡ true) ⊎ (names us x ≡ false) → None ≡ find_position us x
-    at (inl d) = let (q, t, there, named, stood, found) = CancelFacts.found_at 1 us x d in absurd (omega (arith, e, stood))
-    at (inr d) = sym (ap (λ b. cond b (Some (position_from 1 us x)) None) d)
+unfound_at us x e = elim (Members.bool_cases (names us x)) [
+  | inl d ↦ let (q, t, there, named, stood, found) = CancelFacts.found_at 1 us x d in absurd (omega (arith, e, stood))
+  | inr d ↦ sym (ap (λ b. cond b (Some (position_from 1 us x)) None) d)
+]
 
 -- a name of which there is a position was found there
 found_by : (us : List Shadow) (x : OpName) (p : ℕ) → p ≡ position_from 1 us x → 0 < p → Some p ≡ find_position us x
-found_by us x p e some = at (Members.bool_cases (names us x))
-  where
-    at : (names us x ≡ true) ⊎ (names us x ≡ false) → Some p ≡ find_position us x
-    at (inl d) = ap Some e ∙ sym (ap (λ b. cond b (Some (position_from 1 us x)) None) d)
-    at (inr d) =
-        let none : find_position us x ≡ None = ap (λ b. cond b (Some (position_from 1 us x)) None) d in
-        absurd (omega (arith, e, some, sym (Overdraws.position_or_none us x) ∙ ap (λ o. unwrap_or o 0) none))
+found_by us x p e some = elim (Members.bool_cases (names us x)) [
+  | inl d ↦ ap Some e ∙ sym (ap (λ b. cond b (Some (position_from 1 us x)) None) d)
+  | inr d ↦
+      let none : find_position us x ≡ None = ap (λ b. cond b (Some (position_from 1 us x)) None) d in
+      absurd (omega (arith, e, some, sym (Overdraws.position_or_none us x) ∙ ap (λ o. unwrap_or o 0) none))
+]
 
 -- what is cancelled by an operation whose target has a position
 pub target_at : (us : List Shadow) (o : Option OpName) (p : ℕ) → p ≡ position_of us o → 0 < p →

@@ -1,22 +1,8 @@
 -- Reads of the accounts' heads.
-use Rattle.std.proofs.Common.{◌≡◌, ℕ, zero, suc, ◌<◌, ◌≤◌, List, [], ◌∷◌, ◌++◌, length}
-use Rattle.std.proofs.Common.{get_or, refl, ap, ◌∙◌, arith, inl, Some, None}
-use Rattle.std.specs.Prelude.{slice_get, Option, option_map}
-use Rattle.std.specs.Prelude.{unwrap_or}
-use Rattle.rb_money.specs.Settings.{Settings, IsConfigured}
-use Rattle.rb_money.specs.Amounts.{cents}
-use Rattle.rb_money.specs.declared.place.Place.{Place}
-use Rattle.rb_money.specs.declared.place.TheConstants.Place.{NOWHERE}
-use Rattle.rb_shadow.specs.declared.shadow.Shadow.{Shadow}
-use Rattle.rb_shadow.specs.declared.deps.Deps.{Deps}
-use Rattle.rb_shadow.specs.Operations.{bal}
-use Rattle.rb_shadow.specs.Operations.{other_of}
-use Rattle.rb_ledger.specs.declared.marks.Head.{Head}
-use Rattle.rb_money.specs.declared.limits.TheConstants.{MOST_BALANCE}
-use Rattle.rb_ledger.specs.Valid.{IsValid}
-use Rattle.rb_ledger.specs.Book.{IsClocked}
-use Rattle.rb_ledger.specs.Index.{AreHeads, no_head}
-use Rattle.rb_ledger.specs.OnAccount.{IsLast}
+use Rattle.rb_ledger.proofs.Words.{◌≡◌, ℕ, zero, suc, ◌<◌, ◌≤◌, List, [], ◌∷◌, ◌++◌, length, get_or, refl, ap, ◌∙◌}
+use Rattle.rb_ledger.proofs.Words.{arith, inl, Some, None, slice_get, Option, option_map, unwrap_or, Settings}
+use Rattle.rb_ledger.proofs.Words.{IsConfigured, cents, Place, NOWHERE, Shadow, Deps, bal, other_of, Head, MOST_BALANCE}
+use Rattle.rb_ledger.proofs.Words.{IsValid, IsClocked, AreHeads, no_head, IsLast, slice_get-get_or}
 use Rattle.rb_ledger.proofs.Public.Legal
 use Rattle.rb_ledger.proofs.Others
 use Rattle.rb_ledger.proofs.Indexed
@@ -48,7 +34,7 @@ head_small s us c hs a h kept are read = Indexed.bal_small s us a h.balance kept
 pub head_balance : (s : Settings) (us : List Shadow) (hs : List Head) (a : Place) (n : ℕ) → AreHeads s us hs → a.0 < length s.starts →
     n ≡ (get_or hs a.0 no_head).balance → n ≡ cents (bal s us a)
 head_balance s us hs a n are near is = is ∙ ap cents (are.each a (get_or hs a.0 no_head)
-    (Others.item hs a.0 no_head (omega (arith, are.count, near)))).balance
+    (slice_get-get_or hs a.0 no_head (omega (arith, are.count, near)))).balance
 
 -- the balance of the second account, in the head that its place names
 pub other_balance : (s : Settings) (us : List Shadow) (c : Deps) (hs : List Head) (h : Shadow) (n : ℕ) → IsConfigured s → IsClocked s us c →

@@ -1,24 +1,11 @@
 -- Reads of an account's links, and whether an operation is on an account.
-use Rattle.std.proofs.Common.{◌≡◌, ℕ, ◌+◌, ◌-◌, ◌<◌, ◌≤◌, Bool, true, false, cond, ◌||◌, List, ◌∷◌, length, take, drop}
-use Rattle.std.proofs.Common.{refl, ap, sym, ◌∙◌, subst, arith, inr, Some, None}
-use Rattle.std.specs.Prelude.{pos, slice_get, slice_index, ◌==◌}
-use Rattle.std.specs.Prelude.{option_to_list}
-use Rattle.std.proofs.lemmas.Int.{ints}
-use Rattle.std.proofs.lemmas.List.{take-append-drop}
-use Rattle.std.specs.List.{list_any}
-use Rattle.rb_money.specs.Settings.{Settings, IsConfigured}
-use Rattle.rb_money.specs.declared.place.Place.{Place}
-use Rattle.rb_shadow.specs.declared.shadow.Shadow.{Shadow}
+use Rattle.rb_ledger.proofs.Words.{◌≡◌, ℕ, ◌+◌, ◌-◌, ◌<◌, ◌≤◌, Bool, true, false, cond, ◌||◌, List, ◌∷◌, length, take}
+use Rattle.rb_ledger.proofs.Words.{drop, refl, ap, sym, ◌∙◌, subst, arith, inr, Some, None, pos, slice_get, slice_index}
+use Rattle.rb_ledger.proofs.Words.{◌==◌, option_to_list, ints, take-append-drop, list_any, Settings, IsConfigured}
+use Rattle.rb_ledger.proofs.Words.{Place, Shadow, other_of, is_on, Link, Links, MOST_BALANCE, equal, number_sound}
+use Rattle.rb_ledger.proofs.Words.{IsValid, operation_at, AreLinks, IsLink, link_at_place, IsOn}
+use Rattle.std.proofs.Math.Bool.{or-false}
 use Rattle.rb_shadow.specs.Operations.{bal}
-use Rattle.rb_shadow.specs.Operations.{other_of, is_on}
-use Rattle.rb_ledger.specs.declared.marks.Link.{Link}
-use Rattle.rb_ledger.specs.declared.marks.Links.{Links}
-use Rattle.rb_money.specs.declared.limits.TheConstants.{MOST_BALANCE}
-use Rattle.rb_money.proofs.Public.Tests.{equal, number_sound}
-use Rattle.rb_ledger.specs.Valid.{IsValid, operation_at}
-use Rattle.rb_ledger.specs.Index.{AreLinks, IsLink}
-use Rattle.rb_ledger.specs.LinkLists.{link_at_place}
-use Rattle.rb_ledger.specs.OnAccount.{IsOn}
 use Rattle.rb_shadow.proofs.Public.Members
 use Rattle.rb_ledger.proofs.Public.Legal
 use Rattle.rb_ledger.proofs.Others
@@ -104,13 +91,8 @@ on_first us u a e = sym (OnAccount.on_own us u a (number_sound u.account.0 a.0 e
 pub on_second : (us : List Shadow) (u : Shadow) (a b : Place) (r : Bool) → (u.account.0 == a.0) ≡ false → Some b ≡ other_of us u.kind →
     r ≡ (b.0 == a.0) → r ≡ is_on us u a
 on_second us u a b r e other is =
-    is ∙ or_nothing (b.0 == a.0)
-    ∙ sym (ap (λ o. list_any (λ (p : Place). p.0 == a.0) (u.account ∷ option_to_list o)) (sym other)
-    ∙ ap (λ c. c || ((b.0 == a.0) || false)) e)
-  where
-    or_nothing : (b : Bool) → b ≡ (b || false)
-    or_nothing true = refl
-    or_nothing false = refl
+    is ∙ sym (ap (λ o. list_any (λ (p : Place). p.0 == a.0) (u.account ∷ option_to_list o)) (sym other)
+    ∙ ap (λ c. c || ((b.0 == a.0) || false)) e ∙ or-false (b.0 == a.0))
 
 -- without a second account it is on no other than its own
 pub on_none : (us : List Shadow) (u : Shadow) (a : Place) → (u.account.0 == a.0) ≡ false → None ≡ other_of us u.kind → false ≡ is_on us u a

@@ -1,13 +1,11 @@
 -- Lists of links after a change.
-use Rattle.std.proofs.Common.{◌≡◌, ◌⊎◌, ℕ, zero, suc, ◌+◌, ◌-◌, ◌<◌, ◌≤◌, List, [], ◌∷◌, ◌++◌, length, map, take, get_or, set}
-use Rattle.std.proofs.Common.{refl, ap, sym, ◌∙◌, subst, arith, inl, inr, Some}
-use Rattle.std.specs.Prelude.{Option, option_map, option_to_list, slice_get, Bool, false}
-use Rattle.std.proofs.lemmas.List.{get_or_push, get_or_append_left, length_push, length-map, map_push, map-set, take_at}
-use Rattle.std.proofs.lemmas.Option.{slice_get-map}
-use Rattle.std.proofs.Math.Seq.{take-append_seam, map-set_same}
-use Rattle.rb_ledger.specs.declared.marks.Links.{Links}
-use Rattle.rb_ledger.specs.declared.link_list.OwnLink.{OwnLink}
-use Rattle.rb_ledger.specs.LinkLists.{AreNumbered, LinkTable, both_links, kept_link, marked_at, marks, own_link, second_balance}
+use Rattle.rb_ledger.proofs.Words.{◌≡◌, ◌⊎◌, ℕ, zero, suc, ◌+◌, ◌-◌, ◌<◌, ◌≤◌, List, [], ◌∷◌, ◌++◌, length, map, take}
+use Rattle.rb_ledger.proofs.Words.{get_or, set, refl, ap, sym, ◌∙◌, subst, arith, inl, inr, Some, Option, option_map}
+use Rattle.rb_ledger.proofs.Words.{option_to_list, slice_get, Bool, false, get_or_push, get_or_append_left, length_push}
+use Rattle.rb_ledger.proofs.Words.{length-map, map_push, map-set, take_at, slice_get-map, take-append_seam}
+use Rattle.rb_ledger.proofs.Words.{map-set_same, Links, OwnLink, LinkTable, both_links, kept_link, marked_at, marks}
+use Rattle.rb_ledger.proofs.Words.{own_link, second_balance, slice_get-get_or}
+use Rattle.rb_ledger.specs.LinkLists.{AreNumbered}
 
 -- no number is above the last one
 pub none_above : (k n : ℕ) (os : List OwnLink) → AreNumbered k os n → k ≤ n
@@ -43,18 +41,14 @@ pub all_but_last : (k n : ℕ) (os : List OwnLink) (o : OwnLink) → AreNumbered
 unfolding AreNumbered
 all_but_last k n [] o (inl (none, are)) = inl (none, are)
 all_but_last k n [] o (inr (one, are)) = inr (k, one, sym are, refl)
-all_but_last k n (p ∷ os) o (inl (is, are)) = after (all_but_last k n os o are)
-  where
-    after : ((o.second ≡ 0) × AreNumbered k os n) ⊎ ((m : ℕ) × (o.second ≡ m + 1) × (n ≡ m + 1) × AreNumbered k os m) →
-        ((o.second ≡ 0) × AreNumbered k (p ∷ os) n) ⊎ ((m : ℕ) × (o.second ≡ m + 1) × (n ≡ m + 1) × AreNumbered k (p ∷ os) m)
-    after (inl (none, rest)) = inl (none, inl (is, rest))
-    after (inr (m, one, last, rest)) = inr (m, one, last, inl (is, rest))
-all_but_last k n (p ∷ os) o (inr (is, are)) = after (all_but_last (k + 1) n os o are)
-  where
-    after : ((o.second ≡ 0) × AreNumbered (k + 1) os n) ⊎ ((m : ℕ) × (o.second ≡ m + 1) × (n ≡ m + 1) × AreNumbered (k + 1) os m) →
-        ((o.second ≡ 0) × AreNumbered k (p ∷ os) n) ⊎ ((m : ℕ) × (o.second ≡ m + 1) × (n ≡ m + 1) × AreNumbered k (p ∷ os) m)
-    after (inl (none, rest)) = inl (none, inr (is, rest))
-    after (inr (m, one, last, rest)) = inr (m, one, last, inr (is, rest))
+all_but_last k n (p ∷ os) o (inl (is, are)) = elim (all_but_last k n os o are) [
+  | inl e ↦ inl (e.0, inl (is, e.1))
+  | inr e ↦ inr (e.0, e.1, e.2, inl (is, e.3))
+]
+all_but_last k n (p ∷ os) o (inr (is, are)) = elim (all_but_last (k + 1) n os o are) [
+  | inl e ↦ inl (e.0, inr (is, e.1))
+  | inr e ↦ inr (e.0, e.1, e.2, inr (is, e.3))
+]
 
 -- a number that isn't above the list's length has the same balance if the list is one longer
 pub second_before : (ls : List ℕ) (l n : ℕ) → n ≤ length ls → second_balance (ls ++ l ∷ []) n ≡ second_balance ls n
@@ -98,21 +92,18 @@ pushed_two os ps ls ms o x l are pushed longer both = pushed_one os ps ms o l pu
 
 -- without the last operation, which is on one account
 pub popped_one : (os ps : List OwnLink) (n : ℕ) (o : OwnLink) → AreNumbered 0 os n → os ≡ ps ++ o ∷ [] → o.second ≡ 0 → AreNumbered 0 ps n
-popped_one os ps n o are is none = after (all_but_last 0 n ps o (subst (λ qs. AreNumbered 0 qs n) is are))
-  where
-    after : ((o.second ≡ 0) × AreNumbered 0 ps n) ⊎ ((m : ℕ) × (o.second ≡ m + 1) × (n ≡ m + 1) × AreNumbered 0 ps m) → AreNumbered 0 ps n
-    after (inl (_, rest)) = rest
-    after (inr (m, one, last, rest)) = absurd (omega (arith, one, none))
+popped_one os ps n o are is none = elim (all_but_last 0 n ps o (subst (λ qs. AreNumbered 0 qs n) is are)) [
+  | inl e ↦ e.1
+  | inr e ↦ absurd (omega (arith, e.1, none))
+]
 
 -- the last operation, which is on two accounts, has the last number
 pub last_number : (os ps : List OwnLink) (n : ℕ) (o : OwnLink) → AreNumbered 0 os n → os ≡ ps ++ o ∷ [] → 0 < o.second →
     (m : ℕ) × (n ≡ m + 1) × AreNumbered 0 ps m
-last_number os ps n o are is some = after (all_but_last 0 n ps o (subst (λ qs. AreNumbered 0 qs n) is are))
-  where
-    after : ((o.second ≡ 0) × AreNumbered 0 ps n) ⊎ ((m : ℕ) × (o.second ≡ m + 1) × (n ≡ m + 1) × AreNumbered 0 ps m) →
-        (m : ℕ) × (n ≡ m + 1) × AreNumbered 0 ps m
-    after (inl (none, rest)) = absurd (omega (arith, none, some))
-    after (inr (m, one, last, rest)) = (m, last, rest)
+last_number os ps n o are is some = elim (all_but_last 0 n ps o (subst (λ qs. AreNumbered 0 qs n) is are)) [
+  | inl e ↦ absurd (omega (arith, e.0, some))
+  | inr e ↦ (e.0, e.2, e.3)
+]
 
 -- what a pop leaves of a list that isn't empty, and what it takes
 pub popped : (ls ms : List ℕ) (n : ℕ) (r : Option ℕ) → n ≡ length ls → 0 < length ls → ls ≡ ms ++ option_to_list r →
@@ -193,12 +184,7 @@ pub link_seen : (ls : List ℕ) (os : List OwnLink) (i : ℕ) (o : OwnLink) (n :
 link_seen ls os i o n t seen near is =
     let low : i < length os = omega (arith, near, ap (λ (t : LinkTable). length t.items) seen, length-map os (both_links ls)) in
     ap (λ (t : LinkTable). slice_get t.items i) (sym seen) ∙ slice_get-map (both_links ls) os i
-    ∙ ap (option_map (both_links ls)) (item os i low ∙ ap Some (sym is))
-  where
-    item : (xs : List OwnLink) (j : ℕ) → j < length xs → slice_get xs j ≡ Some (get_or xs j o)
-    item [] j h = absurd (omega arith)
-    item (x ∷ xs) zero h = refl
-    item (x ∷ xs) (suc j) h = item xs j (omega arith)
+    ∙ ap (option_map (both_links ls)) (slice_get-get_or os i o low ∙ ap Some (sym is))
 
 -- ---- marks
 

@@ -1,18 +1,9 @@
 -- The money that one more operation moves, and the balances with it.
-use Rattle.std.proofs.Common.{◌≡◌, ℕ, ◌+◌, ◌-◌, ◌≤◌, false, List, [], ◌∷◌, ◌++◌}
-use Rattle.std.proofs.Common.{ap, sym, ◌∙◌, subst, cond, true, arith, Some, None}
-use Rattle.std.specs.Prelude.{pos, neg_ℤ, ◌+ℤ◌}
-use Rattle.std.proofs.lemmas.Int.{ints}
-use Rattle.rb_money.specs.Settings.{Settings}
-use Rattle.rb_money.specs.declared.place.Place.{Place}
-use Rattle.rb_shadow.specs.declared.shadow.Shadow.{Shadow}
-use Rattle.rb_shadow.specs.declared.op_name.OpName.{OpName}
-use Rattle.rb_shadow.specs.Operations.{bal, find_in, is_cancelled, target_of, IsUnique, moved}
-use Rattle.rb_shadow.specs.Operations.{other_of}
+use Rattle.rb_ledger.proofs.Words.{◌≡◌, ℕ, ◌+◌, ◌-◌, ◌≤◌, false, List, [], ◌∷◌, ◌++◌, ap, sym, ◌∙◌, subst, cond, true}
+use Rattle.rb_ledger.proofs.Words.{arith, Some, None, pos, neg_ℤ, ◌+ℤ◌, ints, Settings, Place, Shadow, OpName, bal}
+use Rattle.rb_ledger.proofs.Words.{find_in, is_cancelled, target_of, IsUnique, moved, other_of, IsValid, HasTarget}
+use Rattle.rb_ledger.proofs.Words.{change, change_by, given_back}
 use Rattle.rb_ledger.proofs.Public.Pushes
-use Rattle.rb_ledger.specs.Valid.{IsValid}
-use Rattle.rb_ledger.specs.Valid.{HasTarget}
-use Rattle.rb_ledger.specs.Changes.{change, change_by, given_back}
 use Rattle.rb_ledger.proofs.Public.Legal
 use Rattle.rb_ledger.proofs.Others
 

@@ -1,29 +1,17 @@
 -- Lists of operations after a change.
-use Rattle.std.proofs.Common.{◌≡◌, ℕ, zero, suc, ◌+◌, ◌-◌, ◌<◌, ◌≤◌, List, [], ◌∷◌, ◌++◌, length, take, drop, get_or}
-use Rattle.std.proofs.Common.{refl, ap, sym, ◌∙◌, subst, arith, inl, inr, Some, None, true, false}
-use Rattle.std.proofs.Common.{length-take-le}
-use Rattle.std.specs.Prelude.{Bool, not, is_some, option_to_list, if◌then◌else◌, Option, option_map, slice_get}
-use Rattle.std.specs.Prelude.{slice_index, slice_set, replicate, ◌==◌, nat_le}
-use Rattle.std.specs.Prelude.{◌&&◌, ◌⊎◌, unwrap_or}
-use Rattle.std.proofs.lemmas.Bool.{and_parts}
-use Rattle.std.proofs.lemmas.Bool.Decides.{nat_tests}
-use Rattle.std.proofs.lemmas.List.{get_or_append_left, length-set, length-map, length_push, map_push}
-use Rattle.std.proofs.lemmas.List.{take-append-drop, take-take, take_all, set-append_left, set-get_or}
-use Rattle.std.proofs.lemmas.Option.{slice_get_past, slice_get-map}
-use Rattle.std.proofs.Math.Seq.{get_or-append_seam, take-append_seam}
-use Rattle.rb_money.specs.Settings.{Settings}
-use Rattle.rb_money.specs.declared.limits.TheConstants.{MOST_SITES}
-use Rattle.rb_shadow.specs.declared.colour.Colour.{Colour}
-use Rattle.rb_shadow.specs.declared.deps.Deps.{Deps}
-use Rattle.rb_shadow.specs.declared.op_name.OpName.{OpName}
-use Rattle.rb_shadow.specs.declared.op_name.OpName.TheVariants.{Blue, Red}
-use Rattle.rb_shadow.specs.declared.shadow.Shadow.{Shadow}
-use Rattle.rb_shadow.specs.Operations.{entry_of, number_of, row_of, shown_colour}
-use Rattle.rb_shadow.specs.Sound.{IsSound, are_entries, is_foreign}
+use Rattle.rb_ledger.proofs.Words.{◌≡◌, ℕ, zero, suc, ◌+◌, ◌-◌, ◌<◌, ◌≤◌, List, [], ◌∷◌, ◌++◌, length, take, drop}
+use Rattle.rb_ledger.proofs.Words.{get_or, refl, ap, sym, ◌∙◌, subst, arith, inl, inr, Some, None, true, false}
+use Rattle.rb_ledger.proofs.Words.{length-take-le, is_some, option_to_list, if◌then◌else◌, Option, option_map}
+use Rattle.rb_ledger.proofs.Words.{slice_get, slice_index, slice_set, replicate, ◌==◌, nat_le, ◌⊎◌, unwrap_or}
+use Rattle.rb_ledger.proofs.Words.{and_parts, nat_tests, get_or_append_left, length-set, length-map, length_push}
+use Rattle.rb_ledger.proofs.Words.{map_push, take-append-drop, take-take, take_all, set-append_left, set-get_or}
+use Rattle.rb_ledger.proofs.Words.{slice_get_past, slice_get-map, get_or-append_seam, take-append_seam, Settings}
+use Rattle.rb_ledger.proofs.Words.{MOST_SITES, Colour, Deps, OpName, Blue, Red, Shadow, entry_of, number_of, row_of}
+use Rattle.rb_ledger.proofs.Words.{shown_colour, IsSound, are_entries, is_foreign, KeptOperation, IsOfSites}
+use Rattle.rb_ledger.proofs.Words.{clock_count, clock_of_counts, kept_name, operations_of, padded, with_counts}
+use Rattle.rb_ledger.proofs.Words.{and_from, not-false}
 use Rattle.rb_shadow.proofs.Public.SoundFacts
-use Rattle.rb_ledger.specs.declared.kept_operation.KeptOperation.{KeptOperation}
-use Rattle.rb_ledger.specs.OperationLists.{AreInOrder, IsOfSites, clock_count, clock_of_counts, kept_name, operations_of, padded}
-use Rattle.rb_ledger.specs.OperationLists.{with_counts}
+use Rattle.rb_ledger.specs.OperationLists.{AreInOrder}
 
 -- there are as many operations as are kept
 pub as_many : (w : ℕ) (bs : List KeptOperation) (cs : List (List ℕ)) → length (operations_of w bs cs) ≡ length bs
@@ -290,12 +278,8 @@ pub wider : (k m limit : ℕ) (ns : List ℕ) → k ≤ m → are_entries k limi
 wider k m limit [] more h = refl
 wider k m limit (n ∷ ns) more h =
     let p = and_parts (if k == 0 then n == 0 else nat_le n limit) (are_entries (k - 1) limit ns) h in
-    both _ _ (at k m more p.0) (wider (k - 1) (m - 1) limit ns (omega (arith, more)) p.1)
+    and_from _ _ (at k m more p.0) (wider (k - 1) (m - 1) limit ns (omega (arith, more)) p.1)
   where
-    both : (a b : Bool) → a ≡ true → b ≡ true → (a && b) ≡ true
-    both true b p q = q
-    both false b p q = cc
-
     at : (k m : ℕ) → k ≤ m → (if k == 0 then n == 0 else nat_le n limit) ≡ true → (if m == 0 then n == 0 else nat_le n limit) ≡ true
     at zero zero more q = q
     at zero (suc m) more q = grind (arith, nat_tests)
@@ -306,12 +290,8 @@ wider k m limit (n ∷ ns) more h =
 pub of_sites : (s : Settings) (v : Shadow) (w : ℕ) → IsSound s v → s.sites ≤ w → IsOfSites w v.deps
 of_sites s v w sound more =
     let facts = SoundFacts.sound_facts s v sound in
-    let clock = and_parts (are_entries s.sites s.limits.blue v.deps.blue) (nat_le v.deps.red s.limits.red) (passed _ facts.clock) in
+    let clock = and_parts (are_entries s.sites s.limits.blue v.deps.blue) (nat_le v.deps.red s.limits.red) (not-false _ facts.clock) in
     (s.limits.blue, wider s.sites w s.limits.blue v.deps.blue more clock.0)
-  where
-    passed : (b : Bool) → not b ≡ false → b ≡ true
-    passed true h = refl
-    passed false h = sym h
 
 -- what a pop takes that finds one
 pub popped_kept : (r : Option KeptOperation) (bs cs : List KeptOperation) → bs ≡ cs ++ option_to_list r → true ≡ is_some r →

@@ -1,26 +1,14 @@
 -- The second account of an operation, and the heads of both its accounts.
 use Rattle.rb_ledger.proofs.Public.Pushes.{other_by}
-use Rattle.std.proofs.Common.{◌≡◌, ℕ, zero, suc, ◌+◌, ◌<◌, true, false, ◌||◌, List, [], ◌∷◌, ◌++◌, length, take, drop, get_or, refl, ap}
-use Rattle.std.proofs.Common.{sym, ◌∙◌, subst, arith, ◌⊎◌, inl, inr, Some, None, length-set}
-use Rattle.std.specs.Prelude.{pos, ◌==◌, nat_le, slice_get, Option, option_map, option_and_then, unwrap_or}
-use Rattle.std.proofs.lemmas.List.{take-append-drop}
-use Rattle.std.proofs.lemmas.Option.{slice_get_within}
-use Rattle.rb_money.specs.Amounts.{cents}
-use Rattle.rb_money.specs.Settings.{Settings, IsConfigured}
-use Rattle.rb_money.specs.declared.place.Place.{Place}
-use Rattle.rb_money.specs.declared.place.TheConstants.Place.{NOWHERE}
-use Rattle.rb_money.proofs.Public.Tests.{above, equal, same_place}
-use Rattle.rb_shadow.specs.declared.shadow.Shadow.{Shadow}
-use Rattle.rb_shadow.specs.declared.op_name.OpName.{OpName}
-use Rattle.rb_shadow.specs.Operations.{Among, bal, target_of, receiver_of, other_of, is_on, kind_in}
-use Rattle.rb_shadow.specs.Sound.{IsSound, is_misdirected}
+use Rattle.rb_ledger.proofs.Words.{◌≡◌, ℕ, ◌+◌, ◌<◌, true, false, List, [], ◌∷◌, ◌++◌, length, take, drop, refl, ap}
+use Rattle.rb_ledger.proofs.Words.{sym, ◌∙◌, subst, arith, ◌⊎◌, inl, inr, Some, None, length-set, pos, ◌==◌, nat_le}
+use Rattle.rb_ledger.proofs.Words.{slice_get, Option, option_map, option_and_then, unwrap_or, take-append-drop}
+use Rattle.rb_ledger.proofs.Words.{slice_get_within, cents, Settings, IsConfigured, Place, NOWHERE, above, equal}
+use Rattle.rb_ledger.proofs.Words.{same_place, Shadow, OpName, Among, bal, target_of, receiver_of, other_of, is_on}
+use Rattle.rb_ledger.proofs.Words.{kind_in, IsSound, is_misdirected, Head, Links, IsValid, HasTarget, IsLinked}
+use Rattle.rb_ledger.proofs.Words.{AreHeads, heads_at, IsLast}
 use Rattle.rb_shadow.proofs.Public.Members
 use Rattle.rb_shadow.proofs.Public.SoundFacts
-use Rattle.rb_ledger.specs.declared.marks.Head.{Head}
-use Rattle.rb_ledger.specs.declared.marks.Links.{Links}
-use Rattle.rb_ledger.specs.Valid.{IsValid, HasTarget}
-use Rattle.rb_ledger.specs.Index.{IsLinked, AreHeads, heads_at}
-use Rattle.rb_ledger.specs.OnAccount.{IsLast}
 use Rattle.rb_ledger.proofs.IndexLists
 use Rattle.rb_ledger.proofs.Public.Pushes
 use Rattle.rb_ledger.proofs.Public.Legal
@@ -36,10 +24,9 @@ use Rattle.rb_ledger.proofs.Public.OnAccount
 -- a receiver is one of the accounts, and not the own one
 received : (s : Settings) (v : Shadow) (b : Place) → SoundFacts.SoundFacts s v → receiver_of v.kind ≡ Some b →
     (b.0 < length s.starts) × (v.account.0 ≡ b.0 → ⊥)
-received s v b facts e = at (ap (is_misdirected (length s.starts) v.account) (sym e) ∙ facts.receiver)
-  where
-    at : (nat_le (length s.starts) b.0 || (b.0 == v.account.0)) ≡ false → (b.0 < length s.starts) × (v.account.0 ≡ b.0 → ⊥)
-    at k = let (first, second) = Members.or-false _ _ k in (
+received s v b facts e =
+    let (first, second) = Members.or-false (nat_le (length s.starts) b.0) (b.0 == v.account.0)
+    (ap (is_misdirected (length s.starts) v.account) (sym e) ∙ facts.receiver) in (
       above (length s.starts) b.0 first,
       λ k. Members.true≢false (sym (equal b.0 v.account.0 (sym k)) ∙ second),
     )
@@ -47,14 +34,13 @@ received s v b facts e = at (ap (is_misdirected (length s.starts) v.account) (sy
 -- and so is a second account
 pub second_apart : (s : Settings) (us : List Shadow) (h : Shadow) (b : Place) → IsValid s us → IsSound s h →
     HasTarget us h (target_of h.kind) → other_of us h.kind ≡ Some b → (b.0 < length s.starts) × (h.account.0 ≡ b.0 → ⊥)
-second_apart s us h b valid sound target e = at (Pushes.other_cases us h b target valid.unique e)
-  where
-    at : (receiver_of h.kind ≡ Some b) ⊎ ((t : Shadow) × Among t us × (t.account ≡ h.account) × (receiver_of t.kind ≡ Some b)) →
-        (b.0 < length s.starts) × (h.account.0 ≡ b.0 → ⊥)
-    at (inl k) = received s h b (SoundFacts.sound_facts s h sound) k
-    at (inr (t, there, account, k)) =
-        let (near, apart) = received s t b (ValidClocks.member_sound s us t valid there) k in
-        (near, λ e. apart (ap (λ (p : Place). p.0) account ∙ e))
+second_apart s us h b valid sound target e = elim (Pushes.other_cases us h b target valid.unique e) [
+  | inl k ↦ received s h b (SoundFacts.sound_facts s h sound) k
+  | inr k ↦
+      let (t, there, account, to) = k in
+      let (near, apart) = received s t b (ValidClocks.member_sound s us t valid there) to in
+      (near, λ e. apart (ap (λ (p : Place). p.0) account ∙ e))
+]
 
 -- the second account is one of the configuration, and isn't the own one
 pub other_apart : (s : Settings) (us : List Shadow) (h : Shadow) (b : Place) → IsValid s us → Legal.MayFollow s us h →
@@ -96,12 +82,6 @@ other_whole s us i u valid there =
         ∙ ap (λ y. option_and_then receiver_of (kind_in us y)) named
 
 -- ---- the heads of both accounts
-
--- an index within the list has its item
-pub item : {X : Type 0} (xs : List X) (i : ℕ) (d : X) → i < length xs → slice_get xs i ≡ Some (get_or xs i d)
-item [] i d h = absurd (omega arith)
-item (x ∷ xs) zero d h = refl
-item (x ∷ xs) (suc i) d h = item xs i d (omega arith)
 
 -- a head where the own account has another one and the second account has
 abbrev pub IsChanged : List Shadow → Shadow → List Head → Head → Head → Place → Head → Type 0

@@ -1,10 +1,7 @@
 -- Reads of lists, rows and options.
-use Rattle.std.proofs.Common.{◌≡◌, ℕ, zero, suc, ◌+◌, ◌-◌, ◌<◌, ◌≤◌, List, length, take}
-use Rattle.std.proofs.Common.{get_or, refl, ap, sym, ◌∙◌, arith, Some, None, Bor}
-use Rattle.std.specs.Prelude.{slice_get, Option}
-use Rattle.std.specs.Prelude.{option_copied}
-use Rattle.std.specs.Slice.{IsGetResult}
-use Rattle.std.proofs.lemmas.Option.{slice_get_read, slice_get_past}
+use Rattle.rb_ledger.proofs.Words.{◌≡◌, ℕ, zero, suc, ◌+◌, ◌-◌, ◌<◌, ◌≤◌, List, length, take, get_or, refl, ap, sym}
+use Rattle.rb_ledger.proofs.Words.{◌∙◌, arith, Some, None, Bor, slice_get, Option, option_copied, IsGetResult}
+use Rattle.rb_ledger.proofs.Words.{slice_get_read, slice_get_past}
 
 -- an item that was read, as one of the same list at the same index
 pub read_at : {X : Type 0} (xs ys : List X) (i j : ℕ) (x : X) → ys ≡ xs → i ≡ j → slice_get ys i ≡ Some x → slice_get xs j ≡ Some x

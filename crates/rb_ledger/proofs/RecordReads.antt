@@ -1,18 +1,9 @@
 -- Reads to make the record of an operation, if all the operations are there and not only those before it.
-use Rattle.std.proofs.Common.{◌≡◌, ℕ, ◌+◌, ◌-◌, List, take, drop, refl, ap, sym, ◌∙◌, subst}
-use Rattle.std.proofs.Common.{arith, inr, Some, None, length}
-use Rattle.std.proofs.Common.{length-take-le}
-use Rattle.std.specs.Prelude.{Option, IfSome}
-use Rattle.std.proofs.lemmas.List.{take-append-drop}
-use Rattle.std.proofs.lemmas.Option.{slice_get_within}
-use Rattle.rb_money.specs.Settings.{Settings}
-use Rattle.rb_money.specs.declared.place.Place.{Place}
-use Rattle.rb_shadow.specs.declared.op_name.OpName.{OpName}
-use Rattle.rb_shadow.specs.declared.shadow.Shadow.{Shadow}
-use Rattle.rb_shadow.specs.Operations.{Among, names, target_of, other_of}
+use Rattle.rb_ledger.proofs.Words.{◌≡◌, ℕ, ◌+◌, ◌-◌, List, take, drop, refl, ap, sym, ◌∙◌, subst, arith, inr, Some}
+use Rattle.rb_ledger.proofs.Words.{None, length, length-take-le, Option, IfSome, take-append-drop, slice_get_within}
+use Rattle.rb_ledger.proofs.Words.{Settings, Place, OpName, Shadow, Among, names, target_of, other_of, IsValid}
+use Rattle.rb_ledger.proofs.Words.{HasTarget, operation_at, position_of, IsOn}
 use Rattle.rb_shadow.proofs.Public.Members
-use Rattle.rb_ledger.specs.Valid.{IsValid, HasTarget, operation_at, position_of}
-use Rattle.rb_ledger.specs.OnAccount.{IsOn}
 use Rattle.rb_ledger.proofs.CancelFacts
 use Rattle.rb_ledger.proofs.FoundNames.{entry_there}
 use Rattle.rb_ledger.proofs.Moves

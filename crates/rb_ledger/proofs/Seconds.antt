@@ -1,18 +1,8 @@
 -- The second account that a record names.
-use Rattle.std.proofs.Common.{◌≡◌, ℕ, true, false, List, [], ◌∷◌, ◌++◌}
-use Rattle.std.proofs.Common.{ap, sym, ◌∙◌, arith, Some, None}
-use Rattle.std.specs.Prelude.{pos, ◌==◌, Option, option_map}
-use Rattle.std.specs.Prelude.{unwrap_or}
-use Rattle.rb_money.specs.Settings.{Settings, IsConfigured}
-use Rattle.rb_money.specs.Amounts.{cents}
-use Rattle.rb_money.specs.declared.place.Place.{Place}
-use Rattle.rb_money.specs.declared.place.TheConstants.Place.{NOWHERE}
-use Rattle.rb_shadow.specs.declared.shadow.Shadow.{Shadow}
-use Rattle.rb_shadow.specs.Operations.{bal}
-use Rattle.rb_shadow.specs.Operations.{other_of}
+use Rattle.rb_ledger.proofs.Words.{◌≡◌, ℕ, true, false, List, [], ◌∷◌, ◌++◌, ap, sym, ◌∙◌, arith, Some, None, pos, ◌==◌}
+use Rattle.rb_ledger.proofs.Words.{Option, option_map, unwrap_or, Settings, IsConfigured, cents, Place, NOWHERE, Shadow}
+use Rattle.rb_ledger.proofs.Words.{bal, other_of, equal, number_sound, IsValid}
 use Rattle.rb_shadow.proofs.Public.Members
-use Rattle.rb_money.proofs.Public.Tests.{equal, number_sound}
-use Rattle.rb_ledger.specs.Valid.{IsValid}
 use Rattle.rb_ledger.proofs.Public.Legal
 use Rattle.rb_ledger.proofs.Others
 

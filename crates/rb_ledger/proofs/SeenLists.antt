@@ -1,14 +1,6 @@
 -- A ledger's parts, for the list that its clients see.
-use Rattle.std.proofs.Common.{◌≡◌, ℕ, List}
-use Rattle.std.proofs.Common.{subst, ap, sym, ◌∙◌}
-use Rattle.rb_money.specs.Settings.{Settings}
-use Rattle.rb_shadow.specs.declared.shadow.Shadow.{Shadow}
-use Rattle.rb_ledger.specs.declared.marks.Links.{Links}
-use Rattle.rb_ledger.specs.declared.index.Index.{Index}
-use Rattle.rb_ledger.specs.declared.checkpoints.Checkpoints.{Checkpoints}
-use Rattle.rb_ledger.specs.Book.{Book, IsClocked}
-use Rattle.rb_ledger.specs.Index.{AreHeads, AreIndexRows, AreLinks, IsIndex}
-use Rattle.rb_ledger.specs.Checkpoints.{AreCheckpoints}
+use Rattle.rb_ledger.proofs.Words.{◌≡◌, ℕ, List, subst, ap, sym, ◌∙◌, Settings, Shadow, Links, Index, Checkpoints, Book}
+use Rattle.rb_ledger.proofs.Words.{IsClocked, AreHeads, AreIndexRows, AreLinks, IsIndex, AreCheckpoints}
 
 -- the index of the list that is seen
 pub seen : (us : List Shadow) (n : ℕ) (x : Index) (b : Book) → IsIndex x.config us x →

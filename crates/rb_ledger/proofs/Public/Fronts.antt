@@ -1,10 +1,7 @@
 -- Elements of a prefix of a list.
-use Rattle.std.proofs.Common.{◌≡◌, ℕ, suc, ◌+◌, ◌<◌, ◌≤◌, List, [], ◌∷◌, ◌++◌, length, take, drop, ap, ◌∙◌, add-one}
-use Rattle.std.proofs.Common.{zero, refl, arith, Some}
-use Rattle.std.specs.Prelude.{slice_get}
-use Rattle.std.proofs.lemmas.Option.{slice_get_within, get_or_from_slice_get}
-use Rattle.std.proofs.Math.Seq.{take-suc}
-use Rattle.rb_shadow.specs.declared.shadow.Shadow.{Shadow}
+use Rattle.rb_ledger.proofs.Words.{◌≡◌, ℕ, suc, ◌+◌, ◌<◌, List, [], ◌∷◌, ◌++◌, length, take, drop, ap, ◌∙◌, add-one}
+use Rattle.rb_ledger.proofs.Words.{zero, refl, arith, Some, slice_get, slice_get_within, get_or_from_slice_get}
+use Rattle.rb_ledger.proofs.Words.{take-suc, Shadow}
 
 -- a prefix with the next operation is the next prefix
 pub one_more : (us : List Shadow) (i : ℕ) (u : Shadow) → slice_get us i ≡ Some u → take (i + 1) us ≡ take i us ++ u ∷ []
@@ -30,10 +27,3 @@ get_take zero xs i z e = cc
 get_take (suc n) [] i z e = cc
 get_take (suc n) (x ∷ xs) zero z e = (omega arith, e)
 get_take (suc n) (x ∷ xs) (suc i) z e = let r : (i < n) × (slice_get xs i ≡ Some z) = get_take n xs i z e in (omega arith, r.1)
-
--- a prefix of a prefix
-pub take_take : {X : Type 0} (xs : List X) (i n : ℕ) → i ≤ n → take i (take n xs) ≡ take i xs
-take_take xs zero n low = refl
-take_take xs (suc i) zero low = absurd (omega arith)
-take_take [] (suc i) (suc n) low = refl
-take_take (x ∷ xs) (suc i) (suc n) low = ap (λ ys. x ∷ ys) (take_take xs i n (omega arith))

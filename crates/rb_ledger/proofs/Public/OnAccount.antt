@@ -1,20 +1,10 @@
 -- The entries on an account, and the balance as of the last of them.
-use Rattle.std.proofs.Common.{◌≡◌, ℕ, zero, suc, ◌+◌, ◌-◌, ◌<◌, ◌≤◌, true, false, ◌||◌, List, [], ◌∷◌, ◌++◌, length, take, refl, ap, sym}
-use Rattle.std.proofs.Common.{◌∙◌, subst, arith, ◌⊎◌, inl, inr, Some, None}
-use Rattle.std.specs.Prelude.{slice_get, pos, ◌==◌, Option, option_to_list}
-use Rattle.std.specs.List.{list_any}
-use Rattle.std.proofs.lemmas.Int.{ints}
-use Rattle.std.proofs.lemmas.List.{take-append-le}
-use Rattle.std.proofs.lemmas.Option.{slice_get_within}
-use Rattle.rb_money.specs.Settings.{Settings}
-use Rattle.rb_money.specs.declared.place.Place.{Place}
-use Rattle.rb_money.proofs.Public.Tests.{equal, number_sound, same_place}
-use Rattle.rb_shadow.specs.declared.shadow.Shadow.{Shadow}
-use Rattle.rb_shadow.specs.Operations.{bal, is_on, other_of}
+use Rattle.rb_ledger.proofs.Words.{◌≡◌, ℕ, zero, suc, ◌+◌, ◌-◌, ◌<◌, ◌≤◌, true, false, ◌||◌, List, [], ◌∷◌, ◌++◌}
+use Rattle.rb_ledger.proofs.Words.{length, take, refl, ap, sym, ◌∙◌, subst, arith, ◌⊎◌, inl, inr, Some, None, slice_get}
+use Rattle.rb_ledger.proofs.Words.{pos, ◌==◌, Option, option_to_list, list_any, ints, take-append-le, slice_get_within}
+use Rattle.rb_ledger.proofs.Words.{Settings, Place, equal, number_sound, same_place, Shadow, bal, is_on, other_of}
+use Rattle.rb_ledger.proofs.Words.{IsValid, change, IsOn, IsNoneAfter, IsLast, take-take}
 use Rattle.rb_shadow.proofs.Public.Members
-use Rattle.rb_ledger.specs.Valid.{IsValid}
-use Rattle.rb_ledger.specs.Changes.{change}
-use Rattle.rb_ledger.specs.OnAccount.{IsOn, IsNoneAfter, IsLast}
 use Rattle.rb_ledger.proofs.Public.Fronts
 use Rattle.rb_ledger.proofs.Public.Pushes
 use Rattle.rb_ledger.proofs.Moves
@@ -29,7 +19,7 @@ element (u ∷ us) (suc i) h = element us i (omega arith)
 
 -- whether an entry is on an account doesn't depend on what follows it
 pub on_front_same : (us : List Shadow) (i n : ℕ) (u : Shadow) (a : Place) → i ≤ n → is_on (take i (take n us)) u a ≡ is_on (take i us) u a
-on_front_same us i n u a low = ap (λ vs. is_on vs u a) (Fronts.take_take us i n low)
+on_front_same us i n u a low = ap (λ vs. is_on vs u a) (take-take i n us low)
 
 -- whether an operation is on an account does not depend on what comes after it
 pub on_push_same : (us : List Shadow) (h : Shadow) (i : ℕ) (u : Shadow) (a : Place) → i ≤ length us →
@@ -55,11 +45,7 @@ on_sides us u a e = at (other_of us u.kind) e
 
 -- and that it is on both
 pub on_own : (us : List Shadow) (u : Shadow) (a : Place) → u.account.0 ≡ a.0 → is_on us u a ≡ true
-on_own us u a e = at (other_of us u.kind)
-  where
-    at : (o : Option Place) → list_any (λ (p : Place). p.0 == a.0) (u.account ∷ option_to_list o) ≡ true
-    at None = ap (λ b. b || false) (equal _ _ e)
-    at (Some b) = ap (λ c. c || ((b.0 == a.0) || false)) (equal _ _ e)
+on_own us u a e = ap (λ b. b || list_any (λ (p : Place). p.0 == a.0) (option_to_list (other_of us u.kind))) (equal _ _ e)
 
 -- an operation is on its second account
 pub on_other : (us : List Shadow) (u : Shadow) (a : Place) → other_of us u.kind ≡ Some a → is_on us u a ≡ true

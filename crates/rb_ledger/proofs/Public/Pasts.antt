@@ -1,26 +1,12 @@
 -- Operations of which each follows a valid list of just its past: facts that hold at every list with more of them.
-use Rattle.rb_money.specs.declared.refusal.Refusal.TheVariants.{BadMessage}
-use Rattle.rb_money.specs.Refusals.{unless}
-use Rattle.std.proofs.Common.{◌≡◌, true, false, List, [], ◌∷◌, ◌++◌, ◌||◌, refl, ap, sym, ◌∙◌, subst}
-use Rattle.std.specs.Prelude.{pos, ◌≤ℤ◌, option_and_then, Option, Some, None}
-use Rattle.rb_money.specs.Settings.{Settings}
-use Rattle.rb_money.specs.declared.place.Place.{Place}
-use Rattle.rb_shadow.specs.declared.op_name.OpName.{OpName}
-use Rattle.rb_shadow.specs.declared.op_name.OpName.TheVariants.{Blue, Red}
-use Rattle.rb_shadow.specs.declared.kind.Kind.{Kind}
-use Rattle.rb_shadow.specs.declared.kind.Kind.TheVariants.{Deposit, Withdraw, Cancel, Transfer}
-use Rattle.rb_shadow.specs.declared.colour.Colour.{Colour}
-use Rattle.rb_shadow.specs.declared.colour.Colour.TheVariants.{Red as RedColour}
-use Rattle.rb_shadow.specs.declared.shadow.Shadow.{Shadow}
-use Rattle.rb_shadow.specs.Operations.{Among, AreSame, EachEntry, IsUnique, IsWithin, Precedes, bal, cancels, colour_in, colour_of, is_red}
-use Rattle.rb_shadow.specs.Operations.{kind_in, names, past, shown_colour, target_of}
-use Rattle.rb_shadow.specs.Laws.{IsPart}
-use Rattle.rb_shadow.specs.Sound.{IsSound}
+use Rattle.rb_ledger.proofs.Words.{BadMessage, unless, ◌≡◌, true, false, List, [], ◌∷◌, ◌++◌, ◌||◌, refl, ap, sym, ◌∙◌}
+use Rattle.rb_ledger.proofs.Words.{subst, pos, ◌≤ℤ◌, option_and_then, Option, Some, None, Settings, Place, OpName, Blue}
+use Rattle.rb_ledger.proofs.Words.{Red, Kind, Deposit, Withdraw, Cancel, Transfer, Colour, RedColour, Shadow, Among}
+use Rattle.rb_ledger.proofs.Words.{AreSame, EachEntry, IsUnique, IsWithin, Precedes, bal, cancels, colour_in, colour_of}
+use Rattle.rb_ledger.proofs.Words.{is_red, kind_in, names, past, shown_colour, target_of, IsPart, IsSound, IsCovered}
+use Rattle.rb_ledger.proofs.Words.{adds, takes, HasTarget, IsValid, refusal_of_sound}
 use Rattle.rb_shadow.proofs.Public.Members
 use Rattle.rb_shadow.proofs.Public.Balances
-use Rattle.rb_shadow.proofs.Public.Covered.{IsCovered, adds, takes}
-use Rattle.rb_ledger.specs.Valid.{HasTarget, IsValid}
-use Rattle.rb_ledger.specs.Checks.{refusal_of_sound}
 use Rattle.rb_ledger.proofs.Public.Legal
 use Rattle.rb_ledger.proofs.Public.Pushes
 

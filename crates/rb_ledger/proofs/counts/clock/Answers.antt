@@ -1,6 +1,4 @@
-use Rattle.std.proofs.Common.{ap, arith, sym, ◌∙◌, ◌-◌, length, slice_set}
-use Rattle.rb_shadow.specs.Operations.{number_of, row_of}
-use Rattle.rb_ledger.specs.OperationLists.{clock_of_counts}
+use Rattle.rb_ledger.proofs.Words.{ap, arith, sym, ◌∙◌, ◌-◌, length, slice_set, number_of, row_of, clock_of_counts}
 use Rattle.rb_ledger.proofs.OperationTables
 use Rattle.rb_ledger.proofs.counts.clock.Goals as goal
 

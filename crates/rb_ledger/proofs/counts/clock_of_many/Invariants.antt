@@ -1,6 +1,4 @@
-use Rattle.std.proofs.Common.{◌≡◌, ◌++◌, ◌-◌, take, drop}
-use Rattle.std.specs.Prelude.{replicate}
-use Rattle.rb_money.specs.declared.limits.TheConstants.{MOST_SITES}
+use Rattle.rb_ledger.proofs.Words.{◌≡◌, ◌++◌, ◌-◌, take, drop, replicate, MOST_SITES}
 use Rattle.rb_ledger.proofs.counts.clock_of_many.Given as goal
 
 -- the entries so far, and zeros

@@ -1,5 +1,4 @@
-use Rattle.std.proofs.Common.{◌≡◌, ◌<◌, ◌+◌, ◌∷◌, ℕ, true, get_or}
-use Rattle.rb_ledger.specs.ClockLists.{kept_step, step_added}
+use Rattle.rb_ledger.proofs.Words.{◌≡◌, ◌<◌, ◌+◌, ◌∷◌, ℕ, true, get_or, kept_step, step_added}
 use Rattle.rb_ledger.proofs.counts.fits.Given as goal
 
 -- if all were near so far, the base with the steps added gives the counts so far

@@ -1,5 +1,4 @@
-use Rattle.std.proofs.Common.{◌≡◌, ◌-◌, ◌∷◌, ap, ◌∙◌, arith, length, take, suc}
-use Rattle.std.specs.Prelude.{slice_set}
+use Rattle.rb_ledger.proofs.Words.{◌≡◌, ◌-◌, ◌∷◌, ap, ◌∙◌, arith, length, take, suc, slice_set}
 use Rattle.rb_ledger.proofs.ClockTables
 use Rattle.rb_ledger.proofs.counts.is_same_of_many.Goals as goal
 

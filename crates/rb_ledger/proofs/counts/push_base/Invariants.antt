@@ -1,5 +1,4 @@
-use Rattle.std.proofs.Common.{◌≡◌, ◌++◌, ◌+◌, ◌≤◌, take, length, vec_capacity, vec_len}
-use Rattle.rb_ledger.specs.ClockLists.{base_of}
+use Rattle.rb_ledger.proofs.Words.{◌≡◌, ◌++◌, ◌+◌, ◌≤◌, take, length, vec_capacity, vec_len, base_of}
 use Rattle.rb_ledger.proofs.counts.push_base.Given as goal
 
 -- the base so far, and the spare capacity for the rest of it

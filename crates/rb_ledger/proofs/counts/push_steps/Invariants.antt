@@ -1,6 +1,4 @@
-use Rattle.std.proofs.Common.{◌≡◌, ◌<◌, ◌+◌, ◌∷◌, ℕ, get_or, length}
-use Rattle.rb_money.specs.declared.limits.TheConstants.{MOST_SITES}
-use Rattle.rb_ledger.specs.ClockLists.{kept_step}
+use Rattle.rb_ledger.proofs.Words.{◌≡◌, ◌<◌, ◌+◌, ◌∷◌, ℕ, get_or, length, MOST_SITES, kept_step}
 use Rattle.rb_ledger.proofs.counts.push_steps.Given as goal
 
 -- the steps so far

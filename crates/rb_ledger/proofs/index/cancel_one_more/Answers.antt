@@ -1,7 +1,4 @@
-use Rattle.std.proofs.Common.{◌-◌, ◌<◌, length, ap, arith}
-use Rattle.std.proofs.lemmas.List.{get_or_read}
-use Rattle.rb_ledger.specs.declared.marks.Cancels.{Cancels}
-use Rattle.rb_ledger.specs.Index.{no_cancels}
+use Rattle.rb_ledger.proofs.Words.{◌-◌, ◌<◌, length, ap, arith, get_or_read, Cancels, no_cancels}
 use Rattle.rb_ledger.proofs.ReadItems
 use Rattle.rb_ledger.proofs.index.cancel_one_more.Goals as goal
 

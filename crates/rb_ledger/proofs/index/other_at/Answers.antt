@@ -1,5 +1,4 @@
-use Rattle.std.proofs.Common.{◌≡◌, ◌<◌, ◌∙◌, length, sym, subst, refl, arith}
-use Rattle.rb_shadow.specs.Operations.{target_of}
+use Rattle.rb_ledger.proofs.Words.{◌≡◌, ◌<◌, ◌∙◌, length, sym, subst, refl, arith, target_of}
 use Rattle.rb_ledger.proofs.FoundNames
 use Rattle.rb_ledger.proofs.Public.OnAccount
 use Rattle.rb_ledger.proofs.index.other_at.Goals as goal

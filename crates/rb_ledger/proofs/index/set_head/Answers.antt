@@ -1,5 +1,4 @@
-use Rattle.std.proofs.Common.{sym, arith}
-use Rattle.std.proofs.lemmas.List.{set_past}
+use Rattle.rb_ledger.proofs.Words.{sym, arith, set_past}
 use Rattle.rb_ledger.proofs.index.set_head.Goals as goal
 
 -- if there is no such account

@@ -1,6 +1,5 @@
-use Rattle.std.proofs.Common.{◌≡◌, ℕ, ◌<◌, List, [], ◌∷◌, ◌++◌, ◌⊎◌, inl, inr, length, ap, sym, ◌∙◌, arith, Some}
-use Rattle.std.specs.Prelude.{slice_get, slice_index}
-use Rattle.rb_ledger.specs.declared.marks.Head.{Head}
+use Rattle.rb_ledger.proofs.Words.{◌≡◌, ℕ, ◌<◌, List, [], ◌∷◌, ◌++◌, ◌⊎◌, inl, inr, length, ap, sym, ◌∙◌, arith, Some}
+use Rattle.rb_ledger.proofs.Words.{slice_get, slice_index, Head}
 use Rattle.rb_ledger.proofs.Indexed
 use Rattle.rb_ledger.proofs.IndexLists
 use Rattle.rb_ledger.proofs.index.starting_heads.Goals as goal

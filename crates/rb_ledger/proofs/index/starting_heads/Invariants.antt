@@ -1,6 +1,4 @@
-use Rattle.std.proofs.Common.{◌≡◌, ℕ, vec_len, Some}
-use Rattle.std.specs.Prelude.{slice_get, slice_index}
-use Rattle.rb_ledger.specs.declared.marks.Head.{Head}
+use Rattle.rb_ledger.proofs.Words.{◌≡◌, ℕ, vec_len, Some, slice_get, slice_index, Head}
 use Rattle.rb_ledger.proofs.index.starting_heads.Given as goal
 
 abbrev pub invariant-loop-place : goal.invariant-loop-place

@@ -1,5 +1,4 @@
-use Rattle.std.proofs.Common.{◌≡◌, ◌++◌, map, take, vec_capacity}
-use Rattle.rb_ledger.specs.declared.marks.Head.{Head}
+use Rattle.rb_ledger.proofs.Words.{◌≡◌, ◌++◌, map, take, vec_capacity, Head}
 use Rattle.rb_ledger.proofs.checkpoints.Checkpoints.push_row.Given as goal
 
 abbrev pub invariant-loop-head : goal.invariant-loop-head

@@ -1,10 +1,6 @@
-use Rattle.std.proofs.Common.{◌≡◌, ◌+◌, ◌-◌, ◌*◌, ◌<◌, ◌≤◌, drop, length, take, Some}
-use Rattle.std.proofs.Common.{refl, ap, sym, ◌∙◌, arith, length-take-le}
-use Rattle.std.specs.Prelude.{slice_get}
-use Rattle.rb_ledger.specs.ClockLists.{ClockTable, sums}
+use Rattle.rb_ledger.proofs.Words.{◌≡◌, ◌+◌, ◌-◌, ◌*◌, ◌<◌, ◌≤◌, drop, length, take, Some, refl, ap, sym, ◌∙◌, arith}
+use Rattle.rb_ledger.proofs.Words.{length-take-le, slice_get, ClockTable, sums, length-drop, slice_get_read}
 use Rattle.rb_ledger.proofs.ClockTables
-use Rattle.std.proofs.lemmas.List.{length-drop}
-use Rattle.std.proofs.lemmas.Option.{slice_get_read}
 use Rattle.rb_ledger.proofs.clock_list.ClockList.at_of.Goals.{After-self, After-index, After-deref-2}
 use Rattle.rb_ledger.proofs.clock_list.ClockList.at_of.Goals as goal
 

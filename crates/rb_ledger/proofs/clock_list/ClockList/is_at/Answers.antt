@@ -1,7 +1,5 @@
-use Rattle.std.proofs.Common.{◌≡◌, ◌+◌, ◌-◌, ◌∷◌, [], List, Some, ℕ, ap, ◌∙◌, arith, get_or, length, take}
-use Rattle.std.specs.Prelude.{slice_get, slice_set}
-use Rattle.std.proofs.lemmas.Option.{get_or_from_slice_get}
-use Rattle.rb_shadow.specs.Operations.{row_of}
+use Rattle.rb_ledger.proofs.Words.{◌≡◌, ◌+◌, ◌-◌, ◌∷◌, [], List, Some, ℕ, ap, ◌∙◌, arith, get_or, length, take}
+use Rattle.rb_ledger.proofs.Words.{slice_get, slice_set, get_or_from_slice_get, row_of}
 use Rattle.rb_ledger.proofs.clock_list.ClockList.is_at.Goals as goal
 
 -- a clock is the same but for an entry, if what is read of it is

@@ -1,9 +1,5 @@
-use Rattle.std.proofs.Common.{◌≡◌, inl, inr, ◌+◌, ◌-◌, [], ap, sym, ◌∙◌, arith, get_or, length, refl}
-use Rattle.std.specs.Prelude.{slice_set}
-use Rattle.std.proofs.lemmas.List.{length_push}
-use Rattle.rb_shadow.specs.Operations.{number_of, row_of}
-use Rattle.rb_ledger.specs.ClockLists.{ClockTable}
-use Rattle.rb_ledger.specs.OperationLists.{clock_of_counts}
+use Rattle.rb_ledger.proofs.Words.{◌≡◌, inl, inr, ◌+◌, ◌-◌, [], ap, sym, ◌∙◌, arith, get_or, length, refl, slice_set}
+use Rattle.rb_ledger.proofs.Words.{length_push, number_of, row_of, ClockTable, clock_of_counts}
 use Rattle.rb_ledger.proofs.ClockTables
 use Rattle.rb_ledger.proofs.OperationTables
 use Rattle.rb_ledger.proofs.clock_list.ClockList.keep.Goals.{After-len-count}

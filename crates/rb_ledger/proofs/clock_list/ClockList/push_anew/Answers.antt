@@ -1,7 +1,5 @@
-use Rattle.std.proofs.Common.{◌≡◌, ◌+◌, ◌-◌, ◌<◌, ◌≤◌, [], ◌∷◌, ◌++◌, length, take, drop}
-use Rattle.std.proofs.Common.{ap, ◌∙◌, arith, length-take-le, mul-le-mul_right}
-use Rattle.std.proofs.lemmas.List.{take_all}
-use Rattle.rb_ledger.specs.ClockLists.{ClockTable, clocks_of}
+use Rattle.rb_ledger.proofs.Words.{◌≡◌, ◌+◌, ◌-◌, ◌<◌, ◌≤◌, [], ◌∷◌, ◌++◌, length, take, drop, ap, ◌∙◌, arith}
+use Rattle.rb_ledger.proofs.Words.{length-take-le, mul-le-mul_right, take_all, ClockTable, clocks_of}
 use Rattle.rb_ledger.proofs.ClockTables
 use Rattle.rb_ledger.proofs.clock_list.ClockList.push_anew.Goals.{After-self, After-push_reserved}
 use Rattle.rb_ledger.proofs.clock_list.ClockList.push_anew.Goals as goal

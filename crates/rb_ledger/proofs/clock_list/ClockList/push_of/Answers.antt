@@ -1,7 +1,5 @@
-use Rattle.std.proofs.Common.{◌≡◌, suc, ◌+◌, ◌-◌, ◌<◌, ◌≤◌, [], ◌∷◌, ◌++◌, length, take, drop, Some}
-use Rattle.std.proofs.Common.{refl, ap, sym, ◌∙◌, arith, mul-le-mul_right}
-use Rattle.std.specs.Prelude.{slice_get}
-use Rattle.rb_ledger.specs.ClockLists.{ClockTable, clocks_of}
+use Rattle.rb_ledger.proofs.Words.{◌≡◌, suc, ◌+◌, ◌-◌, ◌<◌, ◌≤◌, [], ◌∷◌, ◌++◌, length, take, drop, Some, refl, ap, sym}
+use Rattle.rb_ledger.proofs.Words.{◌∙◌, arith, mul-le-mul_right, slice_get, ClockTable, clocks_of}
 use Rattle.rb_ledger.proofs.ClockTables
 use Rattle.rb_ledger.proofs.clock_list.ClockList.push_of.Goals.{After-self, In-Some, After-push_reserved}
 use Rattle.rb_ledger.proofs.clock_list.ClockList.push_of.Goals as goal

@@ -1,5 +1,4 @@
-use Rattle.std.proofs.Common.{◌≡◌, ◌+◌, ◌*◌, ap, ◌∙◌, arith, length, take}
-use Rattle.rb_ledger.specs.ClockLists.{ClockTable}
+use Rattle.rb_ledger.proofs.Words.{◌≡◌, ◌+◌, ◌*◌, ap, ◌∙◌, arith, length, take, ClockTable}
 use Rattle.rb_ledger.proofs.ClockTables
 use Rattle.rb_ledger.proofs.clock_list.ClockList.truncate.Goals.{After-truncate-3}
 use Rattle.rb_ledger.proofs.clock_list.ClockList.truncate.Goals as goal

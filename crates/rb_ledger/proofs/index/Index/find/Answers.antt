@@ -1,6 +1,4 @@
-use Rattle.std.proofs.Common.{◌≡◌, ◌+◌, get_or, [], sym, ap, ◌∙◌, arith}
-use Rattle.std.specs.Prelude.{slice_get}
-use Rattle.rb_shadow.specs.Operations.{number_of}
+use Rattle.rb_ledger.proofs.Words.{◌≡◌, ◌+◌, get_or, [], sym, ap, ◌∙◌, arith, slice_get, number_of}
 use Rattle.rb_ledger.proofs.ReadItems
 use Rattle.rb_ledger.proofs.RowFacts
 use Rattle.rb_ledger.proofs.index.Index.find.Goals as goal

@@ -1,8 +1,4 @@
-use Rattle.std.proofs.Common.{ap, sym, ◌∙◌}
-use Rattle.std.specs.Prelude.{◌==◌}
-use Rattle.rb_money.specs.declared.place.Place.{Place}
-use Rattle.rb_shadow.specs.declared.kind.Kind.{Kind}
-use Rattle.rb_shadow.specs.Operations.{other_of}
+use Rattle.rb_ledger.proofs.Words.{ap, sym, ◌∙◌, ◌==◌, Place, Kind, other_of}
 use Rattle.rb_ledger.proofs.LinkReads
 use Rattle.rb_ledger.proofs.index.Index.is_on.Goals as goal
 

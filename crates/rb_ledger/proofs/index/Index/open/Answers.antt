@@ -1,8 +1,5 @@
-use Rattle.std.proofs.Common.{[], ◌+◌, ap, ◌∙◌, refl, subst}
-use Rattle.rb_ledger.specs.declared.index.Index.{Index}
-use Rattle.rb_ledger.specs.Index.{IsIndex}
+use Rattle.rb_ledger.proofs.Words.{[], ◌+◌, ap, ◌∙◌, refl, subst, Index, IsIndex, IfOk-from_err}
 use Rattle.rb_ledger.proofs.Indexed
-use Rattle.std.proofs.lemmas.Result.{IfOk-from_err}
 use Rattle.rb_ledger.proofs.index.Index.open.Goals as goal
 
 pub returns-clause-index : goal.returns-clause-index

@@ -1,11 +1,5 @@
-use Rattle.std.proofs.Common.{◌≡◌, get_or, ap, ◌∙◌, arith}
-use Rattle.std.specs.Prelude.{option_map, unwrap_or}
-use Rattle.rb_money.specs.Amounts.{cents}
-use Rattle.rb_money.specs.declared.place.Place.{Place}
-use Rattle.rb_money.specs.declared.place.TheConstants.Place.{NOWHERE}
-use Rattle.rb_shadow.specs.Operations.{target_of, other_of, bal}
-use Rattle.rb_ledger.specs.Index.{no_head}
-use Rattle.rb_ledger.specs.Valid.{position_of}
+use Rattle.rb_ledger.proofs.Words.{◌≡◌, get_or, ap, ◌∙◌, arith, option_map, unwrap_or, cents, Place, NOWHERE, target_of}
+use Rattle.rb_ledger.proofs.Words.{other_of, bal, no_head, position_of}
 use Rattle.rb_ledger.proofs.HeadReads
 use Rattle.rb_ledger.proofs.Public.Legal
 use Rattle.rb_ledger.proofs.Lengths

@@ -1,12 +1,7 @@
-use Rattle.std.proofs.Common.{◌≡◌, ◌<◌, ◌≤◌, ◌-◌, ◌∷◌, [], List, length, take, get_or, set, subst, sym, ap, ◌∙◌, refl, arith}
-use Rattle.std.proofs.Common.{length-take-le}
-use Rattle.std.proofs.lemmas.List.{length_push}
-use Rattle.rb_shadow.specs.Operations.{HasEntry, number_of, entry_of, target_of, row_of}
-use Rattle.rb_undo.specs.declared.parts.UndoParts.{UndoParts}
-use Rattle.rb_vclock.specs.Clocks.{lowered}
-use Rattle.rb_ledger.specs.declared.marks.Cancels.{Cancels}
-use Rattle.rb_ledger.specs.Valid.{position_of}
-use Rattle.rb_ledger.specs.Index.{changed_at, one_less, no_cancels, heads_at}
+use Rattle.rb_ledger.proofs.Words.{◌≡◌, ◌<◌, ◌≤◌, ◌-◌, ◌∷◌, [], List, length, take, get_or, set, subst, sym, ap, ◌∙◌}
+use Rattle.rb_ledger.proofs.Words.{refl, arith, length-take-le, length_push, HasEntry, number_of, entry_of, target_of}
+use Rattle.rb_ledger.proofs.Words.{row_of, UndoParts, lowered, Cancels, position_of, changed_at, one_less, no_cancels}
+use Rattle.rb_ledger.proofs.Words.{heads_at}
 use Rattle.rb_ledger.proofs.CancelReads
 use Rattle.rb_ledger.proofs.CancelFacts
 use Rattle.rb_ledger.proofs.Indexed

@@ -1,7 +1,5 @@
-use Rattle.std.proofs.Common.{◌++◌, ◌∷◌, [], get_or, set, ap, ◌∙◌, refl, arith}
-use Rattle.rb_shadow.specs.Operations.{row_of}
-use Rattle.rb_ledger.specs.Index.{changed_at, one_more, no_cancels, heads_at}
-use Rattle.rb_undo.specs.declared.parts.UndoParts.{UndoParts}
+use Rattle.rb_ledger.proofs.Words.{◌++◌, ◌∷◌, [], get_or, set, ap, ◌∙◌, refl, arith, row_of, changed_at, one_more}
+use Rattle.rb_ledger.proofs.Words.{no_cancels, heads_at, UndoParts}
 use Rattle.rb_ledger.proofs.CancelReads
 use Rattle.rb_ledger.proofs.Indexed
 use Rattle.rb_ledger.proofs.Public.Legal

@@ -1,6 +1,4 @@
-use Rattle.std.proofs.Common.{ap, ◌∙◌}
-use Rattle.std.specs.Prelude.{unwrap_or}
-use Rattle.rb_ledger.specs.Valid.{position_of}
+use Rattle.rb_ledger.proofs.Words.{ap, ◌∙◌, unwrap_or, position_of}
 use Rattle.rb_ledger.proofs.Overdraws
 use Rattle.rb_ledger.proofs.index.Index.target.Goals as goal
 

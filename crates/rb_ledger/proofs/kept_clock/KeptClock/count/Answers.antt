@@ -1,5 +1,4 @@
-use Rattle.std.proofs.Common.{◌<◌, ap, sym, ◌∙◌, arith, get_or, length}
-use Rattle.rb_ledger.specs.ClockLists.{step_added}
+use Rattle.rb_ledger.proofs.Words.{◌<◌, ap, sym, ◌∙◌, arith, get_or, length, step_added}
 use Rattle.rb_ledger.proofs.ClockTables
 use Rattle.rb_ledger.proofs.kept_clock.KeptClock.count.Goals as goal
 

@@ -1,18 +1,12 @@
-use Rattle.std.proofs.Common.{true, false, refl, ◌+◌, ◌≡◌, ◌≤◌, ◌-◌, length, ◌++◌, ◌∷◌, [], subst, sym, ap, ◌∙◌, arith}
-use Rattle.std.proofs.lemmas.List.{length_push}
-use Rattle.rb_money.specs.Settings.{IsConfigured, Settings}
-use Rattle.rb_ledger.specs.Book.{Book}
-use Rattle.rb_undo.specs.declared.parts.UndoParts.{UndoParts}
-use Rattle.rb_ledger.specs.Index.{IsIndex, IsLinked, AreHeads, all_cancelled}
-use Rattle.rb_ledger.specs.LinkLists.{marked_at}
-use Rattle.rb_shadow.specs.Operations.{target_of}
+use Rattle.rb_ledger.proofs.Words.{true, false, refl, ◌+◌, ◌≡◌, ◌≤◌, length, ◌++◌, ◌∷◌, [], subst, sym, ap, ◌∙◌, arith}
+use Rattle.rb_ledger.proofs.Words.{length_push, IsConfigured, Settings, Book, UndoParts, IsIndex, IsLinked, AreHeads}
+use Rattle.rb_ledger.proofs.Words.{all_cancelled, marked_at, target_of, IsValid, parts_of, position_of}
 use Rattle.rb_ledger.proofs.CancelFacts
 use Rattle.rb_ledger.proofs.CancelMarks
 use Rattle.rb_ledger.proofs.ChainFacts
 use Rattle.rb_ledger.proofs.CheckpointFacts
 use Rattle.rb_ledger.proofs.Indexed
 use Rattle.rb_ledger.proofs.Lengths
-use Rattle.rb_ledger.specs.Valid.{IsValid, parts_of, position_of}
 use Rattle.rb_shadow.proofs.Public.SoundFacts
 use Rattle.rb_ledger.proofs.Public.Legal
 use Rattle.rb_ledger.proofs.OperationTables
@@ -26,8 +20,6 @@ pub invariant_of-self : goal.invariant_of-self
 invariant_of-self c =
     let links = subst (λ (b : Book). IsLinked b.settings b.entries c.args.shadow.now c.links_of-links.result) (sym c.self.view_is)
     c.links_of-links.ensures in
-    let free : c.self.inside.index.rows.limit - length c.self.inside.entries.items ≡ c.make_room.new.self.room =
-    ap (λ (b : Book). b.room) c.self.view_is in
     let longer = ap length c.push-3.ensures.items ∙ length_push c.self.inside.entries.items c.args.shadow.now in
     let room = c.self.invariant.room in
     let target : c.parts-parts.result.target ≡ position_of c.self.inside.entries.items (target_of c.args.shadow.now.kind) =
@@ -57,7 +49,7 @@ invariant_of-self c =
           c.push-3.ensures.items refl refl refl;
       sites = omega (arith, c.push-3.ensures.sites, c.self.invariant.sites, ap (λ (s : Settings). s.sites) c.push.ensures.index.config);
       room = record {
-        within = omega (arith, longer, c.push.ensures.limit, free, c.in_ok-make_room.ensures.ok);
+        within = omega (arith, longer, c.push.ensures.limit, ap (λ (b : Book). b.room) c.self.view_is, c.in_ok-make_room.ensures.ok);
         entries = omega (arith, c.push-3.ensures.limit, c.push.ensures.limit, room.entries);
         cancels = omega (arith, c.push.ensures.capacity, c.push.ensures.limit, room.cancels);
         links = omega (arith, c.push-2.ensures.limit, c.mark.ensures.limit, c.push.ensures.limit, room.links);
@@ -80,9 +72,7 @@ push-requires-clause-links c =
 
 pub push-requires-clause-rows : goal.push-requires-clause-rows
 push-requires-clause-rows c =
-    let free : c.self.inside.index.rows.limit - length c.self.inside.entries.items ≡ c.make_room.new.self.room =
-    ap (λ (b : Book). b.room) c.self.view_is in
-    omega (arith, ap length c.all-2.ensures, free, c.in_ok-make_room.ensures.ok)
+    omega (arith, ap length c.all-2.ensures, ap (λ (b : Book). b.room) c.self.view_is, c.in_ok-make_room.ensures.ok)
 
 pub returns-clause-settings : goal.returns-clause-settings
 returns-clause-settings c = c.push.ensures.index.config ∙ ap (λ (b : Book). b.settings) c.self.view_is ∙ c.in_ok-make_room.ensures.settings
@@ -118,11 +108,9 @@ push-requires-clause-parts c = c.parts-parts.ensures
 
 pub push-requires-2-clause-room : goal.push-requires-2-clause-room
 push-requires-2-clause-room c =
-    let free : c.self.inside.index.rows.limit - length c.self.inside.entries.items ≡ c.make_room.new.self.room =
-    ap (λ (b : Book). b.room) c.self.view_is in
     omega (
       arith,
-      free,
+      ap (λ (b : Book). b.room) c.self.view_is,
       c.in_ok-make_room.ensures.ok,
       c.self.invariant.room.links,
       c.mark.ensures.limit,
@@ -153,9 +141,7 @@ push-requires-3-clause-sites c =
 
 pub push-requires-3-clause-room : goal.push-requires-3-clause-room
 push-requires-3-clause-room c =
-    let free : c.self.inside.index.rows.limit - length c.self.inside.entries.items ≡ c.make_room.new.self.room =
-    ap (λ (b : Book). b.room) c.self.view_is in
-    omega (arith, free, c.in_ok-make_room.ensures.ok, c.self.invariant.room.entries)
+    omega (arith, ap (λ (b : Book). b.room) c.self.view_is, c.in_ok-make_room.ensures.ok, c.self.invariant.room.entries)
 
 pub push-requires-4-clause-there : goal.push-requires-4-clause-there
 push-requires-4-clause-there c = (c.self.inside.index.config, c.self.inside.entries.items, c.self.invariant.checkpoints)
@@ -184,13 +170,11 @@ push-requires-4-clause-count c =
 
 pub push-requires-4-clause-room : goal.push-requires-4-clause-room
 push-requires-4-clause-room c =
-    let free : c.self.inside.index.rows.limit - length c.self.inside.entries.items ≡ c.make_room.new.self.room =
-    ap (λ (b : Book). b.room) c.self.view_is in
     omega (
       arith,
       ap (λ (p : UndoParts). p.position) c.parts-parts.ensures,
       ap length c.all.ensures,
-      free,
+      ap (λ (b : Book). b.room) c.self.view_is,
       c.in_ok-make_room.ensures.ok,
       c.self.invariant.room.checkpoints,
     )
@@ -209,11 +193,9 @@ returns-clause-applied c = (
 
 pub returns-clause-room : goal.returns-clause-room
 returns-clause-room c = λ some.
-    let free : c.self.inside.index.rows.limit - length c.self.inside.entries.items ≡ c.make_room.new.self.room =
-    ap (λ (b : Book). b.room) c.self.view_is in
     omega (
       arith,
-      free,
+      ap (λ (b : Book). b.room) c.self.view_is,
       ap (λ (b : Book). b.room) (c.in_ok-make_room.ensures.room some),
       c.in_ok-make_room.ensures.ok,
       c.push.ensures.limit,

@@ -1,8 +1,4 @@
-use Rattle.std.proofs.Common.{length, ap, sym, ◌∙◌, refl, arith}
-use Rattle.std.specs.Prelude.{option_map}
-use Rattle.std.proofs.lemmas.Option.{slice_get_read}
-use Rattle.rb_shadow.specs.declared.shadow.Shadow.{Shadow}
-use Rattle.rb_shadow.specs.Operations.{cancel_count}
+use Rattle.rb_ledger.proofs.Words.{length, ap, sym, ◌∙◌, refl, arith, option_map, slice_get_read, Shadow, cancel_count}
 use Rattle.rb_ledger.proofs.CancelReads
 use Rattle.rb_ledger.proofs.ReadItems
 use Rattle.rb_ledger.proofs.SeenLists

@@ -1,6 +1,4 @@
-use Rattle.std.proofs.Common.{◌-◌, subst, sym, refl, take, arith}
-use Rattle.rb_ledger.specs.LinkLists.{link_at_place}
-use Rattle.rb_ledger.specs.OnAccount.{IsLast}
+use Rattle.rb_ledger.proofs.Words.{◌-◌, subst, sym, refl, take, arith, link_at_place, IsLast}
 use Rattle.rb_ledger.proofs.LinkReads
 use Rattle.rb_ledger.proofs.SeenLists
 use Rattle.rb_ledger.proofs.Public.OnAccount

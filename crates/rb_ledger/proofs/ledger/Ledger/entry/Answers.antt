@@ -1,7 +1,5 @@
-use Rattle.std.proofs.Common.{◌-◌, None, cond, ap, sym, ◌∙◌}
-use Rattle.std.specs.Prelude.{slice_get}
+use Rattle.rb_ledger.proofs.Words.{◌-◌, None, cond, ap, sym, ◌∙◌, slice_get, Book}
 use Rattle.rb_money.proofs.Public.Tests
-use Rattle.rb_ledger.specs.Book.{Book}
 use Rattle.rb_ledger.proofs.ledger.Ledger.entry.Goals as goal
 
 pub returns : goal.returns

@@ -1,7 +1,5 @@
-use Rattle.std.proofs.Common.{◌≡◌, ◌-◌, ◌≤◌, length, vec_len, ap, sym, ◌∙◌, refl, arith}
-use Rattle.std.proofs.lemmas.Result.{IfOk-from_err, on_err_weaker}
-use Rattle.rb_ledger.specs.Book.{Book}
-use Rattle.rb_ledger.specs.Index.{all_cancelled}
+use Rattle.rb_ledger.proofs.Words.{◌≡◌, ◌-◌, ◌≤◌, length, vec_len, ap, sym, ◌∙◌, refl, arith, IfOk-from_err}
+use Rattle.rb_ledger.proofs.Words.{on_err_weaker, Book, all_cancelled}
 use Rattle.rb_ledger.proofs.Bounds
 use Rattle.rb_ledger.proofs.CancelReads
 use Rattle.rb_ledger.proofs.ChainFacts
@@ -13,89 +11,57 @@ pub overflow_sub-additional : goal.overflow_sub-additional
 overflow_sub-additional c = omega (arith, c.len.ensures, c.requires, ap (λ (b : Book). length b.entries) c.self.view_is)
 
 pub invariant_of-self : goal.invariant_of-self
-invariant_of-self c =
-    let room = c.self.invariant.room in
-    record {
-      index = SeenLists.same_index _ _ _ _ c.self.inside.index c.self.invariant.index c.reserve.ensures.items refl refl refl refl refl;
-      links = ChainFacts.links_moved _ _ _ _ _ _ c.self.invariant.links refl c.reserve.ensures.items refl;
-      cancelled = c.self.invariant.cancelled ∙ ap all_cancelled (sym c.reserve.ensures.items);
-      checkpoints = CheckpointFacts.moved _ _ _ _ _ _ c.self.invariant.checkpoints refl c.reserve.ensures.items refl refl refl;
-      sites = omega (arith, c.reserve.ensures.sites, c.self.invariant.sites);
-      room = record {
-        within = omega (arith, ap length c.reserve.ensures.items, room.within);
-        entries = omega (arith, c.reserve.ensures.grows, room.entries);
-        cancels = room.cancels;
-        links = room.links;
-        checkpoints = room.checkpoints;
-      };
-    }
+invariant_of-self c = record {
+  index = SeenLists.same_index _ _ _ _ c.self.inside.index c.self.invariant.index c.reserve.ensures.items refl refl refl refl refl;
+  links = ChainFacts.links_moved _ _ _ _ _ _ c.self.invariant.links refl c.reserve.ensures.items refl;
+  cancelled = c.self.invariant.cancelled ∙ ap all_cancelled (sym c.reserve.ensures.items);
+  checkpoints = CheckpointFacts.moved _ _ _ _ _ _ c.self.invariant.checkpoints refl c.reserve.ensures.items refl refl refl;
+  sites = omega (arith, c.reserve.ensures.sites, c.self.invariant.sites);
+  room = grind arith;
+}
 
 pub returns-in_err-reserve-clause-ok : goal.returns-in_err-reserve-clause-ok
 returns-in_err-reserve-clause-ok c = IfOk-from_err c.from_residual.result _ c.from_residual.ensures.0
 
 pub invariant_of-self-in_err-reserve-2 : goal.invariant_of-self-in_err-reserve-2
-invariant_of-self-in_err-reserve-2 c =
-    let room = c.self.invariant.room in
-    record {
-      index = SeenLists.same_index _ _ _ _ c.self.inside.index c.self.invariant.index c.reserve.ensures.items refl refl refl refl refl;
-      links = ChainFacts.links_moved _ _ _ _ _ _ c.self.invariant.links refl c.reserve.ensures.items c.reserve-2.ensures.items;
-      cancelled = c.reserve-2.ensures.cancelled ∙ c.self.invariant.cancelled ∙ ap all_cancelled (sym c.reserve.ensures.items);
-      checkpoints = CheckpointFacts.moved _ _ _ _ _ _ c.self.invariant.checkpoints refl c.reserve.ensures.items refl refl refl;
-      sites = omega (arith, c.reserve.ensures.sites, c.self.invariant.sites);
-      room = record {
-        within = omega (arith, ap length c.reserve.ensures.items, room.within);
-        entries = omega (arith, c.reserve.ensures.grows, room.entries);
-        cancels = room.cancels;
-        links = omega (arith, c.reserve-2.ensures.grows, room.links);
-        checkpoints = room.checkpoints;
-      };
-    }
+invariant_of-self-in_err-reserve-2 c = record {
+  index = SeenLists.same_index _ _ _ _ c.self.inside.index c.self.invariant.index c.reserve.ensures.items refl refl refl refl refl;
+  links = ChainFacts.links_moved _ _ _ _ _ _ c.self.invariant.links refl c.reserve.ensures.items c.reserve-2.ensures.items;
+  cancelled = c.reserve-2.ensures.cancelled ∙ c.self.invariant.cancelled ∙ ap all_cancelled (sym c.reserve.ensures.items);
+  checkpoints = CheckpointFacts.moved _ _ _ _ _ _ c.self.invariant.checkpoints refl c.reserve.ensures.items refl refl refl;
+  sites = omega (arith, c.reserve.ensures.sites, c.self.invariant.sites);
+  room = grind arith;
+}
 
 pub returns-in_err-reserve-2-clause-ok : goal.returns-in_err-reserve-2-clause-ok
 returns-in_err-reserve-2-clause-ok c = IfOk-from_err c.from_residual-in_err-reserve-2.result _ c.from_residual-in_err-reserve-2.ensures.0
 
 pub invariant_of-self-in_err-reserve_exact : goal.invariant_of-self-in_err-reserve_exact
-invariant_of-self-in_err-reserve_exact c =
-    let room = c.self.invariant.room in
-    record {
-      index = SeenLists.same_index _ _ _ c.self.inside.index _ c.self.invariant.index c.reserve.ensures.items refl refl
-          c.reserve_exact.ensures.items refl refl;
-      links = ChainFacts.links_moved _ _ _ _ _ _ c.self.invariant.links refl c.reserve.ensures.items c.reserve-2.ensures.items;
-      cancelled = c.reserve-2.ensures.cancelled ∙ c.self.invariant.cancelled ∙ ap all_cancelled (sym c.reserve.ensures.items);
-      checkpoints = CheckpointFacts.moved _ _ _ _ _ _ c.self.invariant.checkpoints refl c.reserve.ensures.items refl refl refl;
-      sites = omega (arith, c.reserve.ensures.sites, c.self.invariant.sites);
-      room = record {
-        within = omega (arith, ap length c.reserve.ensures.items, room.within);
-        entries = omega (arith, c.reserve.ensures.grows, room.entries);
-        cancels = omega (arith, c.reserve_exact.ensures.capacity, room.cancels);
-        links = omega (arith, c.reserve-2.ensures.grows, room.links);
-        checkpoints = room.checkpoints;
-      };
-    }
+invariant_of-self-in_err-reserve_exact c = record {
+  index = SeenLists.same_index _ _ _ c.self.inside.index _ c.self.invariant.index c.reserve.ensures.items refl refl
+      c.reserve_exact.ensures.items refl refl;
+  links = ChainFacts.links_moved _ _ _ _ _ _ c.self.invariant.links refl c.reserve.ensures.items c.reserve-2.ensures.items;
+  cancelled = c.reserve-2.ensures.cancelled ∙ c.self.invariant.cancelled ∙ ap all_cancelled (sym c.reserve.ensures.items);
+  checkpoints = CheckpointFacts.moved _ _ _ _ _ _ c.self.invariant.checkpoints refl c.reserve.ensures.items refl refl refl;
+  sites = omega (arith, c.reserve.ensures.sites, c.self.invariant.sites);
+  room = grind arith;
+}
 
 pub returns-in_err-reserve_exact-clause-ok : goal.returns-in_err-reserve_exact-clause-ok
 returns-in_err-reserve_exact-clause-ok c =
     IfOk-from_err c.from_residual-in_err-reserve_exact.result _ c.from_residual-in_err-reserve_exact.ensures.0
 
 pub invariant_of-self-in_err-reserve-3 : goal.invariant_of-self-in_err-reserve-3
-invariant_of-self-in_err-reserve-3 c =
-    let room = c.self.invariant.room in
-    record {
-      index = SeenLists.same_index _ _ _ c.self.inside.index _ c.self.invariant.index c.reserve.ensures.items refl refl
-          c.reserve_exact.ensures.items refl refl;
-      links = ChainFacts.links_moved _ _ _ _ _ _ c.self.invariant.links refl c.reserve.ensures.items c.reserve-2.ensures.items;
-      cancelled = c.reserve-2.ensures.cancelled ∙ c.self.invariant.cancelled ∙ ap all_cancelled (sym c.reserve.ensures.items);
-      checkpoints = CheckpointFacts.moved _ _ _ _ _ _ c.self.invariant.checkpoints refl c.reserve.ensures.items c.reserve-3.ensures.lasts
-          c.reserve-3.ensures.accounts c.reserve-3.ensures.due;
-      sites = omega (arith, c.reserve.ensures.sites, c.self.invariant.sites);
-      room = record {
-        within = omega (arith, ap length c.reserve.ensures.items, room.within);
-        entries = omega (arith, c.reserve.ensures.grows, room.entries);
-        cancels = omega (arith, c.reserve_exact.ensures.capacity, room.cancels);
-        links = omega (arith, c.reserve-2.ensures.grows, room.links);
-        checkpoints = omega (arith, c.reserve-3.ensures.grows, room.checkpoints);
-      };
-    }
+invariant_of-self-in_err-reserve-3 c = record {
+  index = SeenLists.same_index _ _ _ c.self.inside.index _ c.self.invariant.index c.reserve.ensures.items refl refl
+      c.reserve_exact.ensures.items refl refl;
+  links = ChainFacts.links_moved _ _ _ _ _ _ c.self.invariant.links refl c.reserve.ensures.items c.reserve-2.ensures.items;
+  cancelled = c.reserve-2.ensures.cancelled ∙ c.self.invariant.cancelled ∙ ap all_cancelled (sym c.reserve.ensures.items);
+  checkpoints = CheckpointFacts.moved _ _ _ _ _ _ c.self.invariant.checkpoints refl c.reserve.ensures.items c.reserve-3.ensures.lasts
+      c.reserve-3.ensures.accounts c.reserve-3.ensures.due;
+  sites = omega (arith, c.reserve.ensures.sites, c.self.invariant.sites);
+  room = grind arith;
+}
 
 pub returns-in_err-reserve-3-clause-ok : goal.returns-in_err-reserve-3-clause-ok
 returns-in_err-reserve-3-clause-ok c = IfOk-from_err c.from_residual-in_err-reserve-3.result _ c.from_residual-in_err-reserve-3.ensures.0

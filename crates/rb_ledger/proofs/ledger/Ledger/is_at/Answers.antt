@@ -1,9 +1,6 @@
-use Rattle.std.proofs.Common.{◌∙◌, ◌-◌, ◌≤◌, Some, ap, arith, length, refl, subst, sym}
-use Rattle.std.specs.Prelude.{slice_get}
-use Rattle.rb_money.specs.Settings.{Settings}
-use Rattle.rb_shadow.proofs.Public.SameShadows.{same_shadow-refl}
+use Rattle.rb_ledger.proofs.Words.{◌∙◌, ◌-◌, ◌≤◌, Some, ap, arith, length, refl, subst, sym, slice_get, Settings}
+use Rattle.rb_ledger.proofs.Words.{same_shadow-refl, Book}
 use Rattle.rb_shadow.proofs.Public.SoundFacts
-use Rattle.rb_ledger.specs.Book.{Book}
 use Rattle.rb_ledger.proofs.FoundNames
 use Rattle.rb_ledger.proofs.OperationTables
 use Rattle.rb_ledger.proofs.ledger.Ledger.is_at.Goals as goal

@@ -1,6 +1,4 @@
-use Rattle.std.proofs.Common.{◌∙◌, ap, inl, refl, sym}
-use Rattle.rb_shadow.specs.Operations.{is_on}
-use Rattle.rb_ledger.specs.Book.{Book}
+use Rattle.rb_ledger.proofs.Words.{◌∙◌, ap, inl, refl, sym, is_on, Book}
 use Rattle.rb_ledger.proofs.FoundNames
 use Rattle.rb_ledger.proofs.LinkReads
 use Rattle.rb_ledger.proofs.SeenLists

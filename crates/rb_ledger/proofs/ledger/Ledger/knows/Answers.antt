@@ -1,7 +1,4 @@
-use Rattle.std.proofs.Common.{◌∙◌, ap}
-use Rattle.std.specs.Prelude.{option_map}
-use Rattle.rb_shadow.specs.declared.shadow.Shadow.{Shadow}
-use Rattle.rb_shadow.specs.Operations.{same_shadow}
+use Rattle.rb_ledger.proofs.Words.{◌∙◌, ap, option_map, Shadow, same_shadow}
 use Rattle.rb_ledger.proofs.FoundNames
 use Rattle.rb_ledger.proofs.ledger.Ledger.knows.Goals as goal
 

@@ -1,7 +1,6 @@
-use Rattle.std.proofs.Common.{length, ap, arith, refl}
+use Rattle.rb_ledger.proofs.Words.{length, ap, arith, refl, slice_get_read}
 use Rattle.rb_ledger.proofs.HeadReads
 use Rattle.rb_ledger.proofs.SeenLists
-use Rattle.std.proofs.lemmas.Option.{slice_get_read}
 use Rattle.rb_ledger.proofs.ReadItems
 use Rattle.rb_ledger.proofs.Public.OnAccount
 use Rattle.rb_ledger.proofs.ledger.Ledger.last_on.Goals as goal

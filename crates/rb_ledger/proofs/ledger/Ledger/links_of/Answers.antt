@@ -1,8 +1,4 @@
-use Rattle.std.proofs.Common.{◌∷◌, ◌++◌, [], refl, ap, sym, ◌∙◌, subst, arith}
-use Rattle.std.specs.Prelude.{pos}
-use Rattle.rb_shadow.specs.Operations.{bal}
-use Rattle.rb_undo.specs.declared.parts.UndoParts.{UndoParts}
-use Rattle.rb_ledger.specs.Index.{IsLink}
+use Rattle.rb_ledger.proofs.Words.{◌∷◌, ◌++◌, [], refl, ap, sym, ◌∙◌, subst, arith, pos, bal, UndoParts, IsLink}
 use Rattle.rb_ledger.proofs.OneMore
 use Rattle.rb_ledger.proofs.Seconds
 use Rattle.rb_ledger.proofs.Indexed

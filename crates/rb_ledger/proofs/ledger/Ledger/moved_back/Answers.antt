@@ -1,7 +1,4 @@
-use Rattle.std.proofs.Common.{◌≡◌, subst, sym, ◌∙◌}
-use Rattle.std.specs.Prelude.{◌+ℤ◌, pos}
-use Rattle.rb_shadow.specs.declared.kind.Kind.{Kind}
-use Rattle.rb_shadow.specs.Operations.{moved, target_of}
+use Rattle.rb_ledger.proofs.Words.{◌≡◌, subst, sym, ◌∙◌, ◌+ℤ◌, pos, Kind, moved, target_of}
 use Rattle.rb_ledger.proofs.FoundNames
 use Rattle.rb_ledger.proofs.OneMore
 use Rattle.rb_ledger.proofs.ledger.Ledger.moved_back.Goals as goal

@@ -1,5 +1,4 @@
-use Rattle.std.proofs.Common.{sym, ◌∙◌}
-use Rattle.rb_shadow.specs.Operations.{target_of}
+use Rattle.rb_ledger.proofs.Words.{sym, ◌∙◌, target_of}
 use Rattle.rb_ledger.proofs.FoundNames
 use Rattle.rb_ledger.proofs.OneMore
 use Rattle.rb_ledger.proofs.ReadItems

@@ -1,7 +1,4 @@
-use Rattle.std.proofs.Common.{◌-◌, take, Some, sym, ap, ◌∙◌}
-use Rattle.std.specs.Prelude.{option_map}
-use Rattle.rb_shadow.specs.declared.shadow.Shadow.{Shadow}
-use Rattle.rb_ledger.specs.Valid.{parts_of}
+use Rattle.rb_ledger.proofs.Words.{◌-◌, take, Some, sym, ap, ◌∙◌, option_map, Shadow, parts_of}
 use Rattle.rb_ledger.proofs.Public.Records
 use Rattle.rb_ledger.proofs.ledger.Ledger.record.Goals as goal
 

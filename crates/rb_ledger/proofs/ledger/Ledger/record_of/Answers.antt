@@ -1,10 +1,5 @@
-use Rattle.std.proofs.Common.{◌≡◌, ◌+◌, ◌-◌, length, take, ap, ◌∙◌}
-use Rattle.std.specs.Prelude.{option_map, unwrap_or}
-use Rattle.rb_money.specs.Amounts.{cents}
-use Rattle.rb_money.specs.declared.place.TheConstants.Place.{NOWHERE}
-use Rattle.rb_shadow.specs.Operations.{target_of, other_of, bal}
-use Rattle.rb_ledger.specs.Book.{Book}
-use Rattle.rb_ledger.specs.Valid.{position_of}
+use Rattle.rb_ledger.proofs.Words.{◌≡◌, ◌+◌, ◌-◌, length, take, ap, ◌∙◌, option_map, unwrap_or, cents, NOWHERE}
+use Rattle.rb_ledger.proofs.Words.{target_of, other_of, bal, Book, position_of}
 use Rattle.rb_ledger.proofs.RecordReads
 use Rattle.rb_ledger.proofs.SeenLists
 use Rattle.rb_ledger.proofs.ledger.Ledger.record_of.Goals as goal

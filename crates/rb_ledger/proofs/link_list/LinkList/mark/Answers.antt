@@ -1,6 +1,5 @@
-use Rattle.std.proofs.Common.{◌-◌, ◌<◌, length, ap, sym, ◌∙◌, refl, arith}
-use Rattle.std.proofs.lemmas.List.{length-map}
-use Rattle.rb_ledger.specs.LinkLists.{LinkTable, both_links, marked_at}
+use Rattle.rb_ledger.proofs.Words.{◌-◌, ◌<◌, length, ap, sym, ◌∙◌, refl, arith, length-map, LinkTable, both_links}
+use Rattle.rb_ledger.proofs.Words.{marked_at}
 use Rattle.rb_ledger.proofs.LinkTables
 use Rattle.rb_ledger.proofs.ReadItems
 use Rattle.rb_ledger.proofs.link_list.LinkList.mark.Goals as goal

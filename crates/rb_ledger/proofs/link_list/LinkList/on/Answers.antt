@@ -1,5 +1,4 @@
-use Rattle.std.proofs.Common.{cond, ap, sym, ◌∙◌}
-use Rattle.rb_ledger.specs.LinkLists.{own_link, other_link}
+use Rattle.rb_ledger.proofs.Words.{cond, ap, sym, ◌∙◌, own_link, other_link}
 use Rattle.rb_ledger.proofs.LinkTables
 use Rattle.rb_ledger.proofs.link_list.LinkList.on.Goals as goal
 

@@ -1,6 +1,4 @@
-use Rattle.std.proofs.Common.{false, ap, ◌∙◌, ◌++◌, ◌∷◌, [], arith}
-use Rattle.rb_ledger.specs.declared.link_list.OwnLink.{OwnLink}
-use Rattle.rb_ledger.specs.LinkLists.{LinkTable, both_links}
+use Rattle.rb_ledger.proofs.Words.{false, ap, ◌∙◌, ◌++◌, ◌∷◌, [], arith, OwnLink, LinkTable, both_links}
 use Rattle.rb_ledger.proofs.LinkTables
 use Rattle.rb_ledger.proofs.link_list.LinkList.push.Goals as goal
 

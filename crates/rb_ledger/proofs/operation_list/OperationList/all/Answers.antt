@@ -1,6 +1,4 @@
-use Rattle.std.proofs.Common.{ap, arith, length}
-use Rattle.std.proofs.lemmas.List.{take_all}
-use Rattle.rb_ledger.specs.OperationLists.{OperationTable}
+use Rattle.rb_ledger.proofs.Words.{ap, arith, length, take_all, OperationTable}
 use Rattle.rb_ledger.proofs.OperationTables
 use Rattle.rb_ledger.proofs.operation_list.OperationList.all.Goals as goal
 

@@ -1,7 +1,5 @@
-use Rattle.std.proofs.Common.{◌≡◌, ap, sym, ◌∙◌, arith, length, refl, Some}
-use Rattle.std.specs.Prelude.{slice_get}
-use Rattle.std.proofs.lemmas.Option.{slice_get_read}
-use Rattle.rb_ledger.specs.OperationLists.{OperationTable}
+use Rattle.rb_ledger.proofs.Words.{◌≡◌, ap, sym, ◌∙◌, arith, length, refl, Some, slice_get, slice_get_read}
+use Rattle.rb_ledger.proofs.Words.{OperationTable}
 use Rattle.rb_ledger.proofs.ReadItems
 use Rattle.rb_ledger.proofs.OperationTables
 use Rattle.rb_ledger.proofs.operation_list.OperationList.at.Goals as goal

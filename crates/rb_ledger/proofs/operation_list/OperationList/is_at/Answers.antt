@@ -1,6 +1,5 @@
-use Rattle.std.proofs.Common.{◌≡◌, ◌∙◌, ◌<◌, [], Some, ap, arith, get_or, length, refl, subst, sym}
-use Rattle.std.specs.Prelude.{slice_get}
-use Rattle.rb_ledger.specs.OperationLists.{IsOfSites, OperationTable, with_counts}
+use Rattle.rb_ledger.proofs.Words.{◌≡◌, ◌∙◌, ◌<◌, [], Some, ap, arith, get_or, length, refl, subst, sym, slice_get}
+use Rattle.rb_ledger.proofs.Words.{IsOfSites, OperationTable, with_counts}
 use Rattle.rb_ledger.proofs.OperationTables
 use Rattle.rb_ledger.proofs.ReadItems
 use Rattle.rb_ledger.proofs.operation_list.OperationList.is_at.Goals.{After-index-kept}

@@ -1,5 +1,4 @@
-use Rattle.std.proofs.Common.{◌∙◌, ap, arith, length}
-use Rattle.rb_ledger.specs.OperationLists.{clock_count}
+use Rattle.rb_ledger.proofs.Words.{◌∙◌, ap, arith, length, clock_count}
 use Rattle.rb_ledger.proofs.OperationTables
 use Rattle.rb_ledger.proofs.operation_list.OperationList.new.Goals as goal
 

@@ -1,6 +1,5 @@
-use Rattle.std.proofs.Common.{◌≡◌, ◌⊎◌, ◌+◌, ◌++◌, ◌∷◌, [], ap, sym, ◌∙◌, arith, get_or, length, subst}
-use Rattle.rb_ledger.specs.declared.kept_operation.KeptOperation.{KeptOperation}
-use Rattle.rb_ledger.specs.OperationLists.{OperationTable, clock_count, operations_of, with_counts}
+use Rattle.rb_ledger.proofs.Words.{◌≡◌, ◌⊎◌, ◌+◌, ◌++◌, ◌∷◌, [], ap, sym, ◌∙◌, arith, get_or, length, subst}
+use Rattle.rb_ledger.proofs.Words.{KeptOperation, OperationTable, clock_count, operations_of, with_counts}
 use Rattle.rb_ledger.proofs.OperationTables
 use Rattle.rb_ledger.proofs.operation_list.OperationList.push.Goals as goal
 

@@ -1,6 +1,4 @@
-use Rattle.std.proofs.Common.{ap, ◌∙◌, ◌<◌, arith, get_or, length}
-use Rattle.rb_shadow.specs.Operations.{receiver_of}
-use Rattle.rb_ledger.specs.OperationLists.{OperationTable}
+use Rattle.rb_ledger.proofs.Words.{ap, ◌∙◌, ◌<◌, arith, get_or, length, receiver_of, OperationTable}
 use Rattle.rb_ledger.proofs.OperationTables
 use Rattle.rb_ledger.proofs.operation_list.OperationList.receiver.Goals as goal
 

@@ -1,18 +1,13 @@
-use Rattle.std.proofs.Common.{◌≡◌, ◌+◌, ◌-◌, ◌++◌, ◌∷◌, [], length, subst, sym, ap, ◌∙◌, refl, arith}
-use Rattle.rb_money.specs.Settings.{Settings}
-use Rattle.rb_ledger.specs.Valid.{parts_of}
-use Rattle.rb_ledger.specs.Index.{IsIndex, IsLinked}
-use Rattle.rb_ledger.specs.Rewinding.{Rewinding}
+use Rattle.rb_ledger.proofs.Words.{◌≡◌, ◌+◌, ◌-◌, ◌++◌, ◌∷◌, [], length, subst, sym, ap, ◌∙◌, refl, arith, Settings}
+use Rattle.rb_ledger.proofs.Words.{parts_of, IsIndex, IsLinked, Rewinding, records_of}
 use Rattle.rb_ledger.proofs.CheckpointFacts
 use Rattle.rb_ledger.proofs.Cursors
-use Rattle.rb_ledger.specs.Records.{records_of}
 use Rattle.rb_ledger.proofs.SeenLists
 use Rattle.rb_ledger.proofs.rewound.Rewound.back.Goals as goal
 
 pub pop-requires-in-Some : goal.pop-requires-in-Some
 pop-requires-in-Some c =
-    let here : c.self.inside.at ≡ c.args.self.now.at = ap (λ (w : Rewinding). w.at) c.self.view_is in
-    let next : c.self.inside.at ≡ c.self.inside.at - 1 + 1 = omega (arith, c.requires, here) in
+    let next : c.self.inside.at ≡ c.self.inside.at - 1 + 1 = omega (arith, c.requires, ap (λ (w : Rewinding). w.at) c.self.view_is) in
     let latest = Cursors.latest _ _ _ (c.self.inside.at - 1) _ _ _ _ c.in-Some.undo c.self.invariant.at next c.in-Some.ensures.0 in
     let link = Cursors.linked _ _ _ _ latest.last c.at-links.result c.self.invariant.at.links latest.there
     c.at-links.ensures in (
@@ -27,9 +22,7 @@ pop-requires-in-Some c =
 
 pub invariant_of-self : goal.invariant_of-self
 invariant_of-self c =
-    let here : c.self.inside.at ≡ c.args.self.now.at = ap (λ (w : Rewinding). w.at) c.self.view_is in
-    let next : c.self.inside.at ≡ c.self.inside.at - 1 + 1 = omega (arith, c.requires, here) in
-    let room = c.self.invariant.room in
+    let next : c.self.inside.at ≡ c.self.inside.at - 1 + 1 = omega (arith, c.requires, ap (λ (w : Rewinding). w.at) c.self.view_is) in
     record {
       at = Cursors.back _ _ _ _ _ _ _ _ _ c.in-Some.undo c.self.invariant.at next c.in-Some.ensures.0 c.in-Some.ensures.1
           (subst (λ us. IsIndex c.self.inside.index.config us c.pop-in-Some.new.self) c.first-before.ensures
@@ -37,24 +30,17 @@ invariant_of-self c =
       cancelled = c.self.invariant.cancelled;
       checkpoints = CheckpointFacts.moved _ _ _ _ _ _ c.self.invariant.checkpoints c.pop-in-Some.ensures.index.config refl refl refl refl;
       sites = omega (arith, c.self.invariant.sites, ap (λ (s : Settings). s.sites) c.pop-in-Some.ensures.index.config);
-      room = record {
-        within = omega (arith, c.pop-in-Some.ensures.limit, room.within);
-        entries = omega (arith, c.pop-in-Some.ensures.limit, room.entries);
-        cancels = omega (arith, c.pop-in-Some.ensures.limit, c.pop-in-Some.ensures.capacity, room.cancels);
-        links = omega (arith, c.pop-in-Some.ensures.limit, room.links);
-        checkpoints = omega (arith, c.pop-in-Some.ensures.limit, room.checkpoints);
-      };
+      room = grind arith;
     }
 
 pub unreachable-requires : goal.unreachable-requires
 unreachable-requires c =
-    let here : c.self.inside.at ≡ c.args.self.now.at = ap (λ (w : Rewinding). w.at) c.self.view_is in
-    Cursors.some_records _ _ _ _ _ _ c.self.invariant.at (omega (arith, c.requires, here)) c.in-None.ensures.0
+    Cursors.some_records _ _ _ _ _ _ c.self.invariant.at
+    (omega (arith, c.requires, ap (λ (w : Rewinding). w.at) c.self.view_is)) c.in-None.ensures.0
 
 pub overflow_sub-self : goal.overflow_sub-self
 overflow_sub-self c =
-    let here : c.self.inside.at ≡ c.args.self.now.at = ap (λ (w : Rewinding). w.at) c.self.view_is in
-    omega (arith, c.requires, here)
+    omega (arith, c.requires, ap (λ (w : Rewinding). w.at) c.self.view_is)
 
 pub returns-clause-ledger : goal.returns-clause-ledger
 returns-clause-ledger c = SeenLists.same_book c.self.inside.index.config _ _ _ _ _ _ (ap (λ (w : Rewinding). w.ledger) c.self.view_is)
@@ -62,12 +48,11 @@ returns-clause-ledger c = SeenLists.same_book c.self.inside.index.config _ _ _ _
 
 pub returns-clause-log : goal.returns-clause-log
 returns-clause-log c =
-    let here : c.self.inside.at ≡ c.args.self.now.at = ap (λ (w : Rewinding). w.at) c.self.view_is in
     let len = length c.self.inside.entries.items in
     let same : c.pop.new.self.room - (len - (c.self.inside.at - 1)) ≡ c.self.inside.log.room - (len - c.self.inside.at) = omega (
       arith,
       c.requires,
-      here,
+      ap (λ (w : Rewinding). w.at) c.self.view_is,
       c.in-Some.ensures.1,
       c.self.invariant.at.within,
     ) in
@@ -78,16 +63,14 @@ returns-clause-log c =
 
 pub returns-clause-at : goal.returns-clause-at
 returns-clause-at c =
-    let here : c.self.inside.at ≡ c.args.self.now.at = ap (λ (w : Rewinding). w.at) c.self.view_is in
-    omega (arith, c.requires, here)
+    omega (arith, c.requires, ap (λ (w : Rewinding). w.at) c.self.view_is)
 
 pub at-links-requires : goal.at-links-requires
 at-links-requires c =
-    let here : c.self.inside.at ≡ c.args.self.now.at = ap (λ (w : Rewinding). w.at) c.self.view_is in
     omega (
       arith,
       c.requires,
-      here,
+      ap (λ (w : Rewinding). w.at) c.self.view_is,
       c.self.invariant.at.within,
       c.self.invariant.at.links.count,
     )

@@ -1,9 +1,6 @@
-use Rattle.std.proofs.Common.{refl, take, ap, ◌∙◌}
-use Rattle.std.proofs.lemmas.Option.{slice_get_read}
+use Rattle.rb_ledger.proofs.Words.{refl, take, ap, ◌∙◌, slice_get_read, bal, Rewinding}
 use Rattle.rb_ledger.proofs.HeadReads
 use Rattle.rb_ledger.proofs.ReadItems
-use Rattle.rb_shadow.specs.Operations.{bal}
-use Rattle.rb_ledger.specs.Rewinding.{Rewinding}
 use Rattle.rb_ledger.proofs.rewound.Rewound.balance.Goals as goal
 
 pub returns-clause-bounded : goal.returns-clause-bounded

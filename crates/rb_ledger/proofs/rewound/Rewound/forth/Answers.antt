@@ -1,13 +1,8 @@
-use Rattle.std.proofs.Common.{◌≡◌, ◌+◌, ◌-◌, ◌<◌, [], ◌∷◌, ◌++◌, length, Some}
-use Rattle.std.proofs.Common.{refl, ap, sym, ◌∙◌, subst, arith, length-take-le}
-use Rattle.std.specs.Prelude.{slice_get}
-use Rattle.rb_money.specs.Settings.{Settings}
-use Rattle.rb_ledger.specs.Valid.{IsValid, parts_of}
-use Rattle.rb_ledger.specs.Index.{IsIndex, IsLinked}
-use Rattle.rb_ledger.specs.Rewinding.{Rewinding}
+use Rattle.rb_ledger.proofs.Words.{◌≡◌, ◌+◌, ◌-◌, ◌<◌, [], ◌∷◌, ◌++◌, length, Some, refl, ap, sym, ◌∙◌, subst, arith}
+use Rattle.rb_ledger.proofs.Words.{length-take-le, slice_get, Settings, IsValid, parts_of, IsIndex, IsLinked, Rewinding}
+use Rattle.rb_ledger.proofs.Words.{records_of}
 use Rattle.rb_ledger.proofs.CheckpointFacts
 use Rattle.rb_ledger.proofs.Cursors
-use Rattle.rb_ledger.specs.Records.{records_of}
 use Rattle.rb_ledger.proofs.Lengths
 use Rattle.rb_ledger.proofs.SeenLists
 use Rattle.rb_ledger.proofs.rewound.Rewound.forth.Goals.{After-self, After-unwrap-shadow, After-first-before}

@@ -1,5 +1,4 @@
-use Rattle.std.proofs.Common.{◌≡◌, length, refl, ap, ◌∙◌, arith}
-use Rattle.rb_ledger.specs.Rewinding.{Rewinding}
+use Rattle.rb_ledger.proofs.Words.{◌≡◌, length, refl, ap, ◌∙◌, arith, Rewinding}
 use Rattle.rb_ledger.proofs.Cursors
 use Rattle.rb_ledger.proofs.rewound.Rewound.into_parts.Goals as goal
 

@@ -1,6 +1,5 @@
-use Rattle.std.proofs.Common.{◌≡◌, ℕ, ◌+◌, List, [], ◌∷◌, ◌++◌, map, replicate, Vec, Global, ap, ◌∙◌, arith}
-use Rattle.std.proofs.lemmas.List.{map_push, replicate_more}
-use Rattle.std.proofs.lemmas.Result.{IfOk-from_err}
+use Rattle.rb_ledger.proofs.Words.{◌≡◌, ℕ, ◌+◌, List, [], ◌∷◌, ◌++◌, map, replicate, Vec, Global, ap, ◌∙◌, arith}
+use Rattle.rb_ledger.proofs.Words.{map_push, replicate_more, IfOk-from_err}
 use Rattle.rb_ledger.proofs.rows.Rows.new.Goals as goal
 
 abbrev items_of : Vec ℕ Global → List ℕ

@@ -1,5 +1,4 @@
-use Rattle.std.proofs.Common.{ap, ◌∙◌}
-use Rattle.rb_ledger.specs.Table.{Table}
+use Rattle.rb_ledger.proofs.Words.{ap, ◌∙◌, Table}
 use Rattle.rb_ledger.proofs.RowTables
 use Rattle.rb_ledger.proofs.rows.Rows.row.Goals as goal
 
