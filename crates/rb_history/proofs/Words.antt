@@ -82,8 +82,8 @@ pub use Rattle.rb_shadow.specs.Operations.{Among, arrived, bal, blue_count, canc
 pub use Rattle.rb_shadow.specs.Operations.{is_cancelled, is_eligible, is_on, is_red, may_be_cancelled, moved, names, number_of, receiver_of}
 pub use Rattle.rb_shadow.specs.Operations.{red_count, same_colour, same_shadow, shown_colour, target_of, total}
 unfoldable pub use Rattle.rb_shadow.specs.Operations.{clock_of}
-pub use Rattle.rb_shadow.specs.Sound.{IsSound, are_entries, cancels_unseen, is_clock, is_foreign, is_miscoloured, is_misdirected, limit_of}
-pub use Rattle.rb_shadow.specs.Sound.{may_be_nothing}
+pub use Rattle.rb_shadow.specs.Sound.{IsSound, are_entries, is_foreign, limit_of, may_be_nothing}
+pub use Rattle.rb_shadow.proofs.Public.SoundFacts.{is_misdirected}
 unfoldable pub use Rattle.rb_shadow.specs.Sound.{fault_of}
 pub use Rattle.rb_shadow.specs.declared.kind.Kind.{Kind}
 pub use Rattle.rb_shadow.specs.declared.kind.Kind.TheVariants.{Cancel as CancelKind, Declined as DeclinedKind, Deposit as DepositKind}

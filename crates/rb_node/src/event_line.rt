@@ -51,6 +51,7 @@ pub(crate) fn append_messages(
 }
 
 /// The beginning of an answer after a text: its id, if it has one, and the key of the reply.
+#[inline(always)]
 pub(crate) fn append_answer_head(
     out: &mut Vec<u8>,
     front: &str,

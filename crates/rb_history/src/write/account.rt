@@ -21,6 +21,7 @@ fn account_name(config: &Config, place: Place) -> &str
 }
 
 /// An account's name in quotes, between two texts.
+#[inline(always)]
 pub fn append_account(
     out: &mut Vec<u8>,
     front: &str,
@@ -38,6 +39,7 @@ pub fn append_account(
 }
 
 /// An account and a number, as the last member of an object.
+#[inline(always)]
 pub fn append_asked(
     out: &mut Vec<u8>,
     front: &str,

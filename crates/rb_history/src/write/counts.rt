@@ -1,16 +1,50 @@
 //! How many of each site's blue operations a home had applied, added at the end of bytes in either version of the
 //! format.
-ghost use Rattle.std.specs.Prelude.{◌≡◌, ◌<◌, ◌==◌, ◌++◌, [], codes, if◌then◌else◌, IfOk};
-ghost use Rattle.rb_money.specs.declared.limits.TheConstants.{MOST_SITES};
+ghost use Rattle.std.specs.Prelude.{◌≡◌, ◌<◌, ◌≤◌, ◌+◌, ◌==◌, ◌++◌, [], codes, if◌then◌else◌, length, IfOk};
+ghost use Rattle.rb_money.specs.declared.limits.TheConstants.{MOST_SITES, MOST_SITES_OF_VERSION_1};
 ghost use Rattle.serde_json.specs.Written.{compact_text};
 ghost use Rattle.rb_history.specs.Adds.{Adds};
-ghost use Rattle.rb_history.specs.Values.{list_json};
+ghost use Rattle.rb_history.specs.Values.{list_json, number_json};
+ghost use Rattle.rb_history.specs.Placed.{Placed};
+ghost use Rattle.rb_history.specs.declared.write.counts.TheConstants.{COUNTS};
 ghost use Rattle.rb_history.specs.Counts.{blue_json, numbered_from, numbered_json};
 
-use crate::write::append::{append, append_number};
-use crate::write::number::append_numbers;
+use crate::write::append::{append, append_number, make_space};
+use crate::write::put::{put_if, put_small, put_text};
 use rb_money::{MOST_SITES, MOST_SITES_OF_VERSION_1};
 use std::alloc::AllocError;
+
+/// The memory that is taken for the counts of version 1: ten digits and a comma each, and two brackets.
+const COUNTS: usize = 90;
+
+/// Puts the counts of version 1, as a list.
+#[inline(always)]
+fn put_counts(space: &mut [u8], at: usize, counts: &[u32]) -> usize
+    requires few { length counts.now ≤ MOST_SITES_OF_VERSION_1 }
+    requires space { at + COUNTS ≤ length space.old }
+    ensures { Placed space.old space.new at (compact_text (list_json number_json counts.now)) result }
+{
+    let mut end = put_text(space, at, "[");
+    let mut comma = false;
+    for count in counts {
+        let digits = put_if(space, end, b',', comma);
+        end = put_small(space, digits, *count);
+        comma = true;
+    }
+    put_text(space, end, "]")
+}
+
+/// The counts of version 1, as a list.
+fn append_listed(out: &mut Vec<u8>, counts: &[u32]) -> Result<(), AllocError>
+    requires { length counts.now ≤ MOST_SITES_OF_VERSION_1 }
+    ensures { Adds result out.old.items out.new.items (compact_text (list_json number_json counts.now)) }
+{
+    let at = out.len();
+    make_space(out, &[0; COUNTS])?;
+    let end = put_counts(out.as_mut_slice(), at, counts);
+    out.truncate(end);
+    Ok(())
+}
 
 /// A site's number and its count, after a text.
 fn append_one(out: &mut Vec<u8>, comma: &str, site: u64, count: u32) -> Result<(), AllocError>
@@ -64,7 +98,7 @@ pub fn append_counts(
     ensures { Adds result out.old.items out.new.items (compact_text (blue_json version counts.now)) }
 {
     if version == 1 {
-        append_numbers(out, &counts[..MOST_SITES_OF_VERSION_1])
+        append_listed(out, &counts[..MOST_SITES_OF_VERSION_1])
     } else {
         append_numbered(out, counts)
     }
