@@ -57,7 +57,8 @@ pub use Rattle.rb_scratch.specs.declared.request.Request.{Request}
 pub use Rattle.rb_scratch.specs.declared.request.Request.TheVariants.{Deposit}
 pub use Rattle.rb_shadow.specs.Operations.{Agree, Among, AreSame, arrived, bal, blue_count, clock_of, delta, is_on, is_red, kept, moved}
 pub use Rattle.rb_shadow.specs.Operations.{names, names_of_clock, number_of, receiver_of, red_count, same_kind, total}
-pub use Rattle.rb_shadow.specs.Sound.{is_misdirected, limit_of}
+pub use Rattle.rb_shadow.specs.Sound.{limit_of}
+pub use Rattle.rb_shadow.proofs.Public.SoundFacts.{is_misdirected}
 pub use Rattle.rb_shadow.specs.declared.kind.Kind.TheVariants.{Cancel as CancelKind, Declined}
 pub use Rattle.rb_shadow.specs.declared.op_name.OpName.{OpName}
 pub use Rattle.rb_shadow.specs.declared.op_name.OpName.TheVariants.{Blue, Red}

@@ -21,7 +21,7 @@ use Rattle.rb_site.specs.Worlds.{world_of_run}
 use Rattle.rb_site.proofs.Public.Places as Sets
 use Rattle.rb_site.proofs.Public.Places.{same_number}
 use Rattle.rb_site.proofs.Public.Stuck
-use Rattle.rb_world.specs.Crashes.{Acts, DiskSite, DiskStep, Goes, IsReported, IsSent, Leads, MayHappenAlone, Receives, Reports}
+use Rattle.rb_world.specs.Crashes.{Acts, DiskSite, DiskStep, Goes, IsSent, Leads, MayHappenAlone, Receives, Reports}
 use Rattle.rb_world.specs.Crashes.{Restarts, Stays, Syncs, TakesStep, WasReported, after_step, first_disks, sites_from}
 use Rattle.rb_world.specs.CrashLaws.{IsBounded, IsWorldOf}
 use Rattle.rb_world.proofs.Grown
@@ -63,27 +63,26 @@ itself s w g = g.cuts w (record { sites = refl; each = each })
         subst (IsCutTo d) (Places.same_item (slice_get w i) d b at here) (whole d (omega arith))
 
 -- each reported message is sent by the sites that are left
-reported_sent : (s : Settings) (w c : List DiskSite) (m : Message) → AreCuts w c → IsReported s w m → IsSent s c m
-reported_sent s w c m h r = record { number = r.number; site = b.0; at = b.1; sent = among }
+reported_sent : (s : Settings) (w c : List DiskSite) (m : Message) → AreCuts w c → WasReported s w (Receives m) → IsSent s c m
+reported_sent s w c m h (i, d, at, sent) = record { number = i; site = b.0; at = b.1; sent = among }
   where
-    b : (b : DiskSite) × (slice_get c r.number ≡ Some b)
-    b = Places.item_at c r.number
-        (let q : length c ≡ length w = h.sites in let k : r.number < length w = slice_get_within w r.number r.site r.at in omega arith)
+    b : (b : DiskSite) × (slice_get c i ≡ Some b)
+    b = Places.item_at c i (let q : length c ≡ length w = h.sites in let k : i < length w = slice_get_within w i d at in omega arith)
 
-    cut : IsCutTo r.site b.0
-    cut = h.each r.number r.site b.0 r.at b.1
+    cut : IsCutTo d b.0
+    cut = h.each i d b.0 at b.1
 
     n : ℕ
-    n = r.site.reported
+    n = d.reported
 
-    same : take n r.site.events ≡ take n b.0.events
-    same = sym (ap (take n) cut.is ∙ take-take n cut.count r.site.events cut.least)
+    same : take n d.events ≡ take n b.0.events
+    same = sym (ap (take n) cut.is ∙ take-take n cut.count d.events cut.least)
 
-    among : IsAmong m (sends_of s (first_site r.number) b.0.events)
-    among = subst (λ es. IsAmong m (sends_of s (first_site r.number) es)) (take-append-drop n b.0.events)
-        (subst (IsAmong m) (sym (Stuck.sends-append s (take n b.0.events) (drop n b.0.events) (first_site r.number)))
-        (Stuck.among-left m (sends_of s (first_site r.number) (take n b.0.events)) _
-        (subst (λ es. IsAmong m (sends_of s (first_site r.number) es)) same r.sent)))
+    among : IsAmong m (sends_of s (first_site i) b.0.events)
+    among = subst (λ es. IsAmong m (sends_of s (first_site i) es)) (take-append-drop n b.0.events)
+        (subst (IsAmong m) (sym (Stuck.sends-append s (take n b.0.events) (drop n b.0.events) (first_site i)))
+        (Stuck.among-left m (sends_of s (first_site i) (take n b.0.events)) _
+        (subst (λ es. IsAmong m (sends_of s (first_site i) es)) same sent)))
 
 -- ---- the start
 

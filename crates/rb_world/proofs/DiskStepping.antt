@@ -9,7 +9,7 @@ use Rattle.rb_site.specs.declared.event.Event.TheVariants.{Receive}
 use Rattle.rb_site.specs.declared.message.Message.{Message}
 use Rattle.rb_site.specs.Worlds.{IsOwn}
 use Rattle.rb_site.proofs.Public.Places as Sets
-use Rattle.rb_world.specs.Crashes.{Acts, DiskSite, DiskStep, Goes, IsReported, Leads, MayHappenAlone, Receives, Reports, Stays}
+use Rattle.rb_world.specs.Crashes.{Acts, DiskSite, DiskStep, Goes, Leads, MayHappenAlone, Receives, Reports, Stays}
 use Rattle.rb_world.specs.Crashes.{Syncs, TakesStep, WasReported, after_step, first_disks}
 use Rattle.rb_world.proofs.Places
 
@@ -33,8 +33,9 @@ acts s w i d e at own free =
     record { number = i; site = d; at = at; step = Acts e; may = own; reported = tt; is = recorded s w i d e free }
 
 -- a message is delivered
-pub receives : (s : Settings) (w : List DiskSite) (i : ℕ) (d : DiskSite) (m : Message) → slice_get w i ≡ Some d → IsReported s w m →
-    length d.events < s.limits.history → TakesStep s w (slice_set w i (record d { events = d.events ++ Receive m ∷ [] }))
+pub receives : (s : Settings) (w : List DiskSite) (i : ℕ) (d : DiskSite) (m : Message) → slice_get w i ≡ Some d →
+    WasReported s w (Receives m) → length d.events < s.limits.history →
+    TakesStep s w (slice_set w i (record d { events = d.events ++ Receive m ∷ [] }))
 receives s w i d m at out free =
     record { number = i; site = d; at = at; step = Receives m; may = tt; reported = out; is = recorded s w i d (Receive m) free }
 

@@ -18,7 +18,7 @@ use Rattle.rb_site.proofs.Public.Places as Sets
 use Rattle.rb_site.proofs.Public.Places.{same_number}
 use Rattle.rb_site.proofs.Public.Stuck
 use Rattle.rb_token.specs.Token.{first_token, pass_message}
-use Rattle.rb_world.specs.Crashes.{DiskSite, IsReported, first_disks, histories_from}
+use Rattle.rb_world.specs.Crashes.{DiskSite, Receives, WasReported, first_disks, histories_from}
 use Rattle.rb_world.specs.CrashLaws.{HidesCrashes, DeeperCrashesShow}
 use Rattle.rb_world.proofs.Places
 use Rattle.rb_world.proofs.DiskStepping
@@ -160,13 +160,8 @@ deeper_show s two some epochs = record {
     at1 : slice_get o.world 1 ≡ Some (disk 0 0 [])
     at1 = o.others 1 (λ e. cc) ∙ DiskStepping.first_at s 1 (omega arith)
 
-    reported : IsReported s o.world token_to_1
-    reported = record {
-      number = 0;
-      site = passed;
-      at = o.at;
-      sent = subst (λ ms. IsAmong token_to_1 (ms ++ [])) (sym (pass_sends s two some epochs)) (inl refl);
-    }
+    reported : WasReported s o.world (Receives token_to_1)
+    reported = (0, passed, o.at, subst (λ ms. IsAmong token_to_1 (ms ++ [])) (sym (pass_sends s two some epochs)) (inl refl))
 
     -- but for the receipt at site 1 no site has an event
     few : (i : ℕ) (d : DiskSite) → slice_get (slice_set w4 0 forgotten) i ≡ Some d →

@@ -30,13 +30,6 @@ pub record IsSent (s : Settings) (w : List DiskSite) (m : Message) : Type 0 wher
   pub at : slice_get w number ≡ Some site
   pub sent : IsAmong m (sends_of s (first_site number) site.events)
 
--- a site sent the message by one of the events that it has reported
-pub record IsReported (s : Settings) (w : List DiskSite) (m : Message) : Type 0 where
-  pub number : ℕ
-  pub site : DiskSite
-  pub at : slice_get w number ≡ Some site
-  pub sent : IsAmong m (sends_of s (first_site number) (take site.reported site.events))
-
 -- the histories of sites, the first of which has the number i: each one's events with their replies
 abbrev pub histories_from : Settings → ℕ → List DiskSite → List (List Entry)
 histories_from s i [] = []
@@ -71,9 +64,10 @@ MayHappenAlone d (Syncs n) = (d.on_disk ≤ n) × (n ≤ length d.events)
 MayHappenAlone d (Reports n) = (d.reported ≤ n) × (n ≤ d.on_disk)
 MayHappenAlone d (Restarts n) = (d.on_disk ≤ n) × (n ≤ length d.events)
 
--- what it needs of the world: only reported messages are delivered
+-- what it needs of the world: only a message that a site sent by one of the events that it has reported is delivered
 abbrev pub WasReported : Settings → List DiskSite → DiskStep → Type 0
-WasReported s w (Receives m) = IsReported s w m
+WasReported s w (Receives m) =
+    (i : ℕ) × (d : DiskSite) × (slice_get w i ≡ Some d) × IsAmong m (sends_of s (first_site i) (take d.reported d.events))
 WasReported s w _ = Unit {0}
 
 -- the site with one event more, unless its history is full

@@ -4,7 +4,7 @@ ghost use Rattle.rb_world.specs.Laws.{Agreement, Always, CanCatchUp, Clocks, Exa
 ghost use Rattle.rb_world.specs.Laws.{NeverNegative, NeverStuck, OneToken, OtherLaws, RedBlue};
 ghost use Rattle.rb_world.specs.Laws.{TrustsItsOwn, ValidLists};
 
-use crate::{KeepsEvent, World};
+use crate::{KeepsEvent, KeepsMessage, World};
 use rb_site::KeepsEntry;
 
 /// All laws hold of every world that a bank's own events lead to, in any configuration of 1 to `MOST_SITES` sites.
@@ -13,7 +13,7 @@ pub fn laws_always_hold()
     ensures others { Always OtherLaws }
 {}
 
-impl<E: KeepsEntry, R: KeepsEvent> World<E, R> {
+impl<E: KeepsEntry, R: KeepsEvent, M: KeepsMessage> World<E, R, M> {
     /// All laws hold, whatever happened: a world is the run of its events.
     pub fn laws_hold(&self)
         ensures headline { Headline self.now.settings self.now.world }

@@ -1,39 +1,46 @@
 //! The sites of a bank, together.
 //!
 //! Sites share nothing but messages, so each has its own list of operations: at eight sites some 82 bytes each beside
-//! the record. The world keeps each message for good, in 112 bytes, so that a delivery reads nothing of another site.
+//! the record. The world keeps each message for good, as it may be delivered at any time: in 112 bytes, or in 16 the
+//! place at which its site has the operation.
 ghost use Rattle.std.specs.Prelude.{◌≡◌, ◌<◌, ◌≤◌, ◌⊎◌, Some, IfSome, IfOk, IfErr, OnErr, OnOk, All};
-ghost use Rattle.std.specs.Prelude.{length, true, map, option_map, slice_get, take};
+ghost use Rattle.std.specs.Prelude.{◌+◌, ◌++◌, ◌^◌, List, length, true, map, option_map, slice_get, take};
+ghost use Rattle.std.specs.Prelude.{vec_capacity, vec_len};
 ghost use Rattle.std.specs.List.{range_with_len};
 ghost use Rattle.rb_money.specs.declared.limits.TheConstants.{MOST_SITES};
-ghost use Rattle.rb_site.specs.Events.{first_site};
+ghost use Rattle.rb_site.specs.Events.{ModelSite, first_site};
 ghost use Rattle.rb_site.specs.Seen.{state_of};
 ghost use Rattle.rb_site.specs.Histories.{site_of};
 ghost use Rattle.rb_site.specs.Worlds.{IsCommand, arrival, is_recorded, message_at};
 ghost use Rattle.rb_world.specs.Laws.{Headline, IsRunOf, OtherLaws, next_replies, next_reply};
 ghost use Rattle.rb_world.specs.Laws.{next_world, next_worlds, opened};
 ghost use Rattle.rb_world.specs.Reports.{AreReportsOf};
+ghost use Rattle.rb_world.specs.Sent.{AreMadeFrom};
 
-use crate::{KeepsEvent, Stopped};
+use crate::{KeepsEvent, KeepsMessage, Stopped};
 use rb_kit::reserve_one;
 use rb_money::{Config, Refusal};
+use rb_scratch::MOST_REQUESTS;
 use rb_site::{Entry, Event, KeepsEntry, Message, Reply, Site, SiteReport, WorldEvent};
 use std::alloc::{AllocError, Global};
 use std::marker::Model;
 
 /// The sites of a bank, together: one for each site number, every message that was ever sent, in order, and the events
 /// that the sites recorded. Sites share nothing else. A world is always the run of its events. It can't be dropped: it
-/// is closed. `E` is what the sites keep of each entry, and `R` is what the world keeps of each event.
-pub struct World<E: KeepsEntry = Entry, R: KeepsEvent = WorldEvent> {
+/// is closed. `E` is what the sites keep of each entry, `R` what the world keeps of each event, and `M` what it keeps
+/// of each message.
+pub struct World<E: KeepsEntry = Entry, R: KeepsEvent = WorldEvent, M: KeepsMessage = Message> {
     alloc: Global,
     pub(crate) config: Config,
     sites: Vec<Site<E>>,
-    messages: Vec<Message>,
+    messages: Vec<M>,
+    // What an event sends, in memory that the next one uses again.
+    sent: Vec<Message>,
     events: Vec<R>,
     reports: Vec<SiteReport>,
 }
 
-impl<E: KeepsEntry, R: KeepsEvent> Model for World<E, R> {
+impl<E: KeepsEntry, R: KeepsEvent, M: KeepsMessage> Model for World<E, R, M> {
     ghost use Rattle.std.specs.Prelude.{◌≡◌, ◌≤◌, [], All, length, map, vec_capacity};
     ghost use Rattle.rb_site.specs.Seen.{SeenSite, state_of};
     ghost use Rattle.rb_world.specs.Laws.{SeenWorld, IsRunOf};
@@ -42,16 +49,17 @@ impl<E: KeepsEntry, R: KeepsEvent> Model for World<E, R> {
 
     ghost view = { λ w. record {
       settings = w.config;
-      world = record { sites = map state_of w.sites.items; messages = w.messages.items };
+      world = record { sites = map state_of w.sites.items; messages = map M.noted w.messages.items };
       events = map R.noted w.events.items;
     } };
 
     ghost invariant = { λ w. IsRunOf (record {
       settings = w.config;
-      world = record { sites = map state_of w.sites.items; messages = w.messages.items };
+      world = record { sites = map state_of w.sites.items; messages = map M.noted w.messages.items };
       events = map R.noted w.events.items;
     })
         × All (λ (x : SeenSite). x.settings ≡ w.config) w.sites.items
+        × All (M.IsThere (map state_of w.sites.items)) w.messages.items
         × (w.reports.items ≡ [])
         × (length w.sites.items ≤ vec_capacity w.reports) };
 }
@@ -97,6 +105,13 @@ impl World {
         Ok(replies)
     }
 
+    /// Every message that was ever sent, in order.
+    pub fn messages(&self) -> &[Message]
+        ensures { result.now ≡ self.now.world.messages }
+    {
+        self.messages.as_slice()
+    }
+
     /// The events that the sites recorded, in order. The world is the run of them.
     pub fn events(&self) -> &[WorldEvent]
         ensures same { result.now ≡ self.now.events }
@@ -106,10 +121,10 @@ impl World {
     }
 }
 
-impl<E: KeepsEntry, R: KeepsEvent> World<E, R> {
-    /// The sites of a configuration before any event, in a world that keeps an `R` of each event, and
-    /// whose sites keep an `E` of each entry. `Err` means out of memory.
-    pub fn open_keeping(alloc: Global, config: Config) -> Result<World<E, R>, AllocError>
+impl<E: KeepsEntry, R: KeepsEvent, M: KeepsMessage> World<E, R, M> {
+    /// The sites of a configuration before any event, in a world that keeps an `R` of each event and an `M` of each
+    /// message, and whose sites keep an `E` of each entry. `Err` means out of memory.
+    pub fn open_keeping(alloc: Global, config: Config) -> Result<World<E, R, M>, AllocError>
         ensures { IfOk result (λ world. world ≡ opened config) }
     {
         let mut reports = Vec::new(alloc);
@@ -120,6 +135,7 @@ impl<E: KeepsEntry, R: KeepsEvent> World<E, R> {
             config,
             sites,
             messages: Vec::new(alloc),
+            sent: Vec::new(alloc),
             events: Vec::new(alloc),
             reports,
         })
@@ -202,15 +218,20 @@ impl<E: KeepsEntry, R: KeepsEvent> World<E, R> {
         ensures err { OnErr result (self.new ≡ self.old) }
         ensures recordable { OnErr result (is_recorded self.old.settings self.old.world event.now ≡ true) }
     {
-        let site = event.site() as usize;
+        let number = event.site();
+        let site = number as usize;
         if self.sites[site].is_full() {
             *reply = Reply::Refused(Refusal::HistoryFull);
             return Ok(());
         }
         reserve_one(&mut self.events)?;
+        self.messages.reserve(MOST_REQUESTS)?;
         let noted = R::note(self.alloc, event)?;
-        self.sites[site].answer(arrived, &mut self.messages, reply)?;
+        let first = self.sites[site].ledger().len() + 1;
+        self.sent.clear();
+        self.sites[site].answer(arrived, &mut self.sent, reply)?;
         self.events.push_reserved(noted);
+        note_all(&mut self.messages, self.sent.as_slice(), number, first);
         Ok(())
     }
 
@@ -229,13 +250,6 @@ impl<E: KeepsEntry, R: KeepsEvent> World<E, R> {
         self.sites.get(site as usize)
     }
 
-    /// Every message that was ever sent, in order.
-    pub fn messages(&self) -> &[Message]
-        ensures { result.now ≡ self.now.world.messages }
-    {
-        self.messages.as_slice()
-    }
-
     /// The message of a number, from 1 in the order of sending.
     #[inline(always)]
     fn message(&self, number: u32) -> Option<Message>
@@ -244,7 +258,8 @@ impl<E: KeepsEntry, R: KeepsEvent> World<E, R> {
         if number == 0 {
             return None;
         }
-        self.messages.get(number as usize - 1).copied()
+        let kept = self.messages.get(number as usize - 1)?;
+        Some(kept.message(self.sites.as_slice()))
     }
 
     /// Closes the world: each site reports its state, in order. A site that keeps no history reports no balances, no
@@ -258,6 +273,7 @@ impl<E: KeepsEntry, R: KeepsEvent> World<E, R> {
             config: _,
             mut sites,
             messages: _,
+            sent: _,
             events: _,
             mut reports,
         } = self;
@@ -267,6 +283,23 @@ impl<E: KeepsEntry, R: KeepsEvent> World<E, R> {
         sites.destroy_empty();
         reports.reverse();
         reports
+    }
+}
+
+/// Notes the messages that a site sent, in spare capacity. Its operations that they have are at its positions from
+/// `first` on.
+#[inline(always)]
+fn note_all<M: KeepsMessage>(messages: &mut Vec<M>, sent: &[Message], site: u8, first: u32)
+    requires room { vec_len messages.old + length sent.now ≤ vec_capacity messages.old }
+    requires few { first + length sent.now < 2 ^ 32 }
+    ensures noted { map M.noted messages.new.items ≡ map M.noted messages.old.items ++ sent.now }
+    ensures there { (ts : List ModelSite) → AreMadeFrom ts site first sent.now
+        → All (M.IsThere ts) messages.old.items → All (M.IsThere ts) messages.new.items }
+{
+    let mut position = first;
+    for message in sent {
+        messages.push_reserved(M::note(message, site, position));
+        position += 1;
     }
 }
 

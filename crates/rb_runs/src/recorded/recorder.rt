@@ -7,11 +7,11 @@ use rb_history::LineFault;
 use rb_money::{Config, Refusal};
 use rb_reasons::Expected;
 use rb_site::{Entry, Reply};
-use rb_world::{ErasedEvent, World};
+use rb_world::{ErasedEvent, PlacedMessage, World};
 use std::alloc::Global;
 
 /// A world whose sites keep their histories. It keeps no list of its events.
-pub type RecordingWorld = World<Entry, ErasedEvent>;
+pub type RecordingWorld = World<Entry, ErasedEvent, PlacedMessage>;
 
 /// A script whose histories are asked for: its world, and the place of the last reply, which isn't put out.
 pub struct Recorder {

@@ -9,14 +9,14 @@ ghost use Rattle.rb_runs.specs.ScriptSession.{AnswersCommand, TakesCommand};
 
 use rb_history::{LineFault, append_reply, open_command, open_config};
 use rb_site::{KeepsEntry, Reply};
-use rb_world::{ErasedEvent, LeanWorld, World};
+use rb_world::{ErasedEvent, LeanWorld, PlacedMessage, World};
 use std::alloc::Global;
 
 /// The world before any event of the configuration on a line.
 pub fn open_world<E: KeepsEntry>(
     alloc: Global,
     line: &[u8],
-) -> Result<World<E, ErasedEvent>, LineFault>
+) -> Result<World<E, ErasedEvent, PlacedMessage>, LineFault>
     ensures { MatchResult result
         (λ world. (s : Settings) × (config_on line.now ≡ Some s) × (world ≡ opened s))
         (λ why. why ≡ Bad → config_on line.now ≡ None) }
@@ -29,7 +29,7 @@ pub fn open_world<E: KeepsEntry>(
 #[inline(always)]
 pub fn take_command<E: KeepsEntry>(
     alloc: Global,
-    world: &mut World<E, ErasedEvent>,
+    world: &mut World<E, ErasedEvent, PlacedMessage>,
     reply: &mut Reply,
     line: &[u8],
 ) -> Result<(), LineFault>

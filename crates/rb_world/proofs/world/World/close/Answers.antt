@@ -10,9 +10,9 @@ use Rattle.rb_world.proofs.world.World.close.Goals as goal
 
 pub sites-init : goal.sites-init
 sites-init g c =
-    let none : c.self.inside.reports.items ≡ [] = c.self.invariant.2 in
+    let none : c.self.inside.reports.items ≡ [] = c.self.invariant.3 in
     let empty : vec_len c.self.inside.reports ≡ 0 = c.self.inside.reports.ok.0 ∙ ap length none in
-    let room : length c.self.inside.sites.items ≤ vec_capacity c.self.inside.reports = c.self.invariant.3 in
+    let room : length c.self.inside.sites.items ≤ vec_capacity c.self.inside.reports = c.self.invariant.4 in
     let many : vec_len c.self.inside.sites ≡ length c.self.inside.sites.items = c.self.inside.sites.ok.0 in
     let settings : c.self.inside.config ≡ c.args.self.settings = ap (λ (w : SeenWorld). w.settings) c.self.view_is in (
       (let P : List SiteReport → Type 0 = λ rs. IsClosing g.E.KeepsEntry.KEEPS c.args.self.settings
