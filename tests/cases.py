@@ -47,7 +47,7 @@ BANK_IN_FULL = (
 BALANCE = '{"balance":"ann","site":0}'
 SECONDS = 60  # after which a run is given up
 STUCK = '{"fault":"stuck","next":[1,1]}\n'
-HELP = re.compile(r'pub const (\w+)_HELP: &str =\s*r#"(.*?)"#;', re.DOTALL)
+HELP = re.compile(r'const (\w+?)(?:_HELP: &str =|: Texts = Texts \{[^;]*?help:)\s*r#"(.*?)"#', re.DOTALL)
 LINE_LIMIT = 1_048_576  # bytes of a line without its line feed (docs/FORMAT.md)
 TELLERS_BANK = (
     '{"accounts":[["a0",1000],["a1",1000],["a2",1000],["a3",1000]],'

@@ -1,54 +1,53 @@
--- A command with options added in turn.
-use Rattle.std.proofs.Common.{◌≡◌, false, List, [], ◌∷◌, ap, subst, ◌∙◌}
-use Rattle.std.specs.Prelude.{IfOk, Result}
-use Rattle.std.proofs.lemmas.Result.{IfOk-weaker}
-use Rattle.std.specs.declared.alloc.AllocError.{AllocError}
-use Rattle.clap.specs.Words.{AddsArg, AddsInTurn, App, Rule, app_of, rule_of, with_rule}
+-- A command with options and with commands added in turn.
+use Rattle.std.proofs.Common.{◌≡◌, ◌∙◌, ℕ, true, false, not, List, [], ◌∷◌, is_some, map, sym, ap}
+use Rattle.std.specs.Prelude.{fold}
+use Rattle.std.specs.List.{list_all}
+use Rattle.std.proofs.lemmas.Bool.{not-true}
+use Rattle.clap.specs.Simple.{App, app_of, with_rule, with_subcommand}
+use Rattle.clap.specs.Walk.{Rule, is_empty, is_simple_arg, rule_of}
+use Rattle.clap.specs.Words.{AddsArg, AddsInTurn, AddsSubcommand}
 use Rattle.clap.specs.declared.builder.arg.Arg.{Arg}
 use Rattle.clap.specs.declared.builder.command.Command.{Command}
-use Rattle.clap.specs.declared.builder.command.Command.TheViews.{out-Command}
+use Rattle.clap.proofs.WalkLemmas.{both}
+use Rattle.rb_cli.specs.Words.{within}
 
--- what is known of a command: what it takes, and that its subcommands have none of its options
-pub record Is (command : Command) (app : App) : Type 0 where
-  pub shape : app_of command ≡ app
-  pub local : (out-Command command).has_globals ≡ false
+-- a simple option is none of the commands below
+own_option : (a : Arg) → is_simple_arg a ≡ true → a.global ≡ false
+own_option a is =
+    let all = both (is_empty a.overrides.items) _ is in
+    let no_ifs = both (is_empty a.default_vals_ifs.items) _ all.1 in
+    let no_groups = both (is_empty a.groups.items) _ no_ifs.1 in
+    let no_delimiter = both (not (is_some a.val_delim)) _ no_groups.1 in
+    let no_terminator = both (not (is_some a.terminator)) _ no_delimiter.1 in
+    let no_hyphens = both (not a.allow_hyphen_values) _ no_terminator.1 in
+    let no_negatives = both (not a.allow_negative_numbers) _ no_hyphens.1 in
+    let no_equals = both (not a.require_equals) _ no_negatives.1 in
+    let not_last = both (not a.last) (not a.global) no_equals.1 in
+    not-true a.global not_last.1
 
--- what is known of an option
-pub record HasRule (option : Arg) (rule : Rule) : Type 0 where
-  pub rule_is : rule_of option ≡ rule
-  pub local : option.global ≡ false
+-- a command to which simple options were added has their rules
+pub with_options : (old new : Command) (options : List Arg) → list_all (λ rule. rule.is_simple) (map rule_of options) ≡ true
+    → AddsInTurn AddsArg old options new → app_of new ≡ fold with_rule (app_of old) (map rule_of options)
+with_options old new [] simple adds = ap app_of (sym adds)
+with_options old new (a ∷ options) simple adds =
+    let its = both _ _ simple in
+    with_options adds.0 new options its.1 adds.2
+    ∙ ap (λ app. fold with_rule app (map rule_of options)) (adds.1.shape (own_option a its.0))
 
--- the options have these rules
-abbrev pub HaveRules : List Arg → List Rule → Type 0
-HaveRules [] [] = Unit {0}
-HaveRules (a ∷ options) (r ∷ rules) = HasRule a r × HaveRules options rules
-HaveRules _ _ = ⊥
+-- and one to which plain commands were added has these below it
+pub with_commands : (old new : Command) (parts : List Command) → list_all (λ part. part.top.is_plain) (map app_of parts) ≡ true
+    → AddsInTurn AddsSubcommand old parts new
+    → app_of new ≡ fold (λ app part. with_subcommand app part.top) (app_of old) (map app_of parts)
+with_commands old new [] plain adds = ap app_of (sym adds)
+with_commands old new (part ∷ parts) plain adds =
+    let its = both _ _ plain in
+    let no_groups = both _ _ its.0 in
+    let no_external = both _ _ no_groups.1 in
+    let no_globals = both _ _ no_external.1 in
+    with_commands adds.0 new parts its.1 adds.2
+    ∙ ap (λ app. fold (λ (app : App) (part : App). with_subcommand app part.top) app (map app_of parts))
+    (adds.1.shape (not-true _ no_globals.0))
 
--- a command with these rules added in turn
-abbrev pub with_rules : App → List Rule → App
-with_rules app [] = app
-with_rules app (r ∷ rules) = with_rules (with_rule app r) rules
-
--- one more option
-with_one : (old new : Command) (a : Arg) (app : App) (rule : Rule) → Is old app → HasRule a rule → AddsArg old a new
-    → Is new (with_rule app rule)
-with_one old new a app rule is has adds = record {
-  shape = adds.shape has.local ∙ (ap (λ (p : App). with_rule p (rule_of a)) is.shape ∙ ap (with_rule app) has.rule_is);
-  local = adds.globals ∙ cc (is.local, has.local);
-}
-
--- all in turn
-with_all : (old new : Command) (options : List Arg) (app : App) (rules : List Rule) → Is old app → HaveRules options rules
-    → AddsInTurn AddsArg old options new → Is new (with_rules app rules)
-with_all old new [] app [] is have adds = subst (λ (command : Command). Is command app) adds is
-with_all old new (a ∷ options) app (r ∷ rules) is have adds =
-    with_all adds.0 new options (with_rule app r) rules (with_one old adds.0 a app r is have.0 adds.1) have.1 adds.2
-with_all old new [] app (r ∷ rules) is have adds = absurd have
-with_all old new (a ∷ options) app [] is have adds = absurd have
-
--- a command to which options were added has their rules
-pub with_options : (old : Command) (given options : List Arg) (result : Result Command AllocError) (app : App) (rules : List Rule)
-    → given ≡ options → Is old app → HaveRules options rules
-    → IfOk result (AddsInTurn AddsArg old given) → IfOk result (λ new. Is new (with_rules app rules))
-with_options old given options result app rules are is have = IfOk-weaker result _ _ (λ new in_turn.
-    with_all old new options app rules is have (subst (λ (xs : List Arg). AddsInTurn AddsArg old xs new) are in_turn))
+-- a rule with numbers in a range
+abbrev pub ranged : ℕ → ℕ → Rule → Rule
+ranged least most rule = record rule { parser = within least most }

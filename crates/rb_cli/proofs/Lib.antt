@@ -1,4 +1,5 @@
 mod Added
+mod Behind
 mod Closing
 mod Files
 mod GivenOptions

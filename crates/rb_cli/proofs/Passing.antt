@@ -1,5 +1,5 @@
 -- A command's options after a parse that fails nowhere: each that is given has a first value that its parser takes.
-use Rattle.std.proofs.Common.{◌≡◌, ◌≤◌, ◌&&◌, ◌⊎◌, ℕ, Bool, cond, true, false, not, zero, suc, refl, sym, ap, subst}
+use Rattle.std.proofs.Common.{◌≡◌, ◌≤◌, ◌&&◌, ◌⊎◌, ℕ, Bool, cond, true, false, not, zero, suc, refl, ap, subst}
 use Rattle.std.proofs.Common.{List, [], ◌∷◌, ◌++◌, length, drop, Option, Some, None, inl, inr, is_some, rules}
 use Rattle.std.specs.Prelude.{IfSome, encode_utf8, find, nat_lt, fold, slice_get}
 use Rattle.std.specs.Option.{option_map_or}
@@ -16,7 +16,7 @@ use Rattle.clap.specs.Walk.{has_long, has_short, is_pending, long_met}
 use Rattle.clap.specs.Walk.{long_or_other, more_values, most_values, next, option_met, option_word, plain_word}
 use Rattle.clap.specs.Walk.{positional_held, pushed, reacted, reading_by, settled, settled_rows}
 use Rattle.clap.specs.Walk.{short_met, short_or_plain, subcommand, subcommand_met, subcommand_or_other, takes_several}
-use Rattle.clap.specs.Walk.{takes_values, to_positional, trailing, used, used_as, used_by_id, value}
+use Rattle.clap.specs.Walk.{takes_values, to_positional, trailing, used, used_by_id, value}
 use Rattle.clap.specs.Walk.{default_rows, has_row, values_or_missing, walked, walked_from, with_default, with_values, without, word_met}
 use Rattle.clap.specs.Walk.{done, waits}
 use Rattle.clap.specs.Walk.{plain, refused, idle, option, positional}
@@ -24,7 +24,7 @@ use Rattle.clap.specs.Kinds.{Kinds, or_else, range_kinds}
 use Rattle.clap.specs.Simple.{Shape}
 use Rattle.clap.specs.Takes.{value_passes}
 use Rattle.clap.specs.Faults.{action_fault, bundle_fault, bundle_step_fault, flag_word_fault, flags_fault, long_fault}
-use Rattle.clap.specs.Faults.{option_fault, other_fault, positional_fault, react_fault, repeat_fault, set_fault}
+use Rattle.clap.specs.Faults.{option_fault, other_fault, positional_fault, react_fault}
 use Rattle.clap.specs.Faults.{settle_fault, short_fault, step_fault, stray_fault, use_fault, values_fault, walk_fault, word_fault}
 use Rattle.clap.specs.declared.builder.action.ArgAction.TheVariants.{Append, Help, Set, SetTrue}
 use Rattle.clap.specs.declared.parser.matches.ValueSource.{ValueSource}
@@ -179,37 +179,23 @@ use_passes c again a values rows is none e =
     let parts = none_of _ _ none in
     go values is.kind parts.0 parts.1
   where
-    -- a use of a switch
-    switched : (vs words : List Text) (word : Text) → action_of a ≡ SetTrue → values_or_missing a vs ≡ word ∷ words
+    -- a use of which the one first value is that of the next use
+    set : (vs words : List Text) (word : Text) → (action_of a ≡ Set) ⊎ (action_of a ≡ SetTrue) → values_or_missing a vs ≡ word ∷ words
         → action_fault (action_of a) again a (values_or_missing a vs) rows ≡ [] → Each (Passes c) (used a vs rows)
-    switched vs words word set has fault =
-        let as_set : set_fault again a (values_or_missing a vs) rows ≡ [] =
-        subst (λ x. action_fault x again a (values_or_missing a vs) rows ≡ []) set fault in
-        let as_word : values_fault a (word ∷ words) ≡ [] =
-        subst (λ xs. values_fault a xs ≡ []) has
-        (none_of (repeat_fault again a.id rows) (values_fault a (values_or_missing a vs)) as_set).1 in
-        subst (λ x. Each (Passes c) (used_as x a.id (reading_by a) (values_or_missing a vs) rows)) (sym set)
-        (subst (λ xs. Each (Passes c) (with_values a.id (reading_by a) CommandLine xs (without a.id rows))) (sym has)
-        (set_passes c a word words rows is as_word e))
+    set vs words word (inl is_set) has fault =
+        rw (is_set, has) (set_passes c a word words rows is (none_of _ _ (rw (is_set, has) at fault)).1 e)
+    set vs words word (inr is_set) has fault =
+        rw (is_set, has) (set_passes c a word words rows is (none_of _ _ (rw (is_set, has) at fault)).1 e)
 
     go : (vs : List Text) → IsKnownKind a
         → range_kinds (unwrap_or_range a.range).start_inclusive (most_values a) (length vs) ≡ []
-        → action_fault (action_of a) again a (values_or_missing a vs) rows ≡ []
-        → Each (Passes c) (used a vs rows)
+        → action_fault (action_of a) again a (values_or_missing a vs) rows ≡ [] → Each (Passes c) (used a vs rows)
     go [] (inl takes) range fault = absurd (too_few _ _ takes.1 range)
-    go (v ∷ vs) (inl (inl set, least)) range fault =
-        let as_set : set_fault again a (v ∷ vs) rows ≡ [] = subst (λ x. action_fault x again a (v ∷ vs) rows ≡ []) set fault in
-        subst (λ x. Each (Passes c) (used_as x a.id (reading_by a) (v ∷ vs) rows)) (sym set)
-        (set_passes c a v vs rows is (none_of _ _ as_set).1 e)
-    go (v ∷ vs) (inl (inr append, least)) range fault =
-        let as_append : values_fault a (v ∷ vs) ≡ [] = subst (λ x. action_fault x again a (v ∷ vs) rows ≡ []) append fault in
-        subst (λ x. Each (Passes c) (used_as x a.id (reading_by a) (v ∷ vs) rows)) (sym append)
-        (append_passes c a v vs rows is as_append e)
-    go [] (inr (inr flag)) range fault = switched [] flag.2 flag.1 flag.0 flag.3 fault
-    go (v ∷ vs) (inr (inr flag)) range fault = switched (v ∷ vs) vs v flag.0 refl fault
-    go vs (inr (inl help)) range fault =
-        let as_help = subst (λ x. action_fault x again a (values_or_missing a vs) rows ≡ []) help fault in
-        absurd (never DisplayHelp [] as_help)
+    go (v ∷ vs) (inl (inl is_set, least)) range fault = set (v ∷ vs) vs v (inl is_set) refl fault
+    go (v ∷ vs) (inl (inr append, least)) range fault = rw append (append_passes c a v vs rows is (rw append at fault) e)
+    go [] (inr (inr flag)) range fault = set [] flag.2 flag.1 (inr flag.0) flag.3 fault
+    go (v ∷ vs) (inr (inr flag)) range fault = set (v ∷ vs) vs v (inr flag.0) refl fault
+    go vs (inr (inl help)) range fault = absurd (never DisplayHelp [] (rw help at fault))
 
 -- ---- the walk over the words
 
@@ -300,29 +286,27 @@ module _ (c : List Rule) (again : Bool) (all : Each (IsOption c) c) where
           (λ held inner rows. later (drop (length (encode_utf8 x)) flags) 0 done held inner rows) fault e
       go (Some x) (suc less) fault later = later (drop (length (encode_utf8 x)) flags) less so_far h fault e
 
-  option_word_rows : (found : Option Rule) (id word : Text) (h : Held) → (option_word found id word h).0.rows ≡ h.rows
-  option_word_rows None id word h = refl
-  option_word_rows (Some a) id word h = refl
-
-  plain_rows : (waiting : Waiting) (word : Text) (h : Held) → (plain_word c waiting word h).0.rows ≡ h.rows
-  plain_rows idle word h = refl
-  plain_rows (option id) word h = option_word_rows (arg_by_id c id) id word h
-  plain_rows positional word h = refl
-
-  flag_rows : (waiting : Waiting) (word : Text) (h : Held) (out : Outcome) → (after_flag c waiting word h out).0.rows ≡ h.rows
-  flag_rows waiting word h done = refl
-  flag_rows waiting word h (waits id) = refl
-  flag_rows waiting word h plain = plain_rows waiting word h
-  flag_rows waiting word h refused = plain_rows waiting word h
+  plain_passes : (waiting : Waiting) (word : Text) (h : Held) → Each (Passes c) h.rows
+      → Each (Passes c) (plain_word c waiting word h).0.rows
+  plain_passes idle word h e = e
+  plain_passes (option id) word h e = go (arg_by_id c id)
+    where
+      go : (found : Option Rule) → Each (Passes c) (option_word found id word h).0.rows
+      go None = e
+      go (Some a) = e
+  plain_passes positional word h e = e
 
   after_passes : (waiting : Waiting) (word : Text) (h : Held) (out : Outcome) → Each (Passes c) h.rows
       → Each (Passes c) (after_flag c waiting word h out).0.rows
-  after_passes waiting word h out e = subst (Each (Passes c)) (sym (flag_rows waiting word h out)) e
+  after_passes waiting word h done e = e
+  after_passes waiting word h (waits id) e = e
+  after_passes waiting word h plain e = plain_passes waiting word h e
+  after_passes waiting word h refused e = plain_passes waiting word h e
 
   short_word_passes : (waiting : Waiting) (word : Text) (short : Option Text) (h : Held)
       → option_map_or (λ flags. bundle_fault c again flags h) short [] ≡ [] → Each (Passes c) h.rows
       → Each (Passes c) (short_or_plain c waiting word short h).0.rows
-  short_word_passes waiting word None h none e = subst (Each (Passes c)) (sym (plain_rows waiting word h)) e
+  short_word_passes waiting word None h none e = plain_passes waiting word h e
   short_word_passes waiting word (Some flags) h none e =
       after_passes waiting word (bundle c flags h).0 (bundle c flags h).1
       (bundle_passes (length flags) flags h.skip plain (record h { skip = 0 }) none e)

@@ -1,6 +1,6 @@
 -- Words that the command line takes ask for something, within its limits.
 use Rattle.std.proofs.Common.{◌≡◌, ◌∙◌, ◌<◌, ◌≤◌, ◌⊎◌, ◌&&◌, ◌||◌, ℕ, Bool, cond, codes, true, false, true≢false, not, refl}
-use Rattle.std.proofs.Common.{sym, ap, subst, arith, length, List, [], ◌∷◌, Option, Some, None, inl, inr, is_some}
+use Rattle.std.proofs.Common.{sym, subst, arith, rules, length, List, [], ◌∷◌, Option, Some, None, inl, inr, is_some}
 use Rattle.std.specs.Prelude.{IfSome, find, fold, option_map, unwrap_or}
 use Rattle.std.specs.Option.{option_map_or}
 use Rattle.std.specs.Str.{bytes_eq}
@@ -22,7 +22,8 @@ use Rattle.clap.proofs.OnLiterals.{clap_on_literals}
 use Rattle.rb_money.specs.declared.limits.TheConstants.{MOST_HISTORY, MOST_SITES}
 use Rattle.rb_cli.specs.declared.recorded.Record.{Record}
 use Rattle.rb_cli.specs.declared.words.TheConstants.{MOST_TELLERS}
-use Rattle.rb_cli.specs.Words.{AreFit, Asked, IsInRange, IsNumberWithin, IsSwitchWord, TextRefs, command_line, option_rule, plain_line}
+use Rattle.rb_cli.specs.Words.{AreFit, Asked, FitsWithin, HasSwitchWord, IsInRange, IsNumberWithin, IsSwitchWord, TextRefs}
+use Rattle.rb_cli.specs.Words.{command_line, option_rule, plain_line}
 use Rattle.rb_cli.specs.Words.{choice_at, close_asked, close_line, number_at, seal, site_line, switch_at}
 use Rattle.rb_cli.specs.Words.{switch_rule, values_rule, with_site_options}
 use Rattle.rb_cli.specs.Words.{threads_line, within, numeral_value, words_of_matches, files_line, texts_at, threads}
@@ -132,17 +133,22 @@ pub record Asks (met : Option (Text × List Row)) : Type 0 where
 other_text : (a b : Text) → bytes_eq a b ≡ false → a ≡ b → ⊥
 other_text a b differ same = true≢false (sym ((bytes_eq-Decides a b).1 same) ∙ differ)
 
-no_options : (name : Text) (its_rows : List Row) → bytes_eq name (codes "threads") ≡ false
-    → bytes_eq name (codes "site") ≡ false → bytes_eq name (codes "close") ≡ false → AreFit name its_rows
-no_options name its_rows no_threads no_site no_close = record {
-  sites = λ is. absurd (other_text _ _ no_threads is);
-  tellers = λ is. absurd (other_text _ _ no_threads is);
-  seed = λ is. absurd (other_text _ _ no_threads is);
-  me = λ is. absurd (other_text _ _ no_site is);
-  resend = λ is. absurd (other_text _ _ no_site is);
-  new = λ is. absurd (other_text _ _ no_site is);
-  seal = λ is. absurd (other_text _ _ no_site is);
-  next_sites = λ is. absurd (other_text _ _ no_close is);
+-- a command has the options that are fit if it is one of the three that have some
+are_fit : (name : Text) (its_rows : List Row)
+    → (name ≡ codes "threads" → FitsWithin 2 MOST_SITES (codes "sites") its_rows × FitsWithin 1 MOST_TELLERS (codes "tellers") its_rows
+    × FitsWithin 0 4294967295 (codes "seed") its_rows)
+    → (name ≡ codes "site" → FitsWithin 0 15 (codes "me") its_rows × FitsWithin 0 MOST_HISTORY (codes "resend") its_rows
+    × HasSwitchWord (codes "new") its_rows × HasSwitchWord (codes "seal") its_rows)
+    → (name ≡ codes "close" → FitsWithin 2 MOST_SITES (codes "sites") its_rows) → AreFit name its_rows
+are_fit name its_rows in_threads in_site in_close = record {
+  sites = λ is. (in_threads is).0;
+  tellers = λ is. (in_threads is).1;
+  seed = λ is. (in_threads is).2;
+  me = λ is. (in_site is).0;
+  resend = λ is. (in_site is).1;
+  new = λ is. (in_site is).2;
+  seal = λ is. (in_site is).3;
+  next_sites = in_close;
 }
 
 nothing_missing : (a b d : Bool) → (not a || (not b || (not d || false))) ≡ false → (a ≡ true) × (b ≡ true) × (d ≡ true)
@@ -161,108 +167,44 @@ numbers name least most required = filled (option_rule name (within least most) 
 
 -- the rules of `threads` are options
 pub threads_options : HasOptions (leaf threads_line)
-threads_options = (
-  record { own = refl; defaults = tt; kind = inl (inl refl, omega arith) },
-  (
-    record { own = refl; defaults = tt; kind = inl (inl refl, omega arith) },
-    (
-      record { own = refl; defaults = tt; kind = inl (inl refl, omega arith) },
-      (record { own = refl; defaults = tt; kind = inr (inl refl) }, tt),
-    ),
-  ),
-)
+threads_options = search rules
 
 -- and so are those of `site`
 pub site_options : (names : TextRefs) → HasOptions (leaf (site_line names))
-site_options names = (
-  record { own = refl; defaults = tt; kind = inl (inl refl, omega arith) },
-  (
-    record { own = refl; defaults = tt; kind = inl (inl refl, omega arith) },
-    (
-      record { own = refl; defaults = (refl, tt); kind = inr (inr (refl, codes "true", [], refl)) },
-      (
-        record { own = refl; defaults = tt; kind = inl (inl refl, omega arith) },
-        (
-          record { own = refl; defaults = tt; kind = inl (inl refl, omega arith) },
-          (
-            record { own = refl; defaults = tt; kind = inl (inl refl, omega arith) },
-            (
-              record { own = refl; defaults = (refl, tt); kind = inr (inr (refl, codes "true", [], refl)) },
-              (record { own = refl; defaults = tt; kind = inr (inl refl) }, tt),
-            ),
-          ),
-        ),
-      ),
-    ),
-  ),
-)
+site_options names = search rules
 
 -- and those of `close`
 pub close_options : HasOptions (leaf close_line)
-close_options = (
-  record { own = refl; defaults = tt; kind = inl (inl refl, omega arith) },
-  (
-    record { own = refl; defaults = tt; kind = inl (inr refl, omega arith) },
-    (
-      record { own = refl; defaults = tt; kind = inl (inr refl, omega arith) },
-      (record { own = refl; defaults = tt; kind = inr (inl refl) }, tt),
-    ),
-  ),
-)
+close_options = search rules
 
 -- the rule of the files behind them
 abbrev pub journals_rule : Rule
 journals_rule = with_index 1 (filled (values_rule (codes "journals")))
 
-threads_given : (its_rows : List Row) → Each (Passes (leaf threads_line).rules) its_rows
-    → check_fault (leaf threads_line) its_rows false ≡ []
-    → HasText (numbers (codes "sites") 2 MOST_SITES true) (codes "sites") its_rows
-    × HasText (numbers (codes "tellers") 1 MOST_TELLERS true) (codes "tellers") its_rows
-    × HasText (numbers (codes "seed") 0 4294967295 true) (codes "seed") its_rows
-threads_given its_rows all none =
-    let given = nothing_missing (is_given (codes "sites") its_rows) (is_given (codes "tellers") its_rows) (is_given (codes "seed") its_rows)
-    (none_missing (leaf threads_line) its_rows none) in (
-      given_text (leaf threads_line).rules _ _ its_rows all refl given.0,
-      given_text (leaf threads_line).rules _ _ its_rows all refl given.1,
-      given_text (leaf threads_line).rules _ _ its_rows all refl given.2,
-    )
-
 threads_asks : (its_rows : List Row) → Each (Passes (leaf threads_line).rules) its_rows
     → check_fault (leaf threads_line) its_rows false ≡ []
     → Asks (Some (codes "threads", its_rows))
 threads_asks its_rows all none =
-    let given = threads_given its_rows all none in
-    let sites = number_of_text _ _ its_rows 2 MOST_SITES given.0 refl in
-    let tellers = number_of_text _ _ its_rows 1 MOST_TELLERS given.1 refl in
-    let seed = number_of_text _ _ its_rows 0 4294967295 given.2 refl in
-    let rules = (leaf threads_line).rules in record {
-      asked = threads (numeral_value (without_minus given.0.text)) (numeral_value (without_minus given.1.text))
-          (numeral_value (without_minus given.2.text));
+    let rules = (leaf threads_line).rules in
+    let given = nothing_missing (is_given (codes "sites") its_rows) (is_given (codes "tellers") its_rows) (is_given (codes "seed") its_rows)
+    (none_missing (leaf threads_line) its_rows none) in
+    let of_sites = given_text rules (numbers (codes "sites") 2 MOST_SITES true) (codes "sites") its_rows all refl given.0 in
+    let of_tellers = given_text rules (numbers (codes "tellers") 1 MOST_TELLERS true) (codes "tellers") its_rows all refl given.1 in
+    let of_seed = given_text rules (numbers (codes "seed") 0 4294967295 true) (codes "seed") its_rows all refl given.2 in
+    let sites = number_of_text _ _ its_rows 2 MOST_SITES of_sites refl in
+    let tellers = number_of_text _ _ its_rows 1 MOST_TELLERS of_tellers refl in
+    let seed = number_of_text _ _ its_rows 0 4294967295 of_seed refl in
+    record {
+      asked = threads (numeral_value (without_minus of_sites.text)) (numeral_value (without_minus of_tellers.text))
+          (numeral_value (without_minus of_seed.text));
       is = rw (sites.0, tellers.0, seed.0) refl;
       in_range = (sites.1.1, sites.1.2, tellers.1.1, tellers.1.2, omega (arith, seed.1.2));
-      fit = record {
-        sites = λ _. fits _ _ its_rows 2 MOST_SITES (at_option rules (numbers (codes "sites") 2 MOST_SITES true) _ its_rows all refl) refl;
-        tellers = λ _. fits _ _ its_rows 1 MOST_TELLERS
-            (at_option rules (numbers (codes "tellers") 1 MOST_TELLERS true) _ its_rows all refl) refl;
-        seed = λ _. fits _ _ its_rows 0 4294967295 (at_option rules (numbers (codes "seed") 0 4294967295 true) _ its_rows all refl) refl;
-        me = λ is. absurd (other_text (codes "threads") (codes "site") refl is);
-        resend = λ is. absurd (other_text (codes "threads") (codes "site") refl is);
-        new = λ is. absurd (other_text (codes "threads") (codes "site") refl is);
-        seal = λ is. absurd (other_text (codes "threads") (codes "site") refl is);
-        next_sites = λ is. absurd (other_text (codes "threads") (codes "close") refl is);
-      };
+      fit = are_fit _ its_rows (λ _. (
+        fits _ _ its_rows 2 MOST_SITES (inr of_sites) refl,
+        fits _ _ its_rows 1 MOST_TELLERS (inr of_tellers) refl,
+        fits _ _ its_rows 0 4294967295 (inr of_seed) refl,
+      )) (λ is. cc is) (λ is. cc is);
     }
-
-site_given : (names : TextRefs) (its_rows : List Row) → Each (Passes (leaf (site_line names)).rules) its_rows
-    → check_fault (leaf (site_line names)) its_rows false ≡ []
-    → HasText (numbers (codes "me") 0 15 true) (codes "me") its_rows
-    × HasText (filled (option_rule (codes "journal") None true)) (codes "journal") its_rows
-site_given names its_rows all none =
-    let given = nothing_missing (is_given (codes "me") its_rows) (is_given (codes "journal") its_rows) true
-    (none_missing (leaf (site_line names)) its_rows none) in (
-      given_text (leaf (site_line names)).rules _ _ its_rows all refl given.0,
-      given_text (leaf (site_line names)).rules _ _ its_rows all refl given.1,
-    )
 
 -- the number of entries that are sent again, if it is given
 resent : (o : Option Text) → IfSome o (IsNumberWithin 0 MOST_HISTORY) → IfSome (option_map numeral_value o) (λ n. n ≤ MOST_HISTORY)
@@ -284,57 +226,43 @@ switched : (id : Text) (its_rows : List Row)
 switched id its_rows (inl none) = subst (λ o. IfSome o IsSwitchWord) (sym none.0) tt
 switched id its_rows (inr has) = subst (λ o. IfSome o IsSwitchWord) (sym has.one) (switch_word has.text has.passes)
 
+-- a history to seal is asked for, or a site to run
+sealed_or_run : (sealed new : Bool) (me : ℕ) (journal : Text) (again : Option ℕ) (choice : Record) (bank : Option Text) → me < MOST_SITES
+    → IfSome again (λ n. n ≤ MOST_HISTORY)
+    → (asked : Asked) × (with_site_options (Some me) (Some journal) sealed new again choice bank ≡ Some asked) × IsInRange asked
+sealed_or_run true new me journal again choice bank is_site few = (seal me journal, refl, is_site)
+sealed_or_run false new me journal again choice bank is_site few = (site me journal new again choice bank, refl, (is_site, few))
+
 site_asks : (names : TextRefs) (its_rows : List Row) → Each (Passes (leaf (site_line names)).rules) its_rows
     → check_fault (leaf (site_line names)) its_rows false ≡ []
     → Asks (Some (codes "site", its_rows))
 site_asks names its_rows all none =
-    let given = site_given names its_rows all none in
-    let me = number_of_text _ _ its_rows 0 15 given.0 refl in
     let rules = (leaf (site_line names)).rules in
+    let given = nothing_missing (is_given (codes "me") its_rows) (is_given (codes "journal") its_rows) true
+    (none_missing (leaf (site_line names)) its_rows none) in
+    let of_me = given_text rules (numbers (codes "me") 0 15 true) (codes "me") its_rows all refl given.0 in
+    let of_journal = given_text rules (filled (option_rule (codes "journal") None true)) (codes "journal") its_rows all refl given.1 in
+    let me = number_of_text _ _ its_rows 0 15 of_me refl in
     let again = fits _ _ its_rows 0 MOST_HISTORY
     (at_option rules (numbers (codes "resend") 0 MOST_HISTORY false) (codes "resend") its_rows all refl) refl in
-    let what = by_switch (numeral_value (without_minus given.0.text)) given.1.text (ap (option_map numeral_value) me.0) given.1.first
-    (omega (arith, me.1.2)) (resent (one_of (codes "resend") its_rows) again) (switch_at (codes "seal") its_rows) in
+    let sealed = switch_at (codes "seal") its_rows in
+    let new = switch_at (codes "new") its_rows in
+    let resend = number_at (codes "resend") its_rows in
+    let bank = first_of (codes "bank") its_rows in
+    let what = sealed_or_run sealed new (numeral_value (without_minus of_me.text)) of_journal.text resend (choice_at its_rows) bank
+    (omega (arith, me.1.2)) (resent (one_of (codes "resend") its_rows) again) in
     record {
       asked = what.0;
-      is = what.1;
+      is = (λ i. with_site_options (option_map numeral_value (me.0 i)) (of_journal.first i) sealed new resend (choice_at its_rows) bank)
+          ∙ what.1;
       in_range = what.2;
-      fit = record {
-        sites = λ is. absurd (other_text (codes "site") (codes "threads") refl is);
-        tellers = λ is. absurd (other_text (codes "site") (codes "threads") refl is);
-        seed = λ is. absurd (other_text (codes "site") (codes "threads") refl is);
-        me = λ _. fits _ _ its_rows 0 15 (at_option rules (numbers (codes "me") 0 15 true) _ its_rows all refl) refl;
-        resend = λ _. again;
-        new = λ _. switched (codes "new") its_rows (at_option rules (filled (switch_rule (codes "new"))) (codes "new") its_rows all refl);
-        seal = λ _. switched (codes "seal") its_rows (at_option rules (filled (switch_rule (codes "seal")))
-            (codes "seal") its_rows all refl);
-        next_sites = λ is. absurd (other_text (codes "site") (codes "close") refl is);
-      };
+      fit = are_fit _ its_rows (λ is. cc is) (λ _. (
+        fits _ _ its_rows 0 15 (inr of_me) refl,
+        again,
+        switched (codes "new") its_rows (at_option rules (filled (switch_rule (codes "new"))) (codes "new") its_rows all refl),
+        switched (codes "seal") its_rows (at_option rules (filled (switch_rule (codes "seal"))) (codes "seal") its_rows all refl),
+      )) (λ is. cc is);
     }
-  where
-    -- a history to seal is asked for, or a site to run
-    by_switch : (me : ℕ) (journal : Text) → number_at (codes "me") its_rows ≡ Some me → first_of (codes "journal") its_rows ≡ Some journal
-        → me < MOST_SITES → IfSome (number_at (codes "resend") its_rows) (λ n. n ≤ MOST_HISTORY) → (sealed : Bool)
-        → (asked : Asked)
-        × (with_site_options (number_at (codes "me") its_rows) (first_of (codes "journal") its_rows) sealed
-        (switch_at (codes "new") its_rows) (number_at (codes "resend") its_rows) (choice_at its_rows)
-        (first_of (codes "bank") its_rows) ≡ Some asked)
-        × IsInRange asked
-    by_switch me journal has_me has_journal is_site resent sealed =
-        let new = switch_at (codes "new") its_rows in
-        let again = number_at (codes "resend") its_rows in
-        let choice = choice_at its_rows in
-        let bank = first_of (codes "bank") its_rows in
-        let is = ap (λ o. with_site_options o (first_of (codes "journal") its_rows) sealed new again choice bank) has_me
-        ∙ ap (λ o. with_site_options (Some me) o sealed new again choice bank) has_journal in
-        go sealed new again choice bank is_site resent is
-      where
-        go : (sealed new : Bool) (again : Option ℕ) (choice : Record) (bank : Option Text) → me < MOST_SITES
-            → IfSome again (λ n. n ≤ MOST_HISTORY)
-            → {o : Option Asked} → o ≡ with_site_options (Some me) (Some journal) sealed new again choice bank
-            → (asked : Asked) × (o ≡ Some asked) × IsInRange asked
-        go true new again choice bank is_site resent is = (seal me journal, is, is_site)
-        go false new again choice bank is_site resent is = (site me journal new again choice bank, is, (is_site, resent))
 
 -- the number of the next bank's sites, if it is given
 next_fits : (o : Option Text) → IfSome o (IsNumberWithin 2 MOST_SITES)
@@ -357,16 +285,7 @@ close_asks its_rows all none =
         next_fits (one_of (codes "sites") its_rows) next,
         subst (λ o. 1 ≤ length (unwrap_or o [])) (sym journals.every) (omega arith),
       );
-      fit = record {
-        sites = λ is. absurd (other_text (codes "close") (codes "threads") refl is);
-        tellers = λ is. absurd (other_text (codes "close") (codes "threads") refl is);
-        seed = λ is. absurd (other_text (codes "close") (codes "threads") refl is);
-        me = λ is. absurd (other_text (codes "close") (codes "site") refl is);
-        resend = λ is. absurd (other_text (codes "close") (codes "site") refl is);
-        new = λ is. absurd (other_text (codes "close") (codes "site") refl is);
-        seal = λ is. absurd (other_text (codes "close") (codes "site") refl is);
-        next_sites = λ _. next;
-      };
+      fit = are_fit _ its_rows (λ is. cc is) (λ is. cc is) (λ _. next);
     }
 
 -- ---- the command line
@@ -388,7 +307,8 @@ lines_ask name its_name most task is no_threads no_site no_close words none name
       asked = task (texts_at (codes "files") its_rows);
       is = (is its_rows).0;
       in_range = (is its_rows).1;
-      fit = no_options _ _ no_threads no_site no_close;
+      fit = are_fit _ its_rows (λ is. absurd (other_text _ _ no_threads is)) (λ is. absurd (other_text _ _ no_site is))
+          (λ is. absurd (other_text _ _ no_close is));
     }
 
 each_asks : (names : TextRefs) (name : Text) → IsOther name → Each (AsksBy name) (built (command_line names)).subs
@@ -402,16 +322,13 @@ each_asks names name other = (
         lines_ask name (codes "migrate") 1 migrate (λ its_rows. (refl, tt)) refl refl refl,
         (
           (λ words none named.
-              let done = leaf_passes (leaf threads_line) threads_options words none in
-              threads_asks (rows_after (leaf threads_line).rules [] words) done.0 done.1),
+              let done = leaf_passes (leaf threads_line) threads_options words none in threads_asks _ done.0 done.1),
           (
             (λ words none named.
-                let done = leaf_passes (leaf (site_line names)) (site_options names) words none in
-                site_asks names (rows_after (leaf (site_line names)).rules [] words) done.0 done.1),
+                let done = leaf_passes (leaf (site_line names)) (site_options names) words none in site_asks names _ done.0 done.1),
             (
               (λ words none named.
-                  let done = leaf_passes (leaf close_line) close_options words none in
-                  close_asks (rows_after (leaf close_line).rules [] words) done.0 done.1),
+                  let done = leaf_passes (leaf close_line) close_options words none in close_asks _ done.0 done.1),
               ((λ words none named. absurd (no_help name other (or_false _ named))), tt),
             ),
           ),

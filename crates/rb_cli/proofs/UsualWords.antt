@@ -14,8 +14,7 @@ use Rattle.clap.specs.Kinds.{Kinds, check_kinds, or_else}
 use Rattle.clap.specs.Faults.{check_fault, defaults_fault, entered_fault, settle_fault, turn_fault, walk_fault}
 use Rattle.clap.specs.Simple.{App, Shape, built, entered, filled, names_of}
 use Rattle.clap.specs.Takes.{value_passes}
-use Rattle.clap.specs.Walk.{Row, Rule, Walk, finished, nothing_held, row_text, rows_after}
-use Rattle.clap.specs.Walk.{settled, walk_from, walked}
+use Rattle.clap.specs.Walk.{Row, Rule, Walk, finished, nothing_held, row_text, rows_after, settled, walk_from, walked}
 use Rattle.clap.specs.Words.{Text, subcommand_of}
 use Rattle.clap.proofs.OnLiterals.{clap_on_literals}
 use Rattle.clap.proofs.FaultLemmas.{stopped_fault}
@@ -27,8 +26,7 @@ use Rattle.rb_cli.specs.Words.{AreRecordWords, Ask, Asked, AskForThreads}
 use Rattle.rb_cli.specs.Words.{AreCommand, IsValue, TextRefs, as_asked, site_options, switch_words, value_words}
 use Rattle.rb_cli.specs.Words.{close_line, command_line, numeral_value, with_run, with_site_options}
 use Rattle.rb_cli.specs.Words.{conflict_of, kinds_of, option_rule, record_of, record_rule, record_word}
-use Rattle.rb_cli.specs.Words.{seals_bank, text_if_any, texts_of}
-use Rattle.rb_cli.specs.Words.{files_line}
+use Rattle.rb_cli.specs.Words.{files_line, seals_bank, text_if_any, texts_of}
 use Rattle.rb_cli.specs.Words.{script, audit, histories, migrate, site, site_line, switch_rule, threads, threads_line, words_of_matches}
 use Rattle.rb_cli.specs.declared.recorded.Record.{Record}
 use Rattle.rb_cli.specs.declared.recorded.Record.TheVariants.{Changes, All}

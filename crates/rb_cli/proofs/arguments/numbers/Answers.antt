@@ -2,14 +2,10 @@
 use Rattle.std.proofs.Common.{◌≡◌, ℕ, ℤ, ◌<◌, ◌^◌, ◌∙◌, pos, Some, subst, w64, to_z, arith}
 use Rattle.std.proofs.lemmas.Int.{ints, clamps}
 use Rattle.std.specs.Int.{int_max, int_min}
-use Rattle.clap.specs.Words.{NarrowsTo, signed_between}
+use Rattle.clap.specs.Words.{NarrowsTo}
 use Rattle.clap.specs.declared.builder.value_parser.ValueParser.{ValueParser}
 use Rattle.clap.specs.declared.builder.value_parser.ValueParser.TheVariants.{Signed}
 use Rattle.rb_cli.proofs.arguments.numbers.Goals as goal
-
--- bounds of 32 bits stay as they are
-kept : (least most : ℕ) → least < 2 ^ 32 → most < 2 ^ 32 → signed_between (pos least) (pos most) ≡ Signed (pos least) (pos most)
-kept least most l m = grind (arith, ints)
 
 -- narrowed to such bounds, they are the numbers between these
 narrowed : (all some : ValueParser) (low high : ℤ) (least most : ℕ) → all ≡ Signed (pos 0) (pos 4294967295)
@@ -19,7 +15,7 @@ narrowed all some low high least most is_all is_some is_low is_high l m =
     let a : int_max (pos 0) low ≡ pos least = omega (arith, ints, clamps) in
     let b : int_min (pos 4294967295) high ≡ pos most = omega (arith, ints, clamps) in
     let some_is = subst (λ p. NarrowsTo p (Some low) (Some high) some) is_all is_some in
-    some_is ∙ rw (a, b) (kept least most l m)
+    some_is ∙ rw (a, b) (grind (arith, ints))
 
 pub returns : goal.returns
 returns c =

@@ -1,13 +1,14 @@
 -- The words as the command line reads them, and why it refuses them.
-use Rattle.std.proofs.Common.{◌≡◌, ◌∙◌, ◌≤◌, arith, length, refl, ap, sym, subst, List, [], ◌∷◌, Option, Some, map, inl, inr}
-use Rattle.std.proofs.Common.{Ok, Err, IsErrAnd}
+use Rattle.std.proofs.Common.{◌≡◌, ◌∙◌, ◌≤◌, arith, length, refl, ap, sym, subst, List, [], Option, Some, map, inl, inr}
+use Rattle.std.proofs.Common.{Ok, Err}
 use Rattle.std.specs.Prelude.{IfErr, IfSome, Result}
 use Rattle.std.proofs.lemmas.List.{length-map}
 use Rattle.std.proofs.lemmas.Result.{IfOk-weaker}
 use Rattle.clap.specs.Lexer.{usize_max}
 use Rattle.clap.specs.Words.{FailsBy, HasKind, Row, Text, fault_of, kind_of, subcommand_of}
+use Rattle.clap.proofs.FaultLemmas.{failed_up, first_fails}
 use Rattle.clap.specs.declared.error.Error.{Error}
-use Rattle.clap.specs.Kinds.{Kinds, or_else}
+use Rattle.clap.specs.Kinds.{or_else}
 use Rattle.clap.specs.declared.error.kind.ErrorKind.TheVariants.{OutOfMemory}
 use Rattle.rb_cli.specs.Words.{AreFit, AreRecordWords, Ask, IsInRange, TextRefs, command_line}
 use Rattle.rb_cli.specs.Words.{conflict_of, kinds_of, words_of_matches}
@@ -19,12 +20,6 @@ use Rattle.rb_cli.proofs.words.read_words.Goals as goal
 some_same : {X : Type 0} (a b : X) → Some a ≡ Some b → a ≡ b
 some_same a b e = cc e
 
--- an error by the first fault is one by what is wrong with the words
-first_kind : (a b : Kinds) (e : Error) → HasKind a e → HasKind (or_else a b) e
-first_kind [] b e (inl memory) = inl memory
-first_kind [] b e (inr never) = absurd never
-first_kind (k ∷ ks) b e has = has
-
 -- with words that the command line takes, only that may be wrong by which their command is refused
 by_command : {T : Type 0} (words : List Text) (names : TextRefs) (met : Option (Text × List Row)) (result : Result T Error)
     → fault_of (command_line names) words ≡ [] → met ≡ subcommand_of (command_line names) words
@@ -32,12 +27,6 @@ by_command : {T : Type 0} (words : List Text) (names : TextRefs) (met : Option (
 by_command words names met result none is fails =
     subst (λ kinds. FailsBy kinds result)
     (ap conflict_of is ∙ sym (ap (λ k. or_else k (conflict_of (subcommand_of (command_line names) words))) none)) fails
-
--- an error that is given on
-given_on : {T : Type 0} (kinds : Kinds) (result : Result T Error) (e : Error) → IsErrAnd result (λ given. given ≡ e) → HasKind kinds e
-    → FailsBy kinds result
-given_on kinds (Ok t) e is has = absurd is
-given_on kinds (Err given) e is has = subst (HasKind kinds) (sym is) has
 
 -- words that ask for something are refused for want of memory alone
 by_memory : {T : Type 0} (words : List Text) (names : TextRefs) (result : Result T Error) → length words ≤ usize_max
@@ -54,8 +43,8 @@ by_memory words names (Err e) few are fails = λ asked ask.
 early : (c : goal.After-from_residual)
     → FailsBy (kinds_of (command_line c.in_err-matches.ensures.0) (map (λ word. word.now) c.args.words.now)) c.from_residual.result
 early c =
-    given_on _ c.from_residual.result c.in_err-matches.field-0.0 c.from_residual.ensures.1
-    (first_kind _ _ c.in_err-matches.field-0.0 c.in_err-matches.ensures.3)
+    failed_up c.from_residual.result c.in_err-matches.field-0.0 _ _ c.from_residual.ensures.1
+    (first_fails _ _ _ c.in_err-matches.ensures.3)
 
 pub returns-in_err-matches-clause-kinds : goal.returns-in_err-matches-clause-kinds
 returns-in_err-matches-clause-kinds c =
