@@ -23,7 +23,7 @@ undone_after s us (v ∷ vs) = (
 -- in every world operations are undone exactly
 pub exact_reversal : (s : Settings) (w : World) → ExactReversal s w
 exact_reversal s w = record {
-  there_and_back = λ i t at v taken. undone s t.ops v;
+  there_and_back = λ i t at v. undone s t.ops v;
   tail = λ i t at n within.
       subst (λ xs. AreUndone s xs (length t.ops - n) (take n t.ops)) (take-append-drop n t.ops)
       (subst (λ k. AreUndone s (take n t.ops ++ drop n t.ops) k (take n t.ops)) (length-drop n t.ops)

@@ -1,6 +1,6 @@
 -- Laws over every run.
 use Rattle.std.specs.Prelude.{◌≡◌, ℕ, zero, suc, ◌+◌, if◌then◌else◌, ◌≤◌, Bool, true, false, List, [], ◌∷◌, ◌++◌, length, Some}
-use Rattle.std.specs.Prelude.{slice_get, ◌⊎◌, ◌&&◌, pos, ◌≤ℤ◌, ◌-◌, take, None}
+use Rattle.std.specs.Prelude.{slice_get, ◌⊎◌, ◌&&◌, pos, ◌≤ℤ◌, ◌-◌, take}
 use Rattle.rb_money.specs.Settings.{Settings}
 use Rattle.rb_money.specs.declared.limits.TheConstants.{MOST_SITES}
 use Rattle.rb_money.specs.declared.place.Place.{Place}
@@ -9,7 +9,6 @@ use Rattle.rb_shadow.specs.declared.shadow.Shadow.{Shadow}
 use Rattle.rb_shadow.specs.Operations.{Agree, Among, AreSame, IsLawful, IsSerialization, IsUnique, IsWithin, bal}
 use Rattle.rb_shadow.specs.Operations.{clock_of, names, names_of_clock, past}
 use Rattle.rb_shadow.specs.Laws.{IsClosed, IsFunded, IsPart}
-use Rattle.rb_ledger.specs.Checks.{refusal_of}
 use Rattle.rb_ledger.specs.Records.{records_of}
 use Rattle.rb_ledger.specs.Valid.{IsValid, parts_of}
 use Rattle.rb_site.specs.declared.event.Event.{Event}
@@ -45,10 +44,10 @@ abbrev pub AreUndone : Settings → List Shadow → ℕ → List Shadow → Type
 AreUndone s us zero vs = us ≡ vs
 AreUndone s us (suc k) vs = (between : List Shadow) × AreUndone s us k between × IsUndone s between vs
 
--- at each site undoing an operation that was just applied, any that the ledger accepts, leaves the exact operations and
--- records of before, and so does undoing all after any position
+-- at each site undoing an operation that was just applied, whatever it is, leaves the exact operations and records of
+-- before, and so does undoing all after any position
 pub record ExactReversal (s : Settings) (w : World) : Type 0 where
-  pub there_and_back : EachSite w (λ i t. (v : Shadow) → refusal_of s t.ops v ≡ None → IsUndone s (t.ops ++ v ∷ []) t.ops)
+  pub there_and_back : EachSite w (λ i t. (v : Shadow) → IsUndone s (t.ops ++ v ∷ []) t.ops)
   pub tail : EachSite w (λ i t. (n : ℕ) → n ≤ length t.ops → AreUndone s t.ops (length t.ops - n) (take n t.ops))
 
 -- at most one site has the token
