@@ -147,37 +147,37 @@ pub applied_one : {A E : Type 0} (r : Result A E) (old new : SeenAsked) (x : OpN
 applied_one (Ok y) old new x reply comma a b k l step added = record { reply = reply; step = step; text_is = added }
 applied_one (Err y) old new x reply comma a b k l step added = (added, front_of_sum k l _ step.entries_are)
 
--- all that is ready was applied, and the list of the replies closed
+-- all that is ready was applied, and the line ended
 pub closed : {A E : Type 0} (r : Result A E) (old new : SeenAsked) (a b c k l : List ℕ) → AppliesOn [] old new a b k l
-    → take (length a) b ≡ a → take (length k) l ≡ k → Adds r b c (codes "]")
+    → take (length a) b ≡ a → take (length k) l ≡ k → Adds r b c (codes "]}\n")
     → MatchResult r (λ _. Applies old new a c k l) (λ _. (take (length a) c ≡ a) × (take (length k) l ≡ k))
-closed (Ok y) old new a b c k l h front kept end = record {
-  names = h.names;
-  replies = h.replies;
-  recorded = h.recorded;
-  applied = h.applied;
-  recorded_are = h.recorded_are;
-  text_is = end ∙ ap (λ y. y ++ codes "]") h.text_is ∙ append_assoc a (rest_text [] (map reply_json h.replies)) (codes "]")
-      ∙ ap (λ y. a ++ y) (whole_text (map reply_json h.replies));
-  entries_are = h.entries_are;
-}
+closed (Ok y) old new a b c k l h front kept end =
+    let list = rest_text [] (map reply_json h.replies) in
+    record {
+      names = h.names;
+      replies = h.replies;
+      recorded = h.recorded;
+      applied = h.applied;
+      recorded_are = h.recorded_are;
+      text_is = both a b c list (codes "]}\n") h.text_is end
+          ∙ ap (λ y. a ++ y) (sym (append_assoc list (codes "]") (codes "}\n"))
+          ∙ ap (λ y. y ++ codes "}\n") (whole_text (map reply_json h.replies)));
+      entries_are = h.entries_are;
+    }
 closed (Err y) old new a b c k l h front kept end = (front_of_front a b c front end, kept)
 
 -- ---- an answer
 
--- what was there is there before two texts that were added
-front_stays_two : (k l m xs ys : List ℕ) → l ≡ k ++ xs → m ≡ l ++ ys → take (length k) m ≡ k
-front_stays_two k l m xs ys e f = front_of_sum k m (xs ++ ys) (both k l m xs ys e f)
-
 -- an event was answered, and what was ready then applied
 pub answered : {A E : Type 0} (r : Result A E) (all : Bool) (s : Settings) (bank : List ℕ) (old mid new : SeenAsked)
-    (id : List ℕ) (e : Event) (reply : Reply) (sent : List Message) (a b c d k l m : List ℕ) → IsIdOrNone id
+    (id : List ℕ) (e : Event) (reply : Reply) (sent : List Message) (a b c k l m : List ℕ) → IsIdOrNone id
     → known_of old id ≡ None → s ≡ old.settings → bank ≡ old.bank → StepsKept all old mid id e reply k l
     → sent ≡ sent_at old.settings (asked_state old) e
-    → b ≡ a ++ (head_text (codes "{") id ++ rest_of_front s bank reply sent) → Applies mid new b c l m → Adds r c d (codes "}\n")
-    → MatchResult r (λ _. AddsEvent all old new (record { id = id; event = e }) a d k m)
-    (λ _. (take (length a) d ≡ a) × (take (length k) m ≡ k))
-answered (Ok y) all s bank old mid new id e reply sent a b c d k l m is unknown same named step posted begun applies end = λ line on.
+    → b ≡ a ++ (head_text (codes "{") id ++ rest_of_front s bank reply sent)
+    → MatchResult r (λ _. Applies mid new b c l m) (λ _. (take (length b) c ≡ b) × (take (length l) m ≡ l))
+    → MatchResult r (λ _. AddsEvent all old new (record { id = id; event = e }) a c k m)
+    (λ _. (take (length a) c ≡ a) × (take (length k) m ≡ k))
+answered (Ok y) all s bank old mid new id e reply sent a b c k l m is unknown same named step posted begun applies = λ line on.
     let settings = old.settings in
     let x = without_ids old in
     let kept : mid.settings ≡ settings = ap (λ (y : SeenAsked). y.settings) step.recorded_are in
@@ -205,10 +205,8 @@ answered (Ok y) all s bank old mid new id e reply sent a b c d k l m is unknown 
             (applies.recorded_are id) ∙ ap (with_more old) (sym tags);
         entries_are = refl;
       }),
-      end ∙ ap (λ y. y ++ codes "}\n") (applies.text_is ∙ ap (λ y. y ++ later) begun)
-          ∙ ap (λ y. y ++ codes "}\n") (append_assoc a front later)
-          ∙ append_assoc a (front ++ later) (codes "}\n")
-          ∙ ap (λ y. a ++ y) (append_assoc front later (codes "}\n") ∙ answer_line s bank id reply sent applies.replies is)
+      both a b c front (later ++ codes "}\n") begun applies.text_is
+          ∙ ap (λ y. a ++ y) (answer_line s bank id reply sent applies.replies is)
           ∙ ap (λ u. a ++ line_of (asked_answer_json u bank id reply sent applies.replies)) same
           ∙ ap (λ u. a ++ line_of (asked_answer_json settings u id reply sent applies.replies)) named
           ∙ ap (λ u. a ++ line_of (asked_answer_json settings old.bank id u sent applies.replies)) step.reply_is
@@ -219,8 +217,5 @@ answered (Ok y) all s bank old mid new id e reply sent a b c d k l m is unknown 
           k l m kept me step.entries_are (applies.entries_are id)
           ∙ ap (λ ys. k ++ entry_lines settings old.me ys) (sym tags),
     )
-answered (Err y) all s bank old mid new id e reply sent a b c d k l m is unknown same named step posted begun applies end = (
-  front_stays a c d ((head_text (codes "{") id ++ rest_of_front s bank reply sent)
-      ++ items_text false (items_of (map reply_json applies.replies))) (both a b c _ _ begun applies.text_is) end,
-  front_stays_two k l m _ _ step.entries_are (applies.entries_are id),
-)
+answered (Err y) all s bank old mid new id e reply sent a b c k l m is unknown same named step posted begun failed =
+    (front_stays a b c _ begun failed.0, front_of_front k l m (front_of_sum k l _ step.entries_are) failed.1)

@@ -1,5 +1,5 @@
 -- Steps of a site with the lines of its entries, between two buffers.
-use Rattle.std.specs.Prelude.{◌≡◌, ℕ, Bool, true, false, not, ◌&&◌, if◌then◌else◌, List, [], ◌∷◌, ◌++◌, map}
+use Rattle.std.specs.Prelude.{◌≡◌, ℕ, Bool, true, false, not, ◌&&◌, if◌then◌else◌, List, [], ◌∷◌, ◌++◌, codes, map}
 use Rattle.serde_json.specs.View.{items_of}
 use Rattle.serde_json.specs.Written.{compact_text, items_text}
 use Rattle.rb_lines.specs.Lines.{is_long}
@@ -73,13 +73,13 @@ pub record AppliesOne (old new : SeenAsked) (x : OpName) (comma text text_after 
   pub step : Steps old new (Apply x) reply entries entries_after
   pub text_is : text_after ≡ text ++ (comma ++ compact_text (reply_json reply))
 
--- what is ready is applied: the replies, with the bracket that closes their list, and the lines of the entries. None of
--- these may have an id, whatever the id
+-- what is ready is applied: the replies, with the end of an answer's line, and the lines of the entries. None of these
+-- may have an id, whatever the id
 pub record Applies (old new : SeenAsked) (text text_after entries entries_after : List ℕ) : Type 0 where
   pub names : List OpName
   pub replies : List Reply
   pub recorded : List Entry
   pub applied : AppliesAll (without_ids old) (without_ids new) names replies recorded
   pub recorded_are : (id : List ℕ) → new ≡ with_more old (map (with_id id) recorded)
-  pub text_is : text_after ≡ text ++ items_text false (items_of (map reply_json replies))
+  pub text_is : text_after ≡ text ++ (items_text false (items_of (map reply_json replies)) ++ codes "}\n")
   pub entries_are : (id : List ℕ) → entries_after ≡ entries ++ entry_lines old.settings old.me (map (with_id id) recorded)

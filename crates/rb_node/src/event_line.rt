@@ -84,6 +84,9 @@ pub(crate) fn append_rest(
         ++ codes ",\"then\":["))) }
 {
     append_value(out, reply)?;
+    if sent.is_empty() {
+        return append(out, spell!("," sends ":[]," then ":["));
+    }
     append(out, spell!("," sends ":["))?;
     append_messages(out, config, bank, sent)?;
     append(out, spell!("," then ":["))
@@ -107,7 +110,8 @@ impl<M: Records> Node<M> {
     }
 
     /// Applies what is held and ready, one operation after another, until nothing is or the history is full. The
-    /// replies are added to the text, with commas between, and the entries' lines to the entries.
+    /// replies are added to the text, with commas between and then the end of the line, and the entries' lines to the
+    /// entries.
     fn apply_ready(&mut self, text: &mut Vec<u8>, entries: &mut Vec<u8>) -> Result<(), AllocError>
         ensures { MatchResult result
             (λ _. Applies self.old.site self.new.site text.old.items text.new.items entries.old.items entries.new.items)
@@ -119,7 +123,7 @@ impl<M: Records> Node<M> {
             self.apply_one(name, comma, text, entries)?;
             comma = ",";
         }
-        append(text, "]")
+        append(text, "]}\n")
     }
 
     /// Applies the operation of a name, adds its reply after a text, and adds the line of its entry.
@@ -180,8 +184,7 @@ impl<M: Records> Node<M> {
             &reply,
             self.sent.as_slice(),
         )?;
-        self.apply_ready(text, entries)?;
-        append(text, "}\n")
+        self.apply_ready(text, entries)
     }
 
     /// One event with its id, answered: by what is known of the id, or as a new one.

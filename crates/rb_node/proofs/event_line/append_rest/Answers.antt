@@ -1,17 +1,35 @@
-use Rattle.std.proofs.Common.{◌≡◌, ◌++◌, List, ℕ, codes, append_assoc}
-use Rattle.std.specs.Prelude.{false, map}
+use Rattle.std.proofs.Common.{◌≡◌, ◌++◌, List, ℕ, [], ◌∷◌, codes, length, append_assoc, ap, sym, refl, arith}
+use Rattle.std.proofs.lemmas.Bool.{eqb-true}
+use Rattle.std.specs.Prelude.{true, false, map, suc, ◌==◌}
+use Rattle.rb_money.specs.Settings.{Settings}
+use Rattle.rb_site.specs.declared.message.Message.{Message}
 use Rattle.json.specs.Print.{escape_byte}
 use Rattle.serde_json.specs.View.{items_of}
 use Rattle.serde_json.specs.Written.{compact_text, items_text}
 use Rattle.rb_history.specs.Banks.{sent_json}
 use Rattle.rb_history.specs.Replies.{reply_json}
 use Rattle.rb_history.proofs.Public.Appended.{both, failed, then}
+use Rattle.rb_node.specs.Answers.{messages_json}
 use Rattle.rb_node.proofs.event_line.append_rest.Goals as goal
 
 -- the parts of the text, one behind another
 parts : (reply sends : List ℕ) → ((reply ++ codes ",\"sends\":[") ++ sends) ++ codes ",\"then\":["
     ≡ reply ++ (codes ",\"sends\":" ++ ((codes "[" ++ sends) ++ codes ",\"then\":["))
 parts reply sends = simp append_assoc
+
+-- the list of no messages, between its keys
+none_sent : (s : Settings) (bank : List ℕ) (sent : List Message) → true ≡ (length sent == 0)
+    → codes ",\"sends\":[],\"then\":[" ≡ codes ",\"sends\":" ++ (compact_text (messages_json s bank sent) ++ codes ",\"then\":[")
+unfolding escape_byte
+none_sent s bank [] e = refl
+none_sent s bank (m ∷ ms) e = let some : suc (length ms) ≡ 0 = eqb-true (length (m ∷ ms)) 0 (sym e) in absurd (omega arith)
+
+pub returns-then-is_empty : goal.returns-then-is_empty
+returns-then-is_empty c =
+    let reply = compact_text (reply_json c.args.reply.now) in
+    then c.append-then-is_empty.result c.args.out.now.items c.append_value.new.out.items c.append-then-is_empty.new.out.items reply
+    (codes ",\"sends\":[],\"then\":[") _ c.in_ok-append_value.ensures c.append-then-is_empty.ensures
+    (ap (λ l. reply ++ l) (none_sent c.args.config.now c.args.bank.now c.args.sent.now c.if-is_empty.ensures))
 
 pub returns-in_err-append : goal.returns-in_err-append
 returns-in_err-append c = failed c.from_residual-in_err-append.result c.args.out.now.items c.append_value.new.out.items

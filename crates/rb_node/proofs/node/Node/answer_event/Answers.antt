@@ -1,5 +1,5 @@
 use Rattle.std.proofs.Common.{codes, ap, sym, ◌∙◌}
-use Rattle.rb_history.proofs.Public.Appended.{both, front_of_front, front_of_sum, front_stays}
+use Rattle.rb_history.proofs.Public.Appended.{both, front_of_sum, front_stays}
 use Rattle.rb_node.specs.Answers.{SeenNode}
 use Rattle.rb_node.specs.Asked.{SeenAsked}
 use Rattle.rb_node.proofs.AnswerTexts.{head_text, rest_of_front}
@@ -29,20 +29,6 @@ returns-in_err-append_rest g c =
       front_of_sum c.args.entries.now.items c.step.new.entries.items _ step.entries_are,
     )
 
-pub returns-in_err-apply_ready : goal.returns-in_err-apply_ready
-returns-in_err-apply_ready g c =
-    let text = c.args.text.now.items in
-    let entries = c.args.entries.now.items in
-    let step = c.in_ok-reply.ensures.stepped.0 in
-    let failed = c.in_err-apply_ready.ensures in
-    let begun = both text c.append_answer_head.new.out.items c.append_rest.new.out.items _ _ c.in_ok-append_answer_head.ensures.added
-    c.in_ok-append_rest.ensures in
-    kept c.from_residual-in_err-apply_ready.result _ c.from_residual-in_err-apply_ready.ensures.0 (
-      front_stays text c.append_rest.new.out.items c.apply_ready.new.text.items _ begun failed.0,
-      front_of_front entries c.step.new.entries.items c.apply_ready.new.entries.items
-          (front_of_sum entries c.step.new.entries.items _ step.entries_are) failed.1,
-    )
-
 pub returns : goal.returns
 returns g c =
     let old = c.args.self.now.site in
@@ -53,13 +39,13 @@ returns g c =
     let begun = both text c.append_answer_head.new.out.items c.append_rest.new.out.items (head_text (codes "{") c.args.id.now)
     (rest_of_front s c.bank.result.now c.in_ok-reply.reply c.as_slice.result.now)
     c.in_ok-append_answer_head.ensures.added c.in_ok-append_rest.ensures in
-    answered c.append.result g.M.Records.ALL s c.bank.result.now old mid.site c.apply_ready.new.self.site c.args.id.now
+    answered c.apply_ready.result g.M.Records.ALL s c.bank.result.now old mid.site c.apply_ready.new.self.site c.args.id.now
     c.args.event c.in_ok-reply.reply
-    c.as_slice.result.now text c.append_rest.new.out.items c.apply_ready.new.text.items c.append.new.out.items
+    c.as_slice.result.now text c.append_rest.new.out.items c.apply_ready.new.text.items
     c.args.entries.now.items c.step.new.entries.items c.apply_ready.new.entries.items
     c.in_ok-append_answer_head.ensures.id c.requires
     (sym c.self.invariant ∙ ap (λ (v : SeenNode). v.site.settings) c.self.view_is
     ∙ ap (λ (y : SeenAsked). y.settings) step.0.recorded_are)
     (c.bank.ensures ∙ ap (λ (v : SeenNode). v.site.bank) c.self.view_is ∙ ap (λ (y : SeenAsked). y.bank) step.0.recorded_are)
     step.0 (c.as_slice.ensures.value ∙ ap (λ (v : SeenNode). v.sent) c.self.view_is ∙ step.1)
-    begun c.in_ok-apply_ready.ensures c.append.ensures
+    begun c.apply_ready.ensures
