@@ -11,6 +11,8 @@ use Rattle.rb_site.specs.Seen.{SeenSite, Replays, state_of, stepped}
 use Rattle.rb_branch.specs.Seats.{HasOneMore, IsCall, IsDesk, IsOneOf, IsSeat, IsSiteMessage, IsSiteReply, Records, SeenSeat, SetsUnsent}
 use Rattle.rb_branch.specs.Seats.{receipt}
 use Rattle.rb_branch.specs.declared.limits.TheConstants.{MOST_RECEIPTS}
+use Rattle.rb_scratch.specs.declared.request.TheConstants.{MOST_REQUESTS}
+use Rattle.rb_site.proofs.Public.Outcomes.{sent_few}
 use Rattle.rb_branch.specs.declared.receipt.Receipt.{Receipt}
 
 -- a seat as clients see it
@@ -131,6 +133,11 @@ call_sends s e a b n sent h k d within = record {
         (subst (IsOneOf (get_or sent k d)) h.holds.posted_is (one_of sent k d within)),
   );
 }
+
+-- and these are as many as a batch may have
+pub call_few : (s : Settings) (e : Event) (a b : SeenSeat) (n : ℕ) (sent : List Message) → IsCall s e a b n sent
+    → length sent ≤ MOST_REQUESTS
+call_few s e a b n sent h = rw h.holds.posted_is (sent_few h.desk.settings (state_of h.desk) e)
 
 -- the receipt more, with another count of messages that were not sent
 pub one_with_unsent : (a b c : SeenSeat) (P : Event → Type 0) (n count : ℕ) → HasOneMore a b P n → SetsUnsent b c count
