@@ -4,6 +4,7 @@ A site is given events, and answers each by a line. What it sends is kept, for w
 """
 from __future__ import annotations
 
+import fcntl
 import itertools
 import json
 import os
@@ -60,6 +61,15 @@ class Journal:
         """Writes its lines into a file, with this end."""
         with open(path, "wb") as file:
             file.write(b"\n".join([self.first, *self.lines]) + end)
+
+
+def stop_if_in_use(path: str) -> None:
+    """Stops where a site runs on a journal: as long as it does, it keeps the file locked."""
+    with open(path, "rb") as file:
+        try:
+            fcntl.flock(file, fcntl.LOCK_SH | fcntl.LOCK_NB)
+        except BlockingIOError:
+            raise bank.Stop(f"{path}: its site runs; end it first") from None
 
 
 def store(source: str, path: str) -> None:

@@ -3,8 +3,8 @@
 
     rebuild.py 1 --to 1.journal 0.journal 2.journal
 
-The others' journals come in the order of their sites. End these sites first, and let the queues be empty: a message of
-the lost site that comes later is refused by all, or refuses what is made in its place.
+The others' journals come in the order of their sites. End these sites first, else nothing is made, and let the queues
+be empty: a message of the lost site that comes later is refused by all, or refuses what is made in its place.
 
 What the lost site sent is in the journals of those that received it. A new site is given the same requests: each once
 it has applied just what it had applied before, so that it makes the same operation; of an interest the rate is found
@@ -253,6 +253,7 @@ def found_others(program: str, lost: int, paths: list[str], folder: str) -> list
     if not 0 <= lost < sites or len(found) != sites - 1:
         raise bank.Stop(f"the bank has {sites} sites: one is lost, and the journals of all others are wanted")
     for journal in found:
+        journals.stop_if_in_use(journal.path)
         if journal.first != found[0].first:
             raise bank.Stop(f"{journal.path}: another bank's journal than {found[0].path}")
     numbers = [site for site in range(sites) if site != lost]
