@@ -120,13 +120,17 @@ install-libs:
 	@sed -e 's|@PREFIX@|$(FOUND_AT)|' -e 's|@VERSION@|$(VERSION)|' bindings/c/rbbank.pc.in \
 		> "$(UNDER)/lib/pkgconfig/rbbank.pc"
 
-# What both put below PREFIX; tests/help has the manual page and the completions that are made from the program's help.
+# What both put below PREFIX, and folders that are empty then; tests/help has the manual page and the completions that
+# are made from the program's help.
+FOLDERS = bin include lib/pkgconfig lib share/man/man5 share/man/man7 \
+	$(shell cd tests/help && find share -mindepth 1 -type d)
 uninstall:
 	@find tests/help/share -type f -printf 'share/%P\n' | while read -r path; do rm -f "$(UNDER)/$$path"; done
 	@rm -f "$(UNDER)/bin/rbbank" $(TOOLS:%="$(UNDER)/bin/rbbank-%") "$(UNDER)"/share/man/man[57]/rbbank*
 	@rm -rf "$(UNDER)/share/rbbank"
 	@rm -f $(HEADERS:%="$(UNDER)/include/%") $(ARCHIVES:%="$(UNDER)/lib/%") "$(UNDER)"/lib/librbbank.so* \
 		"$(UNDER)/lib/pkgconfig/rbbank.pc"
+	@cd "$(UNDER)" && rmdir -p --ignore-fail-on-non-empty $(FOLDERS) 2> /dev/null || true
 
 # What both copy, in one file that is unpacked anywhere.
 RELEASE = rbbank-$(VERSION)-linux-x86-64

@@ -181,9 +181,9 @@ def uninstalls(there: Installed) -> Results:
         with open(os.path.join(prefix, name), "w", encoding="utf-8"):
             pass
     run = made("uninstall", f"PREFIX={prefix}")
-    left = [name for _, folders, files in os.walk(prefix) for name in (*files, *folders) if "rbbank" in name]
-    yield "uninstall", was_there and (left, run.stderr, run.returncode) == ([], "", 0)
-    yield "... leaves what is another's", os.path.exists(os.path.join(prefix, "share", "man", "man1", "other.1"))
+    left = [os.path.join(folder, name) for folder, folders, files in os.walk(prefix) for name in files or folders]
+    other = [os.path.join(prefix, *"share/man/man1/other.1".split("/")[:depth]) for depth in range(1, 5)]
+    yield "uninstall leaves what is another's", was_there and (left, run.stderr, run.returncode) == (other, "", 0)
 
 
 def toolchain(there: Installed) -> Results:
