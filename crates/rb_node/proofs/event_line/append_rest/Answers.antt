@@ -27,21 +27,21 @@ none_sent s bank (m ∷ ms) e = let some : suc (length ms) ≡ 0 = eqb-true (len
 pub returns-then-is_empty : goal.returns-then-is_empty
 returns-then-is_empty c =
     let reply = compact_text (reply_json c.args.reply.now) in
-    then c.append-then-is_empty.result c.args.out.now.items c.append_value.new.out.items c.append-then-is_empty.new.out.items reply
-    (codes ",\"sends\":[],\"then\":[") _ c.in_ok-append_value.ensures c.append-then-is_empty.ensures
+    then c.append.result c.args.out.now.items c.append_value.new.out.items c.append.new.out.items reply
+    (codes ",\"sends\":[],\"then\":[") _ c.in_ok-append_value.ensures c.append.ensures
     (ap (λ l. reply ++ l) (none_sent c.args.config.now c.args.bank.now c.args.sent.now c.if-is_empty.ensures))
 
 pub returns-in_err-append : goal.returns-in_err-append
 returns-in_err-append c = failed c.from_residual-in_err-append.result c.args.out.now.items c.append_value.new.out.items
-    c.append.new.out.items _ _ c.from_residual-in_err-append.ensures.0 c.in_ok-append_value.ensures c.in_err-append.ensures
+    c.append-2.new.out.items _ _ c.from_residual-in_err-append.ensures.0 c.in_ok-append_value.ensures c.in_err-append.ensures
 
 pub returns-in_err-append_messages : goal.returns-in_err-append_messages
 returns-in_err-append_messages c =
     let old = c.args.out.now.items in
     let reply = compact_text (reply_json c.args.reply.now) in
-    let two = both old c.append_value.new.out.items c.append.new.out.items reply (codes ",\"sends\":[") c.in_ok-append_value.ensures
+    let two = both old c.append_value.new.out.items c.append-2.new.out.items reply (codes ",\"sends\":[") c.in_ok-append_value.ensures
     c.in_ok-append.ensures in
-    failed c.from_residual-in_err-append_messages.result old c.append.new.out.items c.append_messages.new.out.items _ _
+    failed c.from_residual-in_err-append_messages.result old c.append-2.new.out.items c.append_messages.new.out.items _ _
     c.from_residual-in_err-append_messages.ensures.0 two c.in_err-append_messages.ensures
 
 pub returns : goal.returns
@@ -50,9 +50,9 @@ returns c =
     let old = c.args.out.now.items in
     let reply = compact_text (reply_json c.args.reply.now) in
     let sends = items_text false (items_of (map (sent_json c.args.config.now c.args.bank.now) c.args.sent.now)) in
-    let two = both old c.append_value.new.out.items c.append.new.out.items reply (codes ",\"sends\":[") c.in_ok-append_value.ensures
+    let two = both old c.append_value.new.out.items c.append-2.new.out.items reply (codes ",\"sends\":[") c.in_ok-append_value.ensures
     c.in_ok-append.ensures in
-    let three = both old c.append.new.out.items c.append_messages.new.out.items (reply ++ codes ",\"sends\":[") sends two
+    let three = both old c.append-2.new.out.items c.append_messages.new.out.items (reply ++ codes ",\"sends\":[") sends two
     c.in_ok-append_messages.ensures in
-    then c.append-2.result old c.append_messages.new.out.items c.append-2.new.out.items ((reply ++ codes ",\"sends\":[") ++ sends)
-    (codes ",\"then\":[") _ three c.append-2.ensures (parts reply sends)
+    then c.append-3.result old c.append_messages.new.out.items c.append-3.new.out.items ((reply ++ codes ",\"sends\":[") ++ sends)
+    (codes ",\"then\":[") _ three c.append-3.ensures (parts reply sends)
