@@ -50,7 +50,7 @@ pub(crate) fn names_in(alloc: Global, messages: &[Message]) -> Result<List<OpNam
 fn append_refusal(out: &mut Vec<u8>, id: &RequestId, number: u64) -> Result<(), AllocError>
     ensures { Adds result out.old.items out.new.items (line_of (refused_json id.now number)) }
 {
-    append_answer_head(out, "{", id)?;
+    append_answer_head(out, "{", spell!("{" reply ":"), id)?;
     append_number(
         out,
         spell!("{" refused ":"),
@@ -87,7 +87,12 @@ impl<M: Records> Node<M> {
         let mut messages = Vec::new(self.alloc);
         push_operations(&mut messages, operations, known.first, known.end)?;
         let reply = known.event.reply_again(self.alloc, messages.as_slice())?;
-        append_answer_head(out, spell!("{" again ":true,"), id)?;
+        append_answer_head(
+            out,
+            spell!("{" again ":true,"),
+            spell!("{" again ":true," reply ":"),
+            id,
+        )?;
         append_rest(
             out,
             &self.config,

@@ -50,22 +50,25 @@ pub(crate) fn append_messages(
     append(out, "]")
 }
 
-/// The beginning of an answer after a text: its id, if it has one, and the key of the reply.
+/// The beginning of an answer after a text: its id, if it has one, and the key of the reply. `alone` is the text with
+/// that key, which an answer without an id begins with.
 #[inline(always)]
 pub(crate) fn append_answer_head(
     out: &mut Vec<u8>,
     front: &str,
+    alone: &str,
     id: &RequestId,
 ) -> Result<(), AllocError>
+    requires { alone.now ≡ front.now ++ codes "\"reply\":" }
     ensures added { Adds result out.old.items out.new.items
         (front.now ++ (between_if_any (codes "\"id\":\"") id.now (codes "\",") ++ codes "\"reply\":")) }
     ensures id { IsIdOrNone id.now }
 {
     let bytes = id.as_bytes();
-    append(out, front)?;
     if bytes.is_empty() {
-        return append(out, spell!(reply ":"));
+        return append(out, alone);
     }
+    append(out, front)?;
     append(out, spell!(id ":\""))?;
     out.extend_from_slice(bytes)?;
     append(out, spell!("\"," reply ":"))
@@ -176,7 +179,7 @@ impl<M: Records> Node<M> {
             × (take (length entries.old.items) entries.new.items ≡ entries.old.items)) }
     {
         let reply = self.step(id, event, entries)?;
-        append_answer_head(text, "{", id)?;
+        append_answer_head(text, "{", spell!("{" reply ":"), id)?;
         append_rest(
             text,
             &self.config,
