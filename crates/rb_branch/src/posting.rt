@@ -1,5 +1,5 @@
-//! The messages of one call on their way to links. Only the number of those that no link took is there at run time: a
-//! list of snapshots takes no memory, so making one can't fail.
+//! The messages of one call on their way to links. At run time there is the number of those that no link took, and the
+//! list of snapshots is a block of one byte, whatever it has: it is taken before the call, which may fail for it.
 ghost use Rattle.std.specs.Prelude.{◌≡◌, ◌<◌, ◌++◌, ◌∷◌, [], IfOk, length};
 ghost use Rattle.rb_branch.specs.Postings.{refusals};
 ghost use Rattle.rb_branch.specs.declared.limits.TheConstants.{MOST_TRIES};
