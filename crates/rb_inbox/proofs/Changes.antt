@@ -1,7 +1,7 @@
 -- The rows of the held operations, before and after a change.
 use Rattle.std.proofs.Common.{◌≡◌, ℕ, ◌+◌, ◌-◌, ◌<◌, ◌≤◌, Bool, true, false, cond, not, List, [], ◌∷◌, ◌++◌, length, set, replicate, refl}
 use Rattle.std.proofs.Common.{ap, sym, ◌∙◌, arith, ◌⊎◌, inl, inr, subst, get_or}
-use Rattle.std.specs.Prelude.{Some, None, filter, insert, remove, nat_lt}
+use Rattle.std.specs.Prelude.{Option, Some, None, filter, insert, remove, nat_lt}
 use Rattle.std.proofs.lemmas.Bool.Decides.{nat_tests}
 use Rattle.std.proofs.lemmas.List.{get_or_default, get_or_past}
 use Rattle.std.proofs.lemmas.List.Edits.{length-remove}
@@ -9,7 +9,9 @@ use Rattle.rb_shadow.specs.Operations.{Among, find_in, same_name, row_of}
 use Rattle.rb_shadow.specs.declared.op_name.OpName.{OpName}
 use Rattle.rb_shadow.specs.declared.shadow.Shadow.{Shadow}
 use Rattle.rb_inbox.specs.Held.{Holding, IsNumbered, held_before, index_in_row, comes_before, with_held, without}
+use Rattle.rb_inbox.specs.Quiet.{IsQuiet}
 use Rattle.rb_inbox.specs.Rows.{AreCounted, AreHeldRows, IsHeldRow, held_of}
+use Rattle.rb_inbox.specs.declared.quiet.Quiet.{Quiet}
 use Rattle.rb_inbox.proofs.Order.{found_within, holding, in_order-filter, in_order-with_held, insert-index, remove-index}
 use Rattle.rb_inbox.proofs.Public.{held_cases, kept_among}
 use Rattle.rb_inbox.proofs.Rows.{find_in_row, held-change, held-length, held-more, is_of, putting, removing, row_at, row_is, rows-more}
@@ -69,10 +71,12 @@ changed_there f row old there index x made o p = made ∙ ap (λ us. f us index)
 -- ---- the rows after a change
 
 -- more empty rows keep the count
-pub grown : (rows more : List (List Shadow)) (count n : ℕ) → more ≡ rows ++ replicate n [] → AreCounted rows count → AreCounted more count
-grown rows more count n e h = subst (λ ws. AreCounted ws count) (sym e) (record {
+pub grown : (rows more : List (List Shadow)) (count n : ℕ) (quiet : Option Quiet) → more ≡ rows ++ replicate n []
+    → AreCounted rows count quiet → AreCounted more count quiet
+grown rows more count n quiet e h = subst (λ ws. AreCounted ws count quiet) (sym e) (record {
   each = rows-more 0 n rows h.each;
   counted = h.counted ∙ ap length (sym (held-more rows n));
+  known = subst (IsQuiet quiet) (sym (held-more rows n)) h.known;
 })
 
 -- and hold the same
@@ -111,16 +115,18 @@ with_held-length v (u ∷ us) = at (comes_before v.name u.name) (with_held-lengt
     at false e = omega arith
 
 -- the row of a new operation has it in its place
-pub after_put : (rows : List (List Shadow)) (count : ℕ) (v : Shadow) (r : ℕ) (row : List Shadow) → AreCounted rows count → IsNumbered v →
-    find_in (held_of rows) v.name ≡ None
+pub after_put : (rows : List (List Shadow)) (count : ℕ) (quiet noted : Option Quiet) (v : Shadow) (r : ℕ) (row : List Shadow)
+    → AreCounted rows count quiet → IsNumbered v → find_in (held_of rows) v.name ≡ None
+    → ((us : List Shadow) → IsQuiet quiet us → IsQuiet noted (with_held v us))
     → r ≡ row_of v.name → r < length rows → row ≡ insert (get_or rows r []) (held_before (get_or rows r []) v.name) v
-    → AreCounted (set rows r row) (count + 1) × (held_of (set rows r row) ≡ with_held v (held_of rows))
-after_put rows count v r row h numbered new e l made = (
+    → AreCounted (set rows r row) (count + 1) noted × (held_of (set rows r row) ≡ with_held v (held_of rows))
+after_put rows count quiet noted v r row h numbered new note e l made = (
   record {
     each = rows-set rows r row h.each (subst (IsHeldRow r) (sym is) (row-put r v (get_or rows r []) was e numbered none));
     counted = omega (arith, h.counted, held-length rows r row l, ap length is, with_held-length v (get_or rows r []));
+    known = subst (IsQuiet noted) (sym there) (note (held_of rows) h.known);
   },
-  ap (λ us. held_of (set rows r us)) is ∙ held-change v.name (with_held v) (putting v) rows r e h.each l,
+  there,
 )
   where
     was : IsHeldRow r (get_or rows r [])
@@ -132,12 +138,16 @@ after_put rows count v r row h numbered new e l made = (
     is : row ≡ with_held v (get_or rows r [])
     is = made ∙ insert-index v (get_or rows r []) was.in_order none
 
+    there : held_of (set rows r row) ≡ with_held v (held_of rows)
+    there = ap (λ us. held_of (set rows r us)) is ∙ held-change v.name (with_held v) (putting v) rows r e h.each l
+
 -- the row of a held name is without it
-pub after_remove : (rows : List (List Shadow)) (count : ℕ) (x : OpName) (u : Shadow) (r : ℕ) (row : List Shadow) → AreCounted rows count →
-    find_in (held_of rows) x ≡ Some u
+pub after_remove : (rows : List (List Shadow)) (count : ℕ) (quiet noted : Option Quiet) (x : OpName) (u : Shadow) (r : ℕ)
+    (row : List Shadow) → AreCounted rows count quiet → find_in (held_of rows) x ≡ Some u
+    → ((us : List Shadow) → IsQuiet quiet us → IsQuiet noted (without x us))
     → r ≡ row_of x → row ≡ remove (get_or rows r []) (held_before (get_or rows r []) x)
-    → AreCounted (set rows r row) (count - 1) × (held_of (set rows r row) ≡ without x (held_of rows))
-after_remove rows count x u r row h found e made = (
+    → AreCounted (set rows r row) (count - 1) noted × (held_of (set rows r row) ≡ without x (held_of rows))
+after_remove rows count quiet noted x u r row h found note e made = (
   record {
     each = rows-set rows r row h.each (subst (IsHeldRow r) (sym is) (row-without r x (get_or rows r []) was));
     counted = omega (
@@ -147,8 +157,9 @@ after_remove rows count x u r row h found e made = (
       ap length made,
       length-remove (get_or rows r []) (held_before (get_or rows r []) x) (index_within rows x u r e h.each found),
     );
+    known = subst (IsQuiet noted) (sym there) (note (held_of rows) h.known);
   },
-  ap (λ us. held_of (set rows r us)) is ∙ held-change x (without x) (removing x) rows r e h.each within,
+  there,
 )
   where
     within : r < length rows
@@ -159,3 +170,6 @@ after_remove rows count x u r row h found e made = (
 
     is : row ≡ without x (get_or rows r [])
     is = made ∙ remove-index (get_or rows r []) x u was.in_order (finds_at rows x r e h.each ∙ found)
+
+    there : held_of (set rows r row) ≡ without x (held_of rows)
+    there = ap (λ us. held_of (set rows r us)) is ∙ held-change x (without x) (removing x) rows r e h.each within

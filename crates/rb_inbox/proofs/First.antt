@@ -74,7 +74,7 @@ later : (us : List Shadow) (i : ℕ) (d u : Shadow) → IsInOrder us → i < len
 later us i d u order l a = later_there us i d u order l (subst (λ k. Among u (drop k us)) (add-one i) a)
 
 -- what is left is the next, or is left after it
-next_or_later : (us : List Shadow) (i : ℕ) (d u : Shadow) → i < length us → Among u (drop i us)
+pub next_or_later : (us : List Shadow) (i : ℕ) (d u : Shadow) → i < length us → Among u (drop i us)
     → (u ≡ get_or us i d) ⊎ Among u (drop (i + 1) us)
 next_or_later us i d u l a = subst (λ (ws : List Shadow). Among u ws) (drop_more us i d l) a
 
@@ -168,7 +168,7 @@ held_numbered : (lists : List (List Shadow)) (u : Shadow) → AreHeldRows 0 list
 held_numbered lists u h a = (row_at lists (row_of u.name) h).numbered u (among_row lists u h a)
 
 -- what is held is in a row, if its name says that
-in_row : (lists : List (List Shadow)) (r : ℕ) (u : Shadow) → AreHeldRows 0 lists → Among u (held_of lists) → row_of u.name ≡ r
+pub in_row : (lists : List (List Shadow)) (r : ℕ) (u : Shadow) → AreHeldRows 0 lists → Among u (held_of lists) → row_of u.name ≡ r
     → Among u (get_or lists r [])
 in_row lists r u h a e = subst (λ k. Among u (get_or lists k [])) e (among_row lists u h a)
 
@@ -217,6 +217,14 @@ blue_passed lists c k h none waits u a r l = at (row_of u.name == k) refl
 pub none_then : {P Q : Type 0} (o : Option OpName) → IfNone o P → (P → Q) → IfNone o Q
 none_then None p f = f p
 none_then (Some x) p f = tt
+
+-- a number before the next of another is that or before it
+pub last_or_before : (m n : ℕ) → m < n + 1 → (m ≡ n) ⊎ (m < n)
+last_or_before m n l = at (nat_lt m n) refl
+  where
+    at : (b : Bool) → nat_lt m n ≡ b → (m ≡ n) ⊎ (m < n)
+    at true e = inr (grind (arith, nat_tests))
+    at false e = inl (grind (arith, nat_tests))
 
 -- a number is none, or at least 1
 none_or_some : (n : ℕ) → (n ≡ 0) ⊎ (1 ≤ n)

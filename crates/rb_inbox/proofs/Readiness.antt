@@ -71,3 +71,8 @@ pub held_there : (rows : List (List Shadow)) (r : ℕ) (u : Shadow) → AreHeldR
 held_there rows r u h a =
     let row : IsHeldRow r (get_or rows r []) = row_at rows r h in
     sym (finds_at rows u.name r (sym (row.placed u a)) h) ∙ Among-find (get_or rows r []) u row.in_order a
+
+-- what is held is found under its name
+pub held_found : (rows : List (List Shadow)) (u : Shadow) → AreHeldRows 0 rows → Among u (held_of rows) →
+    find_in (held_of rows) u.name ≡ Some u
+held_found rows u h a = held_there rows (row_of u.name) u h (among_row rows u h a)

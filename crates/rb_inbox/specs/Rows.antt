@@ -6,6 +6,8 @@ use Rattle.rb_shadow.specs.declared.deps.Deps.{Deps}
 use Rattle.rb_shadow.specs.declared.op_name.OpName.{OpName}
 use Rattle.rb_shadow.specs.declared.shadow.Shadow.{Shadow}
 use Rattle.rb_inbox.specs.Held.{IsInOrder, IsNumbered, IsReady, is_applied_before}
+use Rattle.rb_inbox.specs.Quiet.{IsQuiet}
+use Rattle.rb_inbox.specs.declared.quiet.Quiet.{Quiet}
 
 -- the operations of all rows, in the order of the names
 abbrev pub held_of : List (List Shadow) → List Shadow
@@ -23,10 +25,11 @@ abbrev pub AreHeldRows : ℕ → List (List Shadow) → Type 0
 AreHeldRows r [] = Unit {0}
 AreHeldRows r (us ∷ rows) = IsHeldRow r us × AreHeldRows (suc r) rows
 
--- the lists are rows, and have this number of operations in all
-pub record AreCounted (rows : List (List Shadow)) (count : ℕ) : Type 0 where
+-- the lists are rows, and have this number of operations in all, and what is known of those that wait is so
+pub record AreCounted (rows : List (List Shadow)) (count : ℕ) (quiet : Option Quiet) : Type 0 where
   pub each : AreHeldRows 0 rows
   pub counted : count ≡ length (held_of rows)
+  pub known : IsQuiet quiet (held_of rows)
 
 -- of two operations the one of the lesser home; of one home the first
 abbrev pub earlier_home : Option Shadow → Shadow → Shadow

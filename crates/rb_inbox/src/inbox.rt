@@ -13,10 +13,12 @@ ghost use Rattle.rb_shadow.specs.declared.shadow.Shadow.{Shadow};
 ghost use Rattle.rb_inbox.specs.Held.{HoldsReady, HoldsWaiting, IsFirstOf, IsFirstReady, IsInConflict, IsInOrder};
 ghost use Rattle.rb_inbox.specs.Held.{IsNumbered, IsReady};
 ghost use Rattle.rb_inbox.specs.Held.{IsTooMany, IsWelcome, held_before, index_in_row, with_held, without};
+ghost use Rattle.rb_inbox.specs.Quiet.{IsCovered, IsQuiet};
 ghost use Rattle.rb_inbox.specs.Rows.{IsFirstBlue, IsHeldRow, NoBlue, earlier_home};
 
 use crate::PutAnswer;
 use crate::held_row::HeldRow;
+use crate::quiet::{Quiet, note_held, note_removed};
 use rb_money::Refusal;
 use rb_shadow::{OpName, Shadow};
 use rb_vclock::Clock;
@@ -31,6 +33,7 @@ pub struct Inbox {
     /// The red ones, and then the blue ones of each site, each row in rising order of number.
     rows: Vec<HeldRow>,
     count: usize,
+    quiet: Option<Quiet>,
 }
 
 impl Model for Inbox {
@@ -41,7 +44,7 @@ impl Model for Inbox {
 
     ghost view = { λ b. record { limit = b.limit; held = held_of b.rows.items } };
 
-    ghost invariant = { λ b. AreCounted b.rows.items b.count };
+    ghost invariant = { λ b. AreCounted b.rows.items b.count b.quiet };
 }
 
 impl Inbox {
@@ -54,6 +57,7 @@ impl Inbox {
             alloc,
             rows: Vec::new(alloc),
             count: 0,
+            quiet: None,
         }
     }
 
@@ -105,7 +109,7 @@ impl Inbox {
         if !self.may_hold(shadow, clock) {
             return Err(Refusal::InboxFull);
         }
-        match self.hold(shadow, index) {
+        match self.hold(shadow, index, clock) {
             Ok(()) => Ok(PutAnswer::Held),
             Err(_) => Err(Refusal::OutOfMemory),
         }
@@ -134,7 +138,7 @@ impl Inbox {
 
     /// Holds a shadow whose name is held by no other, at the index in its row.
     #[inline(always)]
-    fn hold(&mut self, shadow: &Shadow, index: usize) -> Result<(), AllocError>
+    fn hold(&mut self, shadow: &Shadow, index: usize, clock: &Clock) -> Result<(), AllocError>
         requires new { find_in self.old.held shadow.now.name ≡ None }
         requires index { index ≡ index_in_row self.old.held shadow.now.name }
         requires numbered { IsNumbered shadow.now }
@@ -147,6 +151,7 @@ impl Inbox {
         add_rows(&mut self.rows, row, self.alloc)?;
         self.rows[row].insert(index, shadow)?;
         self.count = count;
+        note_held(&mut self.quiet, shadow, clock);
         Ok(())
     }
 
@@ -176,6 +181,60 @@ impl Inbox {
                 blue => blue,
             },
         }
+    }
+
+    /// The name that `ready` gives. The held shadows are looked at only if the clock reached what one of them waits
+    /// for, or if two or more came that were ready; nothing that clients see changes.
+    pub fn next_ready(&mut self, clock: &Clock) -> Option<OpName>
+        ensures same { self.new ≡ self.old }
+        ensures first { IfSome result (IsFirstReady self.old.held clock.now) }
+        ensures none { IfNone result ((shadow : Shadow) → Among shadow self.old.held → ¬ IsReady clock.now shadow) }
+    {
+        if self.count == 0 {
+            return None;
+        }
+        if let Some(known) = self.known_ready(clock) {
+            return known;
+        }
+        let ready = self.ready(clock);
+        if ready.is_none() {
+            self.quiet = self.waiting(clock);
+        }
+        ready
+    }
+
+    /// The name that `ready` gives, if it is known without a look at each held shadow.
+    fn known_ready(&self, clock: &Clock) -> Option<Option<OpName>>
+        ensures first { IfSome result (λ o. IfSome o (IsFirstReady self.now.held clock.now)) }
+        ensures none { IfSome result (λ o. IfNone o ((shadow : Shadow) → Among shadow self.now.held
+            → ¬ IsReady clock.now shadow)) }
+    {
+        let Some(quiet) = &self.quiet else {
+            return None;
+        };
+        if !quiet.reaches(clock) {
+            return None;
+        }
+        let Some(name) = quiet.fresh else {
+            return Some(None);
+        };
+        match self.held(&name) {
+            Some(shadow) if clock.at_least(&shadow.deps) => Some(Some(name)),
+            _ => Some(None),
+        }
+    }
+
+    /// What is known of the held shadows after a look at each.
+    fn waiting(&self, clock: &Clock) -> Option<Quiet>
+        ensures { IsQuiet result self.now.held }
+    {
+        let mut quiet = Quiet::new();
+        for index in 0..self.rows.len() {
+            if !add_row(&mut quiet, self.row(index), clock) {
+                return None;
+            }
+        }
+        Some(quiet)
     }
 
     /// The name of the first ready one of the blue shadows whose rows are before the index, if there is one.
@@ -255,6 +314,7 @@ impl Inbox {
         let row = name.row();
         self.rows[row].remove(index);
         self.count -= 1;
+        note_removed(&mut self.quiet, name);
     }
 
     /// How many shadows are held.
@@ -319,6 +379,19 @@ fn add_rows(rows: &mut Vec<HeldRow>, index: usize, alloc: Global) -> Result<(), 
         rows.push(HeldRow::open(alloc))?;
     }
     Ok(())
+}
+
+/// Takes the shadows of a row in. `false` if two are ready.
+fn add_row(quiet: &mut Quiet, row: &[Shadow], clock: &Clock) -> bool
+    ensures covers { OnTrue result ((u : Shadow) → Among u row.now → IsCovered quiet.new u) }
+    ensures keeps { OnTrue result ((u : Shadow) → IsCovered quiet.old u → IsCovered quiet.new u) }
+{
+    for shadow in row {
+        if !quiet.add(shadow, clock) {
+            return false;
+        }
+    }
+    true
 }
 
 /// The index after that of the row of a site's blue shadows.

@@ -48,7 +48,7 @@ const TAKEN: [(u8, Option<Refusal>); 3] = [
 
 #[test]
 fn holds_until_ready(rt: HostRuntime) {
-    let clock = Clock::zero();
+    let mut clock = Clock::zero();
     let mut inbox = Inbox::open(rt.alloc(), 1);
     for (before, amount, answer) in PUT {
         equal(&rt, inbox.put(deposit(before, amount), &clock), answer);
@@ -59,4 +59,7 @@ fn holds_until_ready(rt: HostRuntime) {
         equal(&rt, taken.err(), refusal);
     }
     equal(&rt, inbox.len(), 1);
+    equal(&rt, inbox.next_ready(&clock), None);
+    clock.advance(&OpName::Blue { site: 0, n: 1 });
+    equal(&rt, inbox.next_ready(&clock), Some(deposit(1, 5).name));
 }

@@ -28,8 +28,8 @@ remove-requires c =
     omega (arith, index, long, index_within rows x u row c.row-row.ensures c.self.invariant.each found)
 
 -- the rows without the name
-without_it : (c : goal.After-self-2-1) →
-    AreCounted (set c.self.inside.rows.items c.row-row.result c.remove.new.self) (c.self.inside.count - 1)
+without_it : (c : goal.After-note_removed) →
+    AreCounted (set c.self.inside.rows.items c.row-row.result c.remove.new.self) (c.self.inside.count - 1) c.note_removed.new.quiet
     × (held_of (set c.self.inside.rows.items c.row-row.result c.remove.new.self)
     ≡ without c.args.name.now (held_of c.self.inside.rows.items))
 without_it c =
@@ -41,7 +41,8 @@ without_it c =
     let within = row_within rows x u row c.row-row.ensures c.self.invariant.each found in
     let index = index_there rows c.self.inside.limit c.args.self.now x row c.args.index c.self.view_is c.row-row.ensures
     c.self.invariant.each c.requires.index in
-    after_remove rows c.self.inside.count x u row c.remove.new.self c.self.invariant found c.row-row.ensures
+    after_remove rows c.self.inside.count c.self.inside.quiet c.note_removed.new.quiet x u row c.remove.new.self c.self.invariant found
+    c.note_removed.ensures c.row-row.ensures
     (changed_there (λ us index. remove us index) c.remove.new.self c.index_mut.result.now (get_or rows row []) c.args.index x
     c.remove.ensures (row_there rows row c.index_mut.result.now within c.index_mut.ensures.value) index)
 
