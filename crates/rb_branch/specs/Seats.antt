@@ -5,8 +5,6 @@ use Rattle.rb_money.specs.Settings.{Settings}
 use Rattle.rb_money.specs.declared.limits.TheConstants.{MOST_SITES}
 use Rattle.rb_branch.specs.declared.limits.TheConstants.{MOST_RECEIPTS, MOST_SEATS, RECEIPT_PARTS}
 use Rattle.rb_branch.specs.declared.receipt.Receipt.{Receipt}
-use Rattle.rb_inbox.specs.Held.{IsFirstReady, IsReady}
-use Rattle.rb_shadow.specs.Operations.{clock_of, find_in}
 use Rattle.rb_shadow.specs.declared.op_name.OpName.{OpName}
 use Rattle.rb_shadow.specs.declared.shadow.Shadow.{Shadow}
 use Rattle.rb_site.specs.declared.event.Event.{Event}
@@ -16,6 +14,7 @@ use Rattle.rb_money.specs.declared.refusal.Refusal.TheVariants.{InboxFull}
 use Rattle.rb_site.specs.declared.reply.Reply.{Reply}
 use Rattle.rb_site.specs.declared.reply.Reply.TheVariants.{Refused}
 use Rattle.rb_site.specs.Events.{first_site, is_full, reply_to, sent_at}
+use Rattle.rb_site.specs.Ready.{IsNextName}
 use Rattle.rb_site.specs.Seen.{SeenSite, Replays, state_of, stepped}
 
 -- ---- what is behind the locks
@@ -135,23 +134,11 @@ pub record HasOneMore (old new : SeenSeat) (P : Event → Type 0) (number : ℕ)
   pub event_is : P last.event
   pub number_is : number ≡ length new.receipts
 
--- the site holds an operation of this name, whose past it applied
-abbrev pub IsReadyAt : SeenSite → OpName → Type 0
-IsReadyAt x name = (u : Shadow) × (find_in (state_of x).held name ≡ Some u) × IsReady (clock_of (state_of x).ops) u
-
--- it is the first of these: they go by home, of one home the blue ones before the red ones, and of one colour by number
-abbrev pub IsNextAt : SeenSite → OpName → Type 0
-IsNextAt x name = IsFirstReady (state_of x).held (clock_of (state_of x).ops) name
-
--- no held operation is ready at the site
-abbrev pub NoneIsReady : SeenSite → Type 0
-NoneIsReady x = (name : OpName) → ¬ IsReadyAt x name
-
 -- the next held operation that is ready at the site was applied there: the seat has its receipt, at this number
 pub record AppliesNext (old new : SeenSite) (before now : SeenSeat) (number : ℕ) : Type 0 where
   pub name : OpName
   pub messages : List Message
-  pub next : IsNextAt old name
+  pub next : IsNextName (state_of old) name
   pub records : Records old new (Apply name) before now number messages
 
 -- a held operation is to be applied

@@ -7,9 +7,10 @@ ghost use Rattle.std.specs.Prelude.{◌≡◌, ◌<◌, ◌≤◌, ◌++◌, ◌
 ghost use Rattle.std.specs.Prelude.{None, false, length};
 ghost use Rattle.std.specs.Option.{option_copied};
 ghost use Rattle.rb_site.specs.Events.{first_site, is_full, reply_to, sent_at};
+ghost use Rattle.rb_site.specs.Ready.{IsNextName, NoneIsReady};
 ghost use Rattle.rb_site.specs.Seen.{Replays, first_seen, state_of, stepped};
 ghost use Rattle.rb_branch.specs.Gathered.{IsClosedReport};
-ghost use Rattle.rb_branch.specs.Seats.{Records, SetsUnsent, CannotRecord, IsNextAt, IsReadyAt, IsSiteReply};
+ghost use Rattle.rb_branch.specs.Seats.{Records, SetsUnsent, CannotRecord, IsSiteReply};
 ghost use Rattle.rb_branch.specs.Seats.{is_full_inbox, receipt, receipt_at};
 ghost use Rattle.rb_branch.specs.declared.call_fault.CallFault.TheVariants.{HistoryFull};
 ghost use Rattle.rb_branch.specs.declared.limits.TheConstants.{MOST_RECEIPTS};
@@ -147,10 +148,10 @@ pub fn record_ready<E: Entries, R: Ledger, W: Wait>(
     books: &Mutex<Books<E, R>>,
 ) -> Result<Option<(u32, Posted)>, CallFault>
     ensures some { IfOk result
-        (λ o. IfSome o (λ r. (x : NameOf) × IsNextAt desk.old x
+        (λ o. IfSome o (λ r. (x : NameOf) × IsNextName (state_of desk.old) x
         × Records desk.old desk.new (Apply x) seat.old seat.new r.0 r.1.items)) }
     ensures none { IfOk result (λ o. IfNone o
-        (((x : NameOf) → ¬ IsReadyAt desk.old x) × (desk.new ≡ desk.old) × (seat.new ≡ seat.old))) }
+        (NoneIsReady (state_of desk.old) × (desk.new ≡ desk.old) × (seat.new ≡ seat.old))) }
     ensures err { OnErr result ((desk.new ≡ desk.old) × (seat.new ≡ seat.old)) }
     ensures full { result ≡ Err HistoryFull → CannotRecord desk.old seat.old }
 {
@@ -195,12 +196,12 @@ impl<E: Entries> Desk<E> {
 
     /// The name of the first of the held operations whose past the site applied, by the site's own clock, if there is
     /// one.
-    #[tactic(auto, using(crate::proofs::Ready::none_ready))]
-    pub(crate) fn ready(&self) -> Option<OpName>
-        ensures some { IfSome result (IsNextAt self.now) }
-        ensures none { IfNone result ((x : NameOf) → ¬ IsReadyAt self.now x) }
+    pub(crate) fn ready(&mut self) -> Option<OpName>
+        ensures same { self.new ≡ self.old }
+        ensures next { IfSome result (IsNextName (state_of self.old)) }
+        ensures none { IfNone result (NoneIsReady (state_of self.old)) }
     {
-        self.site.inbox().ready(self.site.ledger().clock())
+        self.site.ready()
     }
 
     /// Closes the site, and gives its share back. This takes no memory.

@@ -3,7 +3,9 @@
 //! A message that finds the inbox full stays in the inlet. All that is kept is received again after each application,
 //! as a later one may be ready first. Until then each is received once: the index says which were refused already.
 ghost use Rattle.std.specs.Prelude.{◌≡◌, ◌<◌, ◌+◌, ◌^◌, ℕ, Err, IfNone, IfOk, IfSome, MatchOption, OnErr, OnOk, length};
-ghost use Rattle.rb_branch.specs.Seats.{AppliesNext, CannotRecord, HasOneMore, HasServed, IsApply, NoneIsReady};
+ghost use Rattle.rb_site.specs.Ready.{NoneIsReady};
+ghost use Rattle.rb_site.specs.Seen.{state_of};
+ghost use Rattle.rb_branch.specs.Seats.{AppliesNext, CannotRecord, HasOneMore, HasServed, IsApply};
 ghost use Rattle.rb_branch.specs.Seats.{RefusesOn};
 ghost use Rattle.rb_branch.specs.declared.call_fault.CallFault.TheVariants.{HistoryFull};
 
@@ -93,7 +95,7 @@ pub(crate) fn apply_at<E: Entries, R: Ledger, W: Wait>(
     ensures ok { IfOk result
         (λ o. MatchOption o (seat.new ≡ seat.old) (λ n. HasOneMore seat.old seat.new IsApply n)) }
     ensures next { IfOk result (λ o. IfSome o (λ n. AppliesNext desk.old desk.new seat.old seat.new n)) }
-    ensures none { IfOk result (λ o. IfNone o (NoneIsReady desk.old)) }
+    ensures none { IfOk result (λ o. IfNone o (NoneIsReady (state_of desk.old))) }
     ensures err { OnErr result (seat.new ≡ seat.old) }
     ensures full { result ≡ Err HistoryFull → CannotRecord desk.old seat.old }
 {

@@ -15,6 +15,7 @@ use Rattle.rb_site.specs.declared.event.Event.TheVariants.{Apply}
 use Rattle.rb_site.specs.declared.message.Message.{Message}
 use Rattle.rb_site.specs.declared.reply.Reply.{Reply}
 use Rattle.rb_site.specs.Events.{ModelSite, after_event, after_events, is_full, replies_to_events, reply_to, sent_at}
+use Rattle.rb_site.specs.Ready.{IsNextName}
 use Rattle.rb_site.specs.Seen.{SeenSite, entry, next_sites, state_of}
 use Rattle.rb_site.proofs.Public.Recorded.{noted_history}
 use Rattle.rb_site.proofs.Public.Seen.{state-next}
@@ -24,7 +25,7 @@ use Rattle.rb_history.proofs.Public.Appended.{both, front_of_front, front_of_sum
 use Rattle.rb_history.proofs.Public.Listed.{rest_text, whole_text}
 use Rattle.rb_history.specs.Entries.{asked_entry_json}
 use Rattle.rb_history.specs.Ids.{AskedEntry, IsIdOrNone}
-use Rattle.rb_node.specs.Answers.{AppliesAll, AreReadyInTurn, IsAllApplied, IsNextName, asked_answer_json, entry_lines, line_of}
+use Rattle.rb_node.specs.Answers.{AppliesAll, AreReadyInTurn, IsAllApplied, asked_answer_json, entry_lines, line_of}
 use Rattle.rb_node.specs.Answers.{reply_kept}
 use Rattle.rb_node.specs.Asked.{SeenAsked, asked_state, known_of, without_ids, with_id, with_more}
 use Rattle.rb_node.specs.LineAnswers.{AddsEvent}

@@ -10,12 +10,13 @@ use Rattle.rb_inbox.proofs.Public.{first_is_one}
 use Rattle.rb_site.specs.declared.entry.Entry.{Entry}
 use Rattle.rb_site.specs.declared.event.Event.TheVariants.{Apply}
 use Rattle.rb_site.specs.Events.{ModelSite, after_event, after_events, is_full, replies_to_events, sent_at}
+use Rattle.rb_site.specs.Ready.{IsNextName}
 use Rattle.rb_site.specs.Seen.{SeenSite, next_sites, state_of}
 use Rattle.rb_history.specs.declared.question.Question.{Question}
 use Rattle.rb_history.specs.Banks.{event_to, is_of_other, question_to}
 use Rattle.rb_history.proofs.Public.Banks.{question_none_to, nothing_asked}
 use Rattle.rb_history.specs.Ids.{AskedEvent}
-use Rattle.rb_node.specs.Answers.{AreReadyInTurn, IsAllApplied, IsKnownAnswer, IsNextName, IsOtherBankAnswer, IsSiteAnswer}
+use Rattle.rb_node.specs.Answers.{AreReadyInTurn, IsAllApplied, IsKnownAnswer, IsOtherBankAnswer, IsSiteAnswer}
 use Rattle.rb_node.specs.Answers.{again_json, asked_answer_json, asked_event_on, entry_lines, kept_events, line_of}
 use Rattle.rb_node.specs.Answers.{other_bank_on, other_request_json, reply_kept}
 use Rattle.rb_node.specs.Asked.{Known, SeenAsked, known_of, without_ids, with_id, with_more}
@@ -28,7 +29,7 @@ use Rattle.rb_node.proofs.Spelled.{some_is}
 -- if all is applied, nothing is next
 no_more : (s : Settings) (t : ModelSite) (x : OpName) → is_full s t ≡ false → IsNextName t x → IsAllApplied s t → ⊥
 no_more s t x free next (inl full) = absurd (cc)
-no_more s t x free next (inr none) = none x (next.0, next.1, next.2.ready)
+no_more s t x free next (inr none) = none x next.0 next.1 next.2.ready
 
 -- what is applied in turn, until nothing is ready, are the same names
 same_names : (s : Settings) (t : ModelSite) (xs ys : List OpName) → AreReadyInTurn s t xs → AreReadyInTurn s t ys

@@ -8,16 +8,15 @@ use Rattle.serde_json.specs.Written.{compact_text}
 use Rattle.rb_lines.specs.Lines.{is_long}
 use Rattle.rb_money.specs.Settings.{Settings}
 use Rattle.rb_money.specs.declared.refusal.TheConstants.{OTHER_BANK_REFUSED, OTHER_REQUEST_REFUSED}
-use Rattle.rb_shadow.specs.Operations.{clock_of, find_in}
 use Rattle.rb_shadow.specs.declared.op_name.OpName.{OpName}
 use Rattle.rb_shadow.specs.declared.shadow.Shadow.{Shadow}
-use Rattle.rb_inbox.specs.Held.{IsFirstReady, IsReady}
 use Rattle.rb_site.specs.declared.entry.Entry.{Entry}
 use Rattle.rb_site.specs.declared.event.Event.{Event}
 use Rattle.rb_site.specs.declared.event.Event.TheVariants.{Apply}
 use Rattle.rb_site.specs.declared.message.Message.{Message}
 use Rattle.rb_site.specs.declared.reply.Reply.{Reply}
 use Rattle.rb_site.specs.Events.{ModelSite, after_event, after_events, is_full, replies_to_events, reply_to, sent_at}
+use Rattle.rb_site.specs.Ready.{IsNextName, NoneIsReady}
 use Rattle.rb_site.specs.Seen.{SeenSite, entry, next_sites, state_of}
 use Rattle.rb_site.specs.Unchanging.{changes_site, reply_if_changes}
 use Rattle.rb_history.specs.Ids.{AskedEntry, AskedEvent, id_member}
@@ -94,14 +93,6 @@ entry_lines s me xs = flat_map (λ x. line_of (asked_entry_json s me x)) xs
 
 -- ---- what is applied after an event
 
--- the site holds an operation of the name whose past it has applied
-abbrev pub IsReadyName : ModelSite → OpName → Type 0
-IsReadyName t x = (v : Shadow) × (find_in t.held x ≡ Some v) × IsReady (clock_of t.ops) v
-
--- it is the first of these: they go by home, of one home the blue ones before the red ones, and of one colour by number
-abbrev pub IsNextName : ModelSite → OpName → Type 0
-IsNextName t x = IsFirstReady t.held (clock_of t.ops) x
-
 -- the names are applied one after another: each is the first that is ready at its turn, and the history isn't full
 abbrev pub AreReadyInTurn : Settings → ModelSite → List OpName → Type 0
 AreReadyInTurn s t [] = Unit {0}
@@ -109,7 +100,7 @@ AreReadyInTurn s t (x ∷ xs) = (is_full s t ≡ false) × IsNextName t x × Are
 
 -- nothing more is applied: the history is full, or nothing that is held is ready
 abbrev pub IsAllApplied : Settings → ModelSite → Type 0
-IsAllApplied s t = (is_full s t ≡ true) ⊎ ((x : OpName) → ¬ IsReadyName t x)
+IsAllApplied s t = (is_full s t ≡ true) ⊎ NoneIsReady t
 
 -- the operations of these names were applied at a site, until nothing more is: it replied so, and recorded these
 -- entries

@@ -4,8 +4,10 @@
 //! alone. What runs is a map from ids to requests, and an index of messages. The operations that the site made are in
 //! its ledger, each after those that were applied before it: the index says which they are. The token's messages it
 //! keeps. The invariant ties both to the list. Whatever may fail comes before the event, which is noted without memory.
-ghost use Rattle.std.specs.Prelude.{◌≡◌, ◌<◌, ◌++◌, ◌∷◌, [], None, IfOk, OnErr, OnOk, MatchOption, false, length};
+ghost use Rattle.std.specs.Prelude.{◌≡◌, ◌<◌, ◌++◌, ◌∷◌, [], None, IfNone, IfOk, IfSome, OnErr, OnOk, MatchOption};
+ghost use Rattle.std.specs.Prelude.{false, length};
 ghost use Rattle.rb_site.specs.Events.{first_site, is_full, reply_to, sent_at};
+ghost use Rattle.rb_site.specs.Ready.{IsNextName, NoneIsReady};
 ghost use Rattle.rb_site.specs.Seen.{entry};
 ghost use Rattle.rb_site.specs.Unchanging.{changes_site};
 ghost use Rattle.rb_node.specs.Asked.{asked_state, first_asked, known_of, without_ids, with_id, with_more};
@@ -21,6 +23,7 @@ use indexmap::IndexMap;
 use rb_history::{BankName, RequestId};
 use rb_kit::reserve_one;
 use rb_money::Config;
+use rb_shadow::OpName;
 use rb_site::{ErasedEntry, Event, Message, Reply, Site};
 use std::alloc::{AllocError, Global};
 use std::marker::Model;
@@ -89,6 +92,15 @@ impl AskedSite {
         ensures { result.now ≡ without_ids self.now }
     {
         &self.site
+    }
+
+    /// The name of the held operation that is applied next, as `Site::ready` gives it.
+    pub fn ready(&mut self) -> Option<OpName>
+        ensures same { self.new ≡ self.old }
+        ensures next { IfSome result (IsNextName (asked_state self.old)) }
+        ensures none { IfNone result (NoneIsReady (asked_state self.old)) }
+    {
+        self.site.ready()
     }
 
     /// The request that was made by the id, as it is kept; `None` if no request was, or if there is no id.

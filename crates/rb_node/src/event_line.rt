@@ -13,7 +13,8 @@ ghost use Rattle.rb_history.specs.Adds.{Adds};
 ghost use Rattle.rb_history.specs.Replies.{reply_json};
 ghost use Rattle.rb_history.specs.Banks.{sent_json};
 ghost use Rattle.rb_history.specs.Ids.{IsIdOrNone, between_if_any};
-ghost use Rattle.rb_node.specs.Answers.{IsAllApplied, IsNextName, asked_event_on, messages_json};
+ghost use Rattle.rb_node.specs.Answers.{IsAllApplied, asked_event_on, messages_json};
+ghost use Rattle.rb_site.specs.Ready.{IsNextName};
 ghost use Rattle.rb_node.specs.Answers.{other_bank_on};
 ghost use Rattle.rb_node.specs.Asked.{asked_state, known_of};
 ghost use Rattle.rb_node.specs.LineAnswers.{AddsEvent, IsLineAnswer, question_on};
@@ -151,16 +152,16 @@ impl<M: Records> Node<M> {
 
     /// The name of the operation that is to be applied next: the first, by home, colour and number, of those that are
     /// held and whose past is applied. `None` if no operation is ready, or the history is full.
-    fn ready(&self) -> Option<OpName>
-        ensures some { IfSome result (IsNextName (asked_state self.now.site)) }
-        ensures free { OnSome result (is_full self.now.site.settings (asked_state self.now.site) ≡ false) }
-        ensures none { IfNone result (IsAllApplied self.now.site.settings (asked_state self.now.site)) }
+    fn ready(&mut self) -> Option<OpName>
+        ensures same { self.new ≡ self.old }
+        ensures some { IfSome result (IsNextName (asked_state self.old.site)) }
+        ensures free { OnSome result (is_full self.old.site.settings (asked_state self.old.site) ≡ false) }
+        ensures none { IfNone result (IsAllApplied self.old.site.settings (asked_state self.old.site)) }
     {
         if self.site.site().is_full() {
             return None;
         }
-        let site = self.site.site();
-        site.inbox().ready(site.ledger().clock())
+        self.site.ready()
     }
 
     /// One event of an id that isn't known, answered.

@@ -5,12 +5,14 @@
 //!
 //! A request's operation is taken out of what `generate` answers. Read where it is, a deposit takes some 20
 //! instructions more, as the answer stays in memory.
-ghost use Rattle.std.specs.Prelude.{◌≡◌, ◌<◌, ◌&&◌, [], true, nat_le, if◌then◌else◌, IfOk, None, OnErr, OnOk};
+ghost use Rattle.std.specs.Prelude.{◌≡◌, ◌<◌, ◌&&◌, [], true, nat_le, if◌then◌else◌, IfNone, IfOk, IfSome, None, OnErr};
+ghost use Rattle.std.specs.Prelude.{OnOk};
 ghost use Rattle.rb_shadow.specs.Operations.{clock_of, find_in};
 ghost use Rattle.rb_ledger.specs.Records.{records_of};
 ghost use Rattle.rb_shadow.specs.Sound.{IsSound};
 ghost use Rattle.rb_scratch.specs.declared.request.TheConstants.{MOST_REQUESTS};
 ghost use Rattle.rb_site.specs.Events.{changes, first_site, outcome_of, outcome_of_new};
+ghost use Rattle.rb_site.specs.Ready.{IsNextName, NoneIsReady};
 ghost use Rattle.rb_site.specs.States.{Follows, Says, noting, plain};
 
 use crate::noted_reply::give;
@@ -102,6 +104,15 @@ impl State {
         ensures limit { result.now.limit ≡ self.now.settings.limits.inbox }
     {
         &self.inbox
+    }
+
+    /// The name of the held operation that is applied first of those that are ready, if there is one.
+    pub fn ready(&mut self) -> Option<OpName>
+        ensures same { self.new ≡ self.old }
+        ensures next { IfSome result (IsNextName self.old.site) }
+        ensures none { IfNone result (NoneIsReady self.old.site) }
+    {
+        self.inbox.next_ready(self.recorded.ledger().clock())
     }
 
     /// The site's knowledge of the token.

@@ -1,6 +1,9 @@
-use Rattle.std.proofs.Common.{rules}
+use Rattle.std.proofs.Common.{rules, ap, subst, sym}
 use Rattle.rb_history.proofs.Public.Appended.{front_of_front, front_of_sum}
-use Rattle.rb_node.proofs.Applied.{applies_more, applies_none, closed, spare_falls}
+use Rattle.rb_node.specs.Answers.{SeenNode}
+use Rattle.rb_node.specs.Asked.{SeenAsked}
+use Rattle.rb_node.specs.Steps.{AppliesOne}
+use Rattle.rb_node.proofs.Applied.{AppliesOn, applies_more, applies_none, closed, spare_falls}
 use Rattle.rb_node.proofs.Failed.{kept, stayed}
 use Rattle.rb_node.proofs.node.Node.apply_ready.Goals as goal
 
@@ -15,7 +18,9 @@ loop-name-init g c = record {
 pub loop-name-preserved : goal.loop-name-preserved
 loop-name-preserved g c =
     let l = c.loop-name in
-    let one = c.in_ok-apply_one.ensures in
+    let new = c.apply_one.new in
+    let one = subst (λ (old : SeenAsked). AppliesOne old new.self.site c.in-Some.name l.comma.now l.text.items new.text.items
+    l.entries.items new.entries.items) (ap (λ (n : SeenNode). n.site) c.ready.ensures.same) c.in_ok-apply_one.ensures in
     record {
       utf8 = search rules;
       text_front = front_of_front c.args.text.now.items l.text.items c.apply_one.new.text.items l.invariant.text_front
@@ -28,8 +33,12 @@ loop-name-preserved g c =
     }
 
 pub loop-name-smaller : goal.loop-name-smaller
-loop-name-smaller g c = spare_falls c.loop-name.self.site c.apply_one.new.self.site _ _ c.loop-name.entries.items
-    c.apply_one.new.entries.items c.in-Some.ensures.free c.in_ok-apply_one.ensures.step
+loop-name-smaller g c =
+    let l = c.loop-name in
+    let new = c.apply_one.new in
+    let one = subst (λ (old : SeenAsked). AppliesOne old new.self.site c.in-Some.name l.comma.now l.text.items new.text.items
+    l.entries.items new.entries.items) (ap (λ (n : SeenNode). n.site) c.ready.ensures.same) c.in_ok-apply_one.ensures in
+    spare_falls l.self.site new.self.site _ _ l.entries.items new.entries.items c.in-Some.ensures.free one.step
 
 pub returns-in_err-apply_one : goal.returns-in_err-apply_one
 returns-in_err-apply_one g c =
@@ -44,7 +53,9 @@ returns-in_err-apply_one g c =
 pub returns : goal.returns
 returns g c =
     let l = c.loop-name in
-    closed c.append.result c.args.self.now.site l.self.site c.args.text.now.items l.text.items c.append.new.out.items
-    c.args.entries.now.items l.entries.items
-    (l.invariant.goes_on l.self.site l.text.items l.entries.items (applies_none l.comma.now l.self.site l.text.items l.entries.items
-    c.in_default.ensures.none)) l.invariant.text_front l.invariant.entries_front c.append.ensures
+    let same = ap (λ (n : SeenNode). n.site) c.ready.ensures.same in
+    let all = subst (λ (new : SeenAsked). AppliesOn l.comma.now l.self.site new l.text.items l.text.items l.entries.items l.entries.items)
+    (sym same) (applies_none l.comma.now l.self.site l.text.items l.entries.items c.in_default.ensures.none) in
+    closed c.append.result c.args.self.now.site c.ready.new.self.site c.args.text.now.items l.text.items c.append.new.out.items
+    c.args.entries.now.items l.entries.items (l.invariant.goes_on c.ready.new.self.site l.text.items l.entries.items all)
+    l.invariant.text_front l.invariant.entries_front c.append.ensures
