@@ -62,7 +62,7 @@ class Store:
             threading.Thread(target=self.carry, args=[to], daemon=True).start()
 
     def replay(self):
-        """Goes on from the journal. What a crash left behind its last whole line is cut off; all is sent again. Another
+        """Goes on from the journal. What a crash left after its last whole line is cut off; all is sent again. Another
         bank's journal, and a sealed one, stay as they are."""
         self.journal.seek(0)
         lines, first = self.journal.read(), self.site.entries()

@@ -19,15 +19,15 @@ left [] (suc t) y ys e = absurd (cc e)
 left (x ∷ xs) zero y ys e = cc e
 left (x ∷ xs) (suc t) y ys e = left xs t y ys e
 
--- the first item behind some is the next
+-- the first item after some is the next
 pub take_next_one : {X : Type 0} (xs : List X) (t : ℕ) (y : X) (ys : List X) → drop t xs ≡ y ∷ ys → take (t + 1) xs ≡ take t xs ++ y ∷ []
 take_next_one xs t y ys e = ap (λ n. take n xs) (sym (one_more t)) ∙ taken xs t y ys e
 
--- and the others are behind it
+-- and the others are after it
 pub drop_next_one : {X : Type 0} (xs : List X) (t : ℕ) (y : X) (ys : List X) → drop t xs ≡ y ∷ ys → drop (t + 1) xs ≡ ys
 drop_next_one xs t y ys e = ap (λ n. drop n xs) (sym (one_more t)) ∙ left xs t y ys e
 
--- a list behind some items
+-- a list after some items
 drop_is : {X : Type 0} (xs : List X) (t : ℕ) (d : X) → t < length xs → drop t xs ≡ get_or xs t d ∷ drop (t + 1) xs
 drop_is xs t d less = drop-cons xs t d less ∙ ap (λ n. get_or xs t d ∷ drop n xs) (one_more t)
 
@@ -36,6 +36,6 @@ pub next_file : (ls bytes rest : List ℕ) (t : ℕ) → t < length ls → piece
     → drop t (pieces_of ls bytes) ≡ take (get_or ls t 0) rest ∷ pieces_of (drop (t + 1) ls) (drop (get_or ls t 0) rest)
 next_file ls bytes rest t less place = sym place ∙ ap (λ l. pieces_of l rest) (drop_is ls t 0 less)
 
--- the lengths that are left are the next one and those behind it
+-- the lengths that are left are the next one and those after it
 pub sum_left : (ls : List ℕ) (t : ℕ) → t < length ls → sum (drop t ls) ≡ get_or ls t 0 + sum (drop (t + 1) ls)
 sum_left ls t less = ap sum (drop_is ls t 0 less) ∙ sum_by-cons (λ x. x) (get_or ls t 0) (drop (t + 1) ls)

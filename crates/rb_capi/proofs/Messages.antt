@@ -53,7 +53,7 @@ of_list d s vs e f = rw (sym e) (rw (sym f) (sym (list_of-items_of (map view vs)
 
 -- ---- the messages of a text
 
--- an item of two lists, one behind another, is one of the first
+-- an item of two lists, one after another, is one of the first
 pub slice_get-append_left : {X : Type 0} (xs ys : List X) (i : ℕ) → i < length xs → slice_get (xs ++ ys) i ≡ slice_get xs i
 slice_get-append_left [] ys i less = absurd (omega arith)
 slice_get-append_left (x ∷ xs) ys zero less = refl
@@ -68,7 +68,7 @@ slice_get-append_right (x ∷ xs) ys (suc i) n is within =
     let e : suc i - n ≡ i - length xs = omega arith in
     rw e (slice_get-append_right xs ys i (length xs) refl (omega arith))
 
--- the messages of a text are those of its first line and of the lines behind it
+-- the messages of a text are those of its first line and of the lines after it
 pub kept_messages-line : (text line later : List ℕ) → lines_of text ≡ line ∷ lines_of later
     → kept_messages text ≡ messages_on line ++ kept_messages later
 unfolding kept_messages
@@ -81,7 +81,7 @@ first_line text line later i split less =
     ap (λ l. slice_get l i) (kept_messages-line text line later split)
     ∙ slice_get-append_left (messages_on line) (kept_messages later) i less
 
--- any other is one of the lines behind it
+-- any other is one of the lines after it
 pub later_lines : (text line later : List ℕ) (i n : ℕ) → lines_of text ≡ line ∷ lines_of later → n ≡ length (messages_on line)
     → n ≤ i → slice_get (kept_messages text) i ≡ slice_get (kept_messages later) (i - n)
 later_lines text line later i n split is within =
@@ -98,7 +98,7 @@ found_there text rest line later index left s split same there = (
   there.2,
 )
 
--- else it is on the lines behind it
+-- else it is on the lines after it
 pub behind_line : (text rest line later : List ℕ) (index left n : ℕ) → lines_of rest ≡ line ∷ lines_of later
     → slice_get (kept_messages rest) left ≡ slice_get (kept_messages text) index → IsOnLine (messages_on line) left (Behind n)
     → slice_get (kept_messages later) (left - n) ≡ slice_get (kept_messages text) index

@@ -18,7 +18,7 @@ use Rattle.rb_capi.specs.Endings.{IsHandedOver}
 -- ---- what C asks
 
 -- a number of sites, or 0 for as many as before; the names of the accounts that are added, a line each; the journals,
--- one behind another; and how many bytes each of them has
+-- one after another; and how many bytes each of them has
 pub record CloseCall : Type 0 where
   pub sites : ℕ
   pub names : List ℕ

@@ -1,7 +1,7 @@
 -- A text, copied to C.
 use Rattle.std.specs.Prelude.{◌≡◌, ℕ, List, ◌++◌, length, take, drop}
 
--- a buffer once a text was put at its beginning, as much of it as there is capacity for: what is behind it stays
+-- a buffer once a text was put at its beginning, as much of it as there is capacity for: what is after it stays
 abbrev pub buffer_with : List ℕ → List ℕ → List ℕ
 buffer_with text before = take (length before) text ++ drop (length text) before
 

@@ -1,4 +1,4 @@
--- One value or more behind a command's options, in words of their own: they are taken, and leave their row.
+-- One value or more after a command's options, in words of their own: they are taken, and leave their row.
 use Rattle.std.proofs.Common.{◌≡◌, ◌∙◌, ◌≤◌, ◌==◌, ◌&&◌, ◌++◌, ℕ, Bool, cond, true, false, refl, sym, ap, subst}
 use Rattle.std.proofs.Common.{arith, rules, List, [], ◌∷◌, length, Option, Some, None}
 use Rattle.std.specs.Prelude.{fold, nat_lt}
@@ -38,7 +38,7 @@ in_range n some few =
     let d : nat_lt usize_max n ≡ false = search rules in
     rw (a, b, d) refl
 
--- the command has this rule for the first value behind its options
+-- the command has this rule for the first value after its options
 module _ (s : Shape) (name : Text) (required : Bool) (found : arg_by_index s.rules 1 ≡ Some (behind name required))
     (own : arg_by_id s.rules name ≡ Some (behind name required)) where
   -- the values that were read so far
@@ -117,7 +117,7 @@ module _ (s : Shape) (name : Text) (required : Bool) (found : arg_by_index s.rul
       let parts = none_of _ _ a in
       both_none _ _ parts.0 (both_walks (walked s.rules [] w x) xs ys parts.1 b)
 
-  -- values behind options that can be given leave their row behind those of the options
+  -- values after options that can be given leave their row after those of the options
   pub leaves_behind : (gs : List Given) (v : Text) (values : List Text) → AreGiven s [] gs
       → is_pending (behind name required) (pending_after None gs) ≡ false → AreValues (v ∷ values) → length (v ∷ values) ≤ usize_max
       → Leaves s (spelled gs ++ v ∷ values) (used (behind name required) (v ∷ values) (rows_with [] gs))

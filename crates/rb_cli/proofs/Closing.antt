@@ -111,7 +111,7 @@ none_pending : (sites : Option ℕ) (names : List Text)
 none_pending None names = not_pending None names refl
 none_pending (Some n) names = not_pending (Some (codes "sites", decimal n ∷ [])) names refl
 
--- ---- the files behind them
+-- ---- the files after them
 
 -- the last checks pass, and the rows are read as what is asked for
 record Ends (rows : List Row) (sites : Option ℕ) (names files : List Text) : Type 0 where
@@ -136,7 +136,7 @@ ends (Some n) (name ∷ names) file files few = record {
   is = ap (λ m. Some (close (Some m) (name ∷ names) (file ∷ files))) (reads n _ (decimal_digits n (omega (arith, few.1))));
 }
 
--- words that ask to close the books are taken behind the command's name, and read as that
+-- words that ask to close the books are taken after the command's name, and read as that
 pub record TakesClosing (words : List Text) (sites : Option ℕ) (names files : List Text) : Type 0 where
   pub fault : level_fault (leaf close_line) [] nothing_held words false [] ≡ []
   pub is : words_of_matches (Some (codes "close", rows_after (leaf close_line).rules [] words)) ≡ Some (close sites names files)

@@ -29,7 +29,7 @@ taken s most files end leaves =
     let takes = takes_walked s _ _ leaves end.defaults in
     record { fault = takes.0 end.checks; are = ap (texts_at (codes "files")) takes.1 ∙ end.are }
 
--- no file is taken, or one behind the command's name, which is read as itself
+-- no file is taken, or one after the command's name, which is read as itself
 pub file_taken : (name : Text) (files : List Text) → AreValues files → length files ≤ 1 → TakesFiles (leaf (files_line name 1)) files
 unfolding clap_on_literals
 file_taken name [] values few = record { fault = refl; are = refl }
@@ -48,7 +48,7 @@ file_taken name (file ∷ []) values few =
     })
 file_taken name (file ∷ more ∷ files) values few = absurd (omega (arith, few))
 
--- files are taken behind the command's name, and read as themselves
+-- files are taken after the command's name, and read as themselves
 pub files_taken : (name : Text) (files : List Text) → AreValues files → length files ≤ usize_max
     → TakesFiles (leaf (files_line name usize_max)) files
 unfolding clap_on_literals

@@ -93,7 +93,7 @@ no_flag_fault s v h plain =
     ∙ ap (λ o. flag_word_fault s.rules again o v h) (no_long v plain)
     ∙ ap (λ o. option_map_or (λ flags. bundle_fault s.rules again flags h) o []) (no_short v plain)
 
--- ---- a value behind its option
+-- ---- a value after its option
 
 value_read : (a : Rule) (rows : List Row) (v : Text) → most_values a ≡ 1
     → record (waiting_at a.id rows) {
@@ -122,7 +122,7 @@ value_fault s id rows v plain =
 
 -- ---- options in turn
 
--- an option as it is given: the word of its name, its rule, and its values, each in a word behind it
+-- an option as it is given: the word of its name, its rule, and its values, each in a word after it
 pub record Given : Type 0 where
   pub word : Text
   pub rule : Rule

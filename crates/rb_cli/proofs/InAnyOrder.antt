@@ -118,7 +118,7 @@ slot_row slot = option_map (row_of slot.2) slot.3
 abbrev pub AreFound : List Row → List Slot → Type 0
 AreFound rows = Each (λ slot. find (of slot.2.id) rows ≡ slot_row slot)
 
--- options can be given behind these rows, by these words, and each is found at the end, with what is found already
+-- options can be given after these rows, by these words, and each is found at the end, with what is found already
 record AreTaken (s : Shape) (rows : List Row) (slots : List Slot) : Type 0 where
   given : AreGiven s rows (givens slots)
   words : spelled (givens slots) ≡ flat_map (λ words. words) (map (λ slot. slot.0) slots)
@@ -126,7 +126,7 @@ record AreTaken (s : Shape) (rows : List Row) (slots : List Slot) : Type 0 where
   others : (id : Text) → Each (λ slot. bytes_eq id slot.2.id ≡ false) slots
       → find (of id) (rows_with rows (givens slots)) ≡ find (of id) rows
 
--- options that have no row yet have none with another's row behind
+-- options that have no row yet have none with another's row after
 still_new : (rows : List Row) (r : Row) (slots : List Slot) → Each (λ slot. bytes_eq r.id slot.2.id ≡ false) slots
     → Each (IsNew rows) slots → Each (IsNew (rows ++ r ∷ [])) slots
 still_new rows r [] other new = tt

@@ -177,7 +177,7 @@ site_options names = search rules
 pub close_options : HasOptions (leaf close_line)
 close_options = search rules
 
--- the rule of the files behind them
+-- the rule of the files after them
 abbrev pub journals_rule : Rule
 journals_rule = with_index 1 (filled (values_rule (codes "journals")))
 

@@ -51,7 +51,7 @@ end_fault app end = or_else (entered_fault app end.stopped)
     (or_else (defaults_fault (settled app.top.rules end.held).rows app.top.rules)
     (check_fault app.top (finished app.top.rules end.held) (is_some (entered app end.stopped)))))
 
--- a walk that stopped at this command, with these words behind it
+-- a walk that stopped at this command, with these words after it
 abbrev stopped_at : Text → List Text → Walk
 stopped_at name words = record (walk_from nothing_held) { stopped = Some (name, words) }
 
@@ -146,7 +146,7 @@ module _ (names : TextRefs) (are_words : AreRecordWords names) where
   abbrev line : App
   line = built (command_line names)
 
-  -- so it is with words behind a command's name if the walk stops there, the command takes them, no bank is named to a
+  -- so it is with words after a command's name if the walk stops there, the command takes them, no bank is named to a
   -- seal, and they are read as this
   taken : (words options : List Text) (name : Text) (s : Shape) (rows : List Row) (asked : Asked) → words ≡ name ∷ options
       → walked line.top.rules (names_of line) (walk_from nothing_held) name ≡ stopped_at name []

@@ -23,7 +23,7 @@ use Rattle.rb_cli.specs.declared.words.TheConstants.{MOST_TELLERS}
 use Rattle.rb_cli.specs.declared.words.Words.{Words}
 use Rattle.rb_cli.specs.declared.words.Words.TheVariants.{Script, Histories, Audit, Migrate, Threads, Site, Seal, Close}
 
--- ---- words in their usual spelling: each option's name, and its value behind it, in a word of its own
+-- ---- words in their usual spelling: each option's name, and its value after it, in a word of its own
 
 -- a text can be a value in a word of its own: it doesn't begin with a dash (45), as the name of an option does
 abbrev pub IsValue : List ℕ → Type 0
@@ -49,7 +49,7 @@ value_words name (Some value) = name ∷ value ∷ []
 abbrev pub switch_words : List ℕ → Bool → List (List ℕ)
 switch_words name given = if given then name ∷ [] else []
 
--- the words are a command's name and, behind it, those of each of these options, in any order. An option that isn't
+-- the words are a command's name and, after it, those of each of these options, in any order. An option that isn't
 -- given has none
 abbrev pub AreCommand : List (List ℕ) → List ℕ → List (List (List ℕ)) → Type 0
 AreCommand words name options =
@@ -104,7 +104,7 @@ abbrev pub account_words : List (List ℕ) → List (List ℕ)
 account_words [] = []
 account_words (name ∷ names) = codes "--account" ∷ name ∷ account_words names
 
--- the words ask to close the books: behind the command's name the number of sites, if it is asked for, the accounts to
+-- the words ask to close the books: after the command's name the number of sites, if it is asked for, the accounts to
 -- add, and one journal or more
 pub record AskForClosing (words : List (List ℕ)) (sites : Option ℕ) (accounts journals : List (List ℕ)) : Type 0 where
   pub words_are : words
@@ -114,11 +114,11 @@ pub record AskForClosing (words : List (List ℕ)) (sites : Option ℕ) (account
   pub some_journals : 1 ≤ length journals
   pub are_files : AreValues journals
 
--- the text behind a reference, if there is one
+-- the text after a reference, if there is one
 abbrev pub text_if_any : Option (Bor (List ℕ)) → Option (List ℕ)
 text_if_any = option_map (λ text. text.now)
 
--- the texts behind references
+-- the texts after references
 abbrev pub texts_of : List (Bor (List ℕ)) → List (List ℕ)
 texts_of = map (λ text. text.now)
 
@@ -152,7 +152,7 @@ switch_rule name = record (new_rule name) { long = Some name; action = Some SetT
 abbrev pub repeated_rule : List ℕ → Rule
 repeated_rule name = record (option_rule name None false) { action = Some Append }
 
--- one value or more, behind the options
+-- one value or more, after the options
 abbrev pub values_rule : List ℕ → Rule
 values_rule name = record (new_rule name) {
   value_names = 1;
@@ -160,7 +160,7 @@ values_rule name = record (new_rule name) {
   required = true;
 }
 
--- from one value up to this many behind a command, that needn't be given
+-- from one value up to this many after a command, that needn't be given
 abbrev pub files_rule : ℕ → Rule
 files_rule most = record (new_rule (codes "files")) {
   value_names = 1;
@@ -182,7 +182,7 @@ threads_line =
     (with_rule (with_rule (new_app (codes "threads")) (option_rule (codes "sites") (within 2 MOST_SITES) true))
     (option_rule (codes "tellers") (within 1 MOST_TELLERS) true)) (option_rule (codes "seed") (within 0 4294967295) true)
 
--- texts behind references, as the rule of an option holds those that it takes
+-- texts after references, as the rule of an option holds those that it takes
 abbrev pub TextRefs : Type 0
 TextRefs = Bor (List (Bor Text))
 
@@ -283,7 +283,7 @@ record_of text = if bytes_eq text (record_word All) then All else Changes
 abbrev pub choice_at : List Row → Record
 choice_at rows = option_map_or record_of (first_of (codes "record") rows) Changes
 
--- all values of an option that may be given again, or of those behind the options
+-- all values of an option that may be given again, or of those after the options
 abbrev pub texts_at : Text → List Row → List Text
 texts_at name rows = unwrap_or (all_of name rows) []
 

@@ -141,7 +141,7 @@ Where no order goes on, these entries wait for messages that no entry before sen
 shows one more than its entries.
 
 With several files, as the journals of all sites, each has to have the first one's first line, and the
-lines behind it follow those of the files before:
+lines after it follow those of the files before:
 
   rbbank audit 0.journal 1.journal
 
@@ -216,7 +216,7 @@ as it is: an operation to every other site, the token to the site that it is for
 
 Without --new the journal has to be there, and goes on: first the messages of its last N entries are written again,
 those of all entries if --resend isn't given. With --new it isn't there, or is empty: no other operations are made
-under names that are taken. What a crash left behind its last line is kept in FILE.cut.
+under names that are taken. What a crash left after its last line is kept in FILE.cut.
 
 An event that changes nothing, as a balance, a refusal or a message that the site has, is answered and not recorded.
 With --record all each event is, but one that changes nothing and whose line in the journal would be too long.
@@ -348,7 +348,7 @@ pub const NEXT_SITES: &str =
 
 /// What `--account` is.
 pub const ACCOUNT: &str =
-    "An account to add behind the others, which starts with 0; given again for each";
+    "An account to add after the others, which starts with 0; given again for each";
 
 /// The words after the options of `close`.
 pub const JOURNALS: &str = "The sealed journals of all sites, in the order of their numbers";

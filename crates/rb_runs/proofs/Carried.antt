@@ -56,7 +56,7 @@ zeros zero i = refl
 zeros (suc m) zero = refl
 zeros (suc m) (suc i) = zeros m i
 
--- what is at a place of the numbers of some places, with zeros behind them
+-- what is at a place of the numbers of some places, with zeros after them
 there : (f : ℕ → ℕ) (a n m i : ℕ) → ((k : ℕ) → n ≤ k → f (a + k) ≡ 0) →
     slice_index (map f (range_with_len a n) ++ replicate m 0) i ≡ f (a + i)
 there f a zero m i h = zeros m i ∙ sym (h i (omega arith))

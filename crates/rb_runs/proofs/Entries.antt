@@ -44,7 +44,7 @@ with_both : (xs ys : List (ℕ × Entry)) (hs : List (List Entry)) → with_entr
 with_both [] ys hs = refl
 with_both (x ∷ xs) ys hs = with_both xs ys (with_entry x.0 x.1 hs)
 
--- an entry more of the history behind these
+-- an entry more of the history after these
 one_behind : (before : List (List Entry)) (h : List Entry) (after : List (List Entry)) (x : Entry)
     → with_entry (length before) x (before ++ h ∷ after) ≡ before ++ (h ++ x ∷ []) ∷ after
 one_behind [] h after x = refl

@@ -5,7 +5,7 @@ use Rattle.rb_runs.proofs.Words.{session_rest, TakesLine, makes_nothing}
 use Rattle.rb_runs.specs.declared.script.session.Session.{Session}
 use Rattle.rb_runs.proofs.Unanswered.{nothing}
 
--- the outcome of the lines behind, by this world
+-- the outcome of the lines after, by this world
 abbrev behind : SeenWorld → ℕ → List (List ℕ) → LinesOutcome
 behind w n ls = script_outcome w (commands_from w.settings (n + 1) ls)
 

@@ -18,14 +18,14 @@ site_list s p h one =
     ∙ length-map (world_of_run s one.events).sites (λ (t : ModelSite). t.ops) ∙ sites_of_run s one.events in
     slice_get-get_or (applied_from s 0 p.histories) p.site [] (omega arith)
 
--- what an account starts with behind one period
+-- what an account starts with after one period
 behind : AllLaws → (s : Settings) (p : Period) → IsConfigured s → p.site < s.sites → AreOneWorlds s p.histories → (a : Place) →
     pos (start_of (settings_behind s p) a) ≡ pos (start_of s a) +ℤ total (λ u. delta u a) (kept (applied_over s p))
 behind laws s p c h one a =
     starts_with s (applied_over s p) p.ask a (valid_list laws s p.histories c one p.site (applied_over s p) (site_list s p h one))
     ∙ balance_is s (applied_over s p) a
 
--- what an account starts with behind all periods
+-- what an account starts with after all periods
 after : AllLaws → (s : Settings) (ps : List Period) → ArePeriods s ps → (a : Place) →
     pos (start_of (settings_after s ps) a) ≡ pos (start_of s a) +ℤ kept_over s ps a
 after laws s [] h a = omega (arith, ints)
@@ -55,7 +55,7 @@ one_bank laws s ps c periods c' hs one i us at =
       never_negative = λ a. covers (settings_after s ps) us a valid;
     }
 
--- what closing answers is the configuration behind a period
+-- what closing answers is the configuration after a period
 pub answered : AnswersArePeriods
 answered x ask line c next site h = (
   (c, h, next.one, next.closed, tt),

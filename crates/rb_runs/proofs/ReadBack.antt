@@ -9,7 +9,7 @@ use Rattle.rb_history.specs.Configurations.{config_on}
 use Rattle.rb_history.specs.Entries.{entry_on}
 use Rattle.rb_runs.proofs.Taken.{takes_config, takes_entry}
 
--- a line without a line feed in it is the first, once it has one behind it
+-- a line without a line feed in it is the first, once it has one after it
 step : (t : Bool) (b : ℕ) (l rest : List ℕ) → (b == 10) ≡ t → not t ≡ true → lines_of (l ++ 10 ∷ rest) ≡ l ∷ lines_of rest
     → lines_of (b ∷ (l ++ 10 ∷ rest)) ≡ (b ∷ l) ∷ lines_of rest
 step true b l rest e h more = absurd (cc)

@@ -1,4 +1,4 @@
--- The first of some lines, and those behind it.
+-- The first of some lines, and those after it.
 use Rattle.rb_runs.proofs.Words.{◌≡◌, ◌<◌, ◌≤◌, ◌+◌, ◌==◌, ◌⊎◌, ℕ, Bool, true, false, cond, List, [], ◌∷◌, length, take, drop, inl, inr}
 use Rattle.rb_runs.proofs.Words.{refl, sym, ap, ◌∙◌, append-nil, arith, position, Some, None, nat_lt, not, ltb-true, ltb-false}
 use Rattle.rb_runs.proofs.Words.{prefix_len-le-length, line_len, lines_of}

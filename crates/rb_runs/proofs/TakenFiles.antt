@@ -10,7 +10,7 @@ use Rattle.rb_runs.specs.declared.books.journal_fault.JournalFault.TheVariants.{
 use Rattle.rb_runs.specs.declared.books.closing.Closing.{Closing}
 use Rattle.rb_runs.specs.declared.books.journal_fault.JournalFault.{JournalFault}
 
--- what files and one more say: the last is the journal of the site behind theirs
+-- what files and one more say: the last is the journal of the site after theirs
 pub with-one-more : (journals site : ℕ) (before : Option Audited) (files : List (List ℕ)) (file : List ℕ)
     → with_files journals site before (files ++ file ∷ [])
     ≡ next (with_files journals site before files) (λ b. next (with_next journals (site + length files) b file) (λ a. Ok (Some a)))
@@ -105,12 +105,12 @@ count-keeps s journals (Ok a) e = by (journals == a.settings.sites)
     by true = e
     by false = refl
 
--- what is taken behind other journals is of their bank
+-- what is taken after other journals is of their bank
 same-bank : (journals site : ℕ) (a b : Audited) (file : List ℕ) → with_next journals site (Some a) file ≡ Ok b → b.settings ≡ a.settings
 same-bank journals site a b file e = sym (ap (settings-or a.settings) e)
     ∙ count-keeps a.settings journals (with_journal site (Some a) file) (journal-keeps a site file)
 
--- behind a bank's journals there is a bank
+-- after a bank's journals there is a bank
 some-after : (journals site : ℕ) (a : Audited) (fs : List (List ℕ)) → ¬ (with_files journals site (Some a) fs ≡ Ok None)
 some-after journals site a [] e = cc
 some-after journals site a (f ∷ fs) e = by (λ b. some-after journals (site + 1) b fs) (with_next journals site (Some a) f) e
@@ -129,7 +129,7 @@ some-bank journals site before f fs e = by (with_next journals site before f) e
     by (Ok a) e = some-after journals (site + 1) a fs e
     by (Err why) e = cc
 
--- the accounts may be added behind those of the bank, since they might before
+-- the accounts may be added after those of the bank, since they might before
 pub still-added : (old new : Closing) (ask : NextBank) (files : List (List ℕ)) (file : List ℕ) → HasTaken old ask files
     → (took : TakesFile old new file) → 0 < old.taken → added_fault (Some took.bank.settings) ask.added ≡ None
 still-added old new ask files file taken took some = by old.auditor refl

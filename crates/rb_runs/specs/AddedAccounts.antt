@@ -14,7 +14,7 @@ use Rattle.rb_runs.specs.declared.books.added_fault.AddedFault.TheVariants.{Ther
 abbrev pub largest : Limits
 largest = record { blue = MOST_BLUE; red = MOST_RED; inbox = MOST_INBOX; history = MOST_HISTORY; epoch = MOST_EPOCH }
 
--- what is wrong with a bank that has these accounts behind those of another, which start with nothing; if no other is
+-- what is wrong with a bank that has these accounts after those of another, which start with nothing; if no other is
 -- known, with a bank of two sites that has these alone
 abbrev pub added_fault : Option Settings → List (List ℕ) → Option ConfigFault
 added_fault (Some s) names = config_fault s.sites

@@ -67,7 +67,7 @@ abbrev pub sum_of_accounts : (Place → ℤ) → ℕ → ℕ → ℤ
 sum_of_accounts f i zero = pos 0
 sum_of_accounts f i (suc n) = f (record { 0 = i }) +ℤ sum_of_accounts f (i + 1) n
 
--- behind a site that has applied these operations, the next bank goes on with the balances
+-- after a site that has applied these operations, the next bank goes on with the balances
 pub record IsCarriedForward (s : Settings) (us : List Shadow) (next : Settings) : Type 0 where
   -- each account keeps its place
   pub names : (i : ℕ) (name : List ℕ) → slice_get s.names i ≡ Some name → slice_get next.names i ≡ Some name
@@ -80,7 +80,7 @@ pub record IsCarriedForward (s : Settings) (us : List Shadow) (next : Settings) 
   -- the sum over all accounts stays
   pub sum : pos (sum next.starts) ≡ sum_of_accounts (bal s us) 0 (length s.names)
 
--- a closed world gives one next configuration, whichever site it is behind, and it goes on with the balances
+-- a closed world gives one next configuration, whichever site it is after, and it goes on with the balances
 pub record AreCarriedForward (s : Settings) (uss : List (List Shadow)) (ask : NextBank) : Type 0 where
   pub carried : (i : ℕ) (us : List Shadow) → slice_get uss i ≡ Some us → IsCarriedForward s us (next_settings s us ask)
   pub one : (i j : ℕ) (us vs : List Shadow) → slice_get uss i ≡ Some us → slice_get uss j ≡ Some vs
@@ -119,11 +119,11 @@ pub record Period : Type 0 where
 abbrev pub applied_over : Settings → Period → List Shadow
 applied_over s p = get_or (applied_from s 0 p.histories) p.site []
 
--- the configuration behind a period
+-- the configuration after a period
 abbrev pub settings_behind : Settings → Period → Settings
 settings_behind s p = next_settings s (applied_over s p) p.ask
 
--- the configuration behind a list of periods
+-- the configuration after a list of periods
 abbrev pub settings_after : Settings → List Period → Settings
 settings_after s [] = s
 settings_after s (p ∷ ps) = settings_after (settings_behind s p) ps
@@ -139,7 +139,7 @@ abbrev pub kept_over : Settings → List Period → Place → ℤ
 kept_over s [] a = pos 0
 kept_over s (p ∷ ps) a = total (λ u. delta u a) (kept (applied_over s p)) +ℤ kept_over (settings_behind s p) ps a
 
--- behind these periods, at a site that has applied these operations since: as if it were one bank
+-- after these periods, at a site that has applied these operations since: as if it were one bank
 pub record GoesOn (s : Settings) (ps : List Period) (us : List Shadow) : Type 0 where
   -- each account keeps its place
   pub names : (i : ℕ) (name : List ℕ) → slice_get s.names i ≡ Some name → slice_get (settings_after s ps).names i ≡ Some name
@@ -151,7 +151,7 @@ pub record GoesOn (s : Settings) (ps : List Period) (us : List Shadow) : Type 0 
   -- no balance is negative
   pub never_negative : (a : Place) → pos 0 ≤ℤ bal (settings_after s ps) us a
 
--- any number of periods, and a world behind them, whose books may be open, are one bank
+-- any number of periods, and a world after them, whose books may be open, are one bank
 abbrev pub PeriodsAreOne : Type 0
 PeriodsAreOne = (s : Settings) (ps : List Period) → IsConfigured s → ArePeriods s ps → IsConfigured (settings_after s ps)
     → (hs : List (List Entry)) → AreOneWorlds (settings_after s ps) hs → (i : ℕ) (us : List Shadow)
@@ -162,7 +162,7 @@ abbrev pub period_of : Input → ℕ → NextBank → Period
 period_of x site ask = record { histories = x.histories; site = site; ask = ask }
 
 -- if closing answers the next configuration's line, the histories are a period, and the line is that of the
--- configuration behind it, whichever of the sites is asked
+-- configuration after it, whichever of the sites is asked
 abbrev pub AnswersArePeriods : Type 0
 AnswersArePeriods = (x : Input) (ask : NextBank) (line : List ℕ) → IsConfigured x.settings → ReportsNext ask x line → (site : ℕ)
     → site < x.settings.sites

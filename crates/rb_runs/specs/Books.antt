@@ -55,7 +55,7 @@ lacked sites uss us = filter (lacks uss us) (next_names sites us)
 
 -- ---- the next bank
 
--- what is asked of the next bank: a number of sites, else it has as many as before; and accounts behind the others
+-- what is asked of the next bank: a number of sites, else it has as many as before; and accounts after the others
 pub record NextBank : Type 0 where
   pub sites : Option ℕ
   pub added : List (List ℕ)
@@ -83,7 +83,7 @@ next_with s balances ask = record {
   version = next_version s (sites_of_next s ask.sites);
 }
 
--- its configuration behind a site that has applied these operations
+-- its configuration after a site that has applied these operations
 abbrev pub next_settings : Settings → List Shadow → NextBank → Settings
 next_settings s us ask = next_with s (balances_of s us) ask
 

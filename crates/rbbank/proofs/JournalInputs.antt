@@ -162,7 +162,7 @@ onto-none zero site ys = refl
 onto-none (suc n) zero ys = refl
 onto-none (suc n) (suc site) ys = ap (λ gs. [] ∷ gs) (onto-none n site ys)
 
--- at the first site behind these that has none
+-- at the first site after these that has none
 onto-next : (front rest : List (List Entry)) (ys : List Entry) → onto (length front) ys (front ++ [] ∷ rest) ≡ front ++ ys ∷ rest
 onto-next [] rest ys = refl
 onto-next (h ∷ front) rest ys = ap (λ gs. h ∷ gs) (onto-next front rest ys)

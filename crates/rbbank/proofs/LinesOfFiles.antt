@@ -12,7 +12,7 @@ use Rattle.rbbank.specs.declared.joined.FilesFault.{FilesFault}
 use Rattle.rbbank.specs.declared.joined.FilesFault.TheVariants.{Unread, AnotherBank, Same, OutOfMemory}
 use Rattle.rbbank.specs.declared.joined.Joined.{Joined}
 
--- ---- lines behind lines
+-- ---- lines after lines
 
 -- the last line has a line feed, if there is a line
 abbrev pub is_ended : List ℕ → Bool
@@ -34,7 +34,7 @@ some_lines b bs = go (b == 10) (lines_of bs) refl
     go false [] is = record { first = b ∷ []; more = []; are = sym is }
     go false (l ∷ ls) is = record { first = b ∷ l; more = ls; are = sym is }
 
--- a byte goes onto the first of some lines, whatever is behind them
+-- a byte goes onto the first of some lines, whatever is after them
 onto_some : (t : Bool) (b : ℕ) (ls more : List (List ℕ)) (first : List ℕ) (rest : List (List ℕ)) → ls ≡ first ∷ rest
     → cond t ([] ∷ (ls ++ more)) (onto_first b (ls ++ more)) ≡ cond t ([] ∷ ls) (onto_first b ls) ++ more
 onto_some true b ls more first rest is = refl
@@ -47,13 +47,13 @@ step b xs ys more x rest is same =
     ap (λ ls. cond (b == 10) ([] ∷ ls) (onto_first b ls)) same
     ∙ onto_some (b == 10) b (lines_of xs) more some.first some.more some.are
 
--- behind a line feed lines follow
+-- after a line feed lines follow
 pub behind_feed : (xs ys : List ℕ) → is_ended xs ≡ true → lines_of (xs ++ ys) ≡ lines_of xs ++ lines_of ys
 behind_feed [] ys ended = refl
 behind_feed (b ∷ []) ys ended = rw ended refl
 behind_feed (b ∷ x ∷ xs) ys ended = step b (x ∷ xs) ((x ∷ xs) ++ ys) (lines_of ys) x xs refl (behind_feed (x ∷ xs) ys ended)
 
--- and behind another byte, with a line feed between
+-- and after another byte, with a line feed between
 pub with_feed : (xs ys : List ℕ) → is_ended xs ≡ false → lines_of ((xs ++ 10 ∷ []) ++ ys) ≡ lines_of xs ++ lines_of ys
 with_feed [] ys open_end = absurd (true≢false open_end)
 with_feed (b ∷ []) ys open_end = rw open_end refl
@@ -82,7 +82,7 @@ some_first (x ∷ xs) ys none some same =
     let filled : (length (x ∷ xs) == 0) ≡ false = ne_eqb _ _ (λ e. omega (arith, e)) in
     true≢false (sym none ∙ filled)
 
--- ---- files behind files
+-- ---- files after files
 
 flat_map-more : {X Y : Type 0} (f : X → List Y) (xs : List X) (x : X) → flat_map f (xs ++ x ∷ []) ≡ flat_map f xs ++ f x
 flat_map-more f [] x = append-nil (f x)

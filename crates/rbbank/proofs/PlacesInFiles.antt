@@ -32,7 +32,7 @@ slice_behind [] j k is = refl
 slice_behind (x ∷ xs) j zero is = absurd (omega (arith, is))
 slice_behind (x ∷ xs) j (suc k) is = ap (slice_get xs) (omega (arith, is))
 
--- the place of a line of files behind the first
+-- the place of a line of files after the first
 record IsBehind (files : List (List ℕ)) (i n : ℕ) (place : ℕ × ℕ) : Type 0 where
   k : ℕ
   file : place.0 ≡ i + k
@@ -115,7 +115,7 @@ at_file counts file left count less is few =
     ap (λ cs. place_from file cs left) (drop-cons counts file count less ∙ ap (λ c. c ∷ drop (suc file) counts) (sym is))
     ∙ ap (λ b. cond b (place_from (file + 1) (drop (suc file) counts) (left - count)) (file, own_number file left)) (le-ltb count left few)
 
--- and behind all files there is none
+-- and after all files there is none
 pub at_end : (counts : List ℕ) (file left : ℕ) → length counts ≤ file → place_from file (drop file counts) left ≡ (0, left)
 at_end counts file left past = ap (λ cs. place_from file cs left) (drop_of_length-le counts past)
 

@@ -23,11 +23,11 @@ use Rattle.rbbank.specs.Tasks.{DoesTask}
 abbrev pub first_line : List ℕ → Option (List ℕ)
 first_line bytes = slice_get (lines_of bytes) 0
 
--- the lines of a file behind its first one
+-- the lines of a file after its first one
 abbrev pub lines_behind : List ℕ → List (List ℕ)
 lines_behind bytes = drop 1 (lines_of bytes)
 
--- the lines of files as one input: all of the first file's, and of each other's those behind its first line
+-- the lines of files as one input: all of the first file's, and of each other's those after its first line
 abbrev pub joined_lines : List (List ℕ) → List (List ℕ)
 joined_lines [] = []
 joined_lines (file ∷ files) = lines_of file ++ flat_map lines_behind files
@@ -108,7 +108,7 @@ ClosesFilesAs ask count ids files (Err (Books fault)) text = AreFiles count ids 
 
 -- ---- what is said of it
 
--- a fault of a line, or of all lines, in words behind the name of its file
+-- a fault of a line, or of all lines, in words after the name of its file
 abbrev pub lines_message_of : List ℕ → ScriptFault → List ℕ
 lines_message_of file fault = codes "rbbank: " ++ (file ++ (codes ": " ++ reason_of fault))
 

@@ -84,7 +84,7 @@ module _ {R P : Type 0} where
     pub new : is_new ≡ true → file_of disk ≡ []
     pub untouched : disk_log disk ≡ opened_event (file_of disk) ∷ []
 
-  -- a site ran so over the file of this name: it answered the lines behind the configuration, or stopped in the opening,
+  -- a site ran so over the file of this name: it answered the lines after the configuration, or stopped in the opening,
   -- as the promises of a site's run have it
   pub record HasRunOn (run : SiteRun) (name : List ℕ) (is_new : Bool) (left : Option (List ℕ)) (disk : Disk R P)
       (ended : Result ℕ SiteFault) : Type 0 where
@@ -123,7 +123,7 @@ module _ {R P : Type 0} where
   IsSealOn me name (Some disk) ended = HasSealedOn me name disk ended
 
 -- what is said of a journal that failed: it begins with the fault and the file's name, and the system's reason is
--- behind them
+-- after them
 abbrev pub IsJournalMessage : List ℕ → List ℕ → Type 0
 IsJournalMessage name text =
     (reason : List ℕ) × (text ≡ site_message_of Journal ++ codes ": " ++ name ++ codes ": " ++ reason)

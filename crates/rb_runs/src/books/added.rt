@@ -1,7 +1,7 @@
 //! Accounts that are to be added.
 //!
 //! Their faults are those that `Config::new` finds, so the rules of accounts are in one place. They are checked alone
-//! before a journal is read, and behind the bank's own accounts once its configuration is known.
+//! before a journal is read, and after the bank's own accounts once its configuration is known.
 ghost use Rattle.std.specs.Prelude.{◌≡◌, ◌≢◌, IfErr, IfOk, MatchResult, None, OnOk, Some, map};
 ghost use Rattle.std.specs.Prelude.{option_map};
 ghost use Rattle.rb_money.specs.Faults.{account_of, config_fault};
@@ -12,7 +12,7 @@ use crate::books::next::{NextBank, add, next_config};
 use rb_money::{Config, ConfigFault, Limits};
 use std::alloc::{AllocError, Global};
 
-/// The fault of accounts that come behind this number of others.
+/// The fault of accounts that come after this number of others.
 fn as_added(before: usize, fault: ConfigFault) -> AddedFault
     ensures memory { fault ≡ ConfigFault.OutOfMemory → result ≡ AddedFault.OutOfMemory }
     ensures first { fault ≢ ConfigFault.OutOfMemory → result ≡ as_added before fault }
@@ -54,7 +54,7 @@ fn alone(alloc: Global, added: &[&str]) -> Result<Config, ConfigFault>
     Config::new(alloc, 2, accounts, Limits::largest())
 }
 
-/// Whether accounts with these names may be added behind those of the bank, or, if none is known yet, be accounts at
+/// Whether accounts with these names may be added after those of the bank, or, if none is known yet, be accounts at
 /// all: the first thing that is wrong.
 pub fn check_added(alloc: Global, added: &[&str], config: Option<&Config>) -> Result<(), AddedFault>
     ensures { MatchResult result

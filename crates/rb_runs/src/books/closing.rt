@@ -42,7 +42,7 @@ fn sealed_lines(file: &[u8]) -> Option<&[u8]>
     }
 }
 
-/// The first line, without its line feed, and the lines behind it.
+/// The first line, without its line feed, and the lines after it.
 pub fn split_line(lines: &[u8]) -> (&[u8], &[u8])
     requires some { 0 < length lines.now }
     ensures split { lines_of lines.now ≡ result.0.now ∷ lines_of result.1.now }
@@ -112,7 +112,7 @@ fn take_entry(
     Ok(auditor.take(found, &entry)?)
 }
 
-/// Takes the lines behind the first of a site's journal.
+/// Takes the lines after the first of a site's journal.
 fn take_entries(
     alloc: Global,
     auditor: &mut Auditor,

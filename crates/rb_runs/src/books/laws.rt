@@ -41,7 +41,7 @@ pub fn next_is_configured()
     inputs_are_read_back();
 }
 
-/// Any number of periods, each a closed world of the configuration that the one before gave, and a world behind them
+/// Any number of periods, each a closed world of the configuration that the one before gave, and a world after them
 /// are one bank: a balance is the first bank's start and the deltas of all that is kept, whichever site of each world
 /// is asked. It is never negative.
 pub fn periods_are_one()
@@ -51,7 +51,7 @@ pub fn periods_are_one()
 }
 
 /// The histories for which the next configuration's line is answered are such a period, and the line is that of the
-/// configuration behind it, whichever site is asked.
+/// configuration after it, whichever site is asked.
 pub fn answers_are_periods()
     ensures { AnswersArePeriods }
 {}

@@ -1,6 +1,6 @@
 //! The configuration of the next bank.
 //!
-//! It is made by `Config::new`, which finds what is wrong with it. Added accounts come behind the others, so that each
+//! It is made by `Config::new`, which finds what is wrong with it. Added accounts come after the others, so that each
 //! account of the bank keeps its place.
 ghost use Rattle.std.specs.Prelude.{◌≡◌, ◌≢◌, ◌≤◌, ◌++◌, ◌∷◌, ℕ, [], IfErr, IfOk, None, OnOk, Some, length};
 ghost use Rattle.std.specs.Prelude.{map, slice_get};
@@ -14,7 +14,7 @@ use std::alloc::{AllocError, Global};
 use std::marker::Model;
 
 /// The settings asked of the next bank: a number of sites, else it has as many as before; and the names of accounts
-/// behind the others.
+/// after the others.
 #[derive(Drop)]
 pub struct NextBank<'a> {
     sites: Option<u8>,
@@ -72,7 +72,7 @@ pub fn add(
     Ok(())
 }
 
-/// The accounts of the bank, which start with these balances, and behind them the added ones, with 0. `Err` means out
+/// The accounts of the bank, which start with these balances, and after them the added ones, with 0. `Err` means out
 /// of memory.
 fn accounts(
     alloc: Global,

@@ -1,6 +1,6 @@
 //! A whole closing of the books, from the bytes of journals to those of a line.
 //!
-//! Files are read one after another, and none behind one that is at fault. The line is written once all is known, so
+//! Files are read one after another, and none after one that is at fault. The line is written once all is known, so
 //! after a fault nothing was written, unless it is the write that failed.
 ghost use Rattle.std.specs.Prelude.{◌≡◌, ◌↔◌, ◌+◌, ◌<◌, ◌≤◌, [], List, ℕ, Err, IfSome, MatchResult, None, false, true};
 ghost use Rattle.std.specs.Io.KnownBytes.{Appends};
@@ -80,7 +80,7 @@ fn take_all<F: JournalFiles>(
 /// audit, or what each site lacks, or the first account that has more than it may start with. The answer is whether the
 /// books are closed.
 ///
-/// Files are read one after another, and none behind one that is at fault. After a fault nothing was written, but for
+/// Files are read one after another, and none after one that is at fault. After a fault nothing was written, but for
 /// `Write`: then a prefix of the line.
 pub fn run_close<F: JournalFiles, W: Sink>(
     alloc: Global,

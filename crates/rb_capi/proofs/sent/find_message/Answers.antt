@@ -1,4 +1,4 @@
--- The message is on this line, or on those behind it, or nowhere.
+-- The message is on this line, or on those after it, or nowhere.
 use Rattle.std.proofs.Common.{length, sym}
 use Rattle.std.proofs.lemmas.Bool.{eqb-true}
 use Rattle.rb_capi.proofs.Messages.{behind_line, found_there, none_left}

@@ -1,4 +1,4 @@
--- The message is looked for on the lines that are left, behind those of the lines before.
+-- The message is looked for on the lines that are left, after those of the lines before.
 use Rattle.std.proofs.Common.{◌≡◌, length}
 use Rattle.std.specs.List.{slice_get}
 use Rattle.rb_capi.specs.Sends.{kept_messages}

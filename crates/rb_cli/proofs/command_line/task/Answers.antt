@@ -1,4 +1,4 @@
--- The command has the files behind it.
+-- The command has the files after it.
 use Rattle.std.proofs.Common.{◌∙◌, [], ◌∷◌, ap, map, refl}
 use Rattle.clap.specs.Words.{rule_of}
 use Rattle.rb_cli.specs.Words.{files_line}

@@ -1,4 +1,4 @@
--- The lines come behind a line feed.
+-- The lines come after a line feed.
 use Rattle.std.proofs.Common.{◌≡◌, ◌∙◌, ◌==◌, ◌++◌, ◌-◌, ◌∷◌, ℕ, cond, rules, true, [], length, List, Result, Ok, Err, ap, sym, subst}
 use Rattle.std.specs.Prelude.{IfOk, is_ok, slice_get}
 use Rattle.std.specs.Option.{option_map_or}

@@ -31,7 +31,7 @@ complete -c rbbank -n '__fish_seen_subcommand_from site' -l bank -x -d 'The bank
 complete -c rbbank -n '__fish_seen_subcommand_from site' -l seal -d 'Seals the journal for good; reads no input and serves nothing (not with --bank)'
 complete -c rbbank -n '__fish_seen_subcommand_from site' -s h -l help -d 'Print help'
 complete -c rbbank -n '__fish_seen_subcommand_from close' -l sites -x -d 'How many sites the next bank has, 2 to 16; as many as before without it'
-complete -c rbbank -n '__fish_seen_subcommand_from close' -l account -x -d 'An account to add behind the others, which starts with 0; given again for each'
+complete -c rbbank -n '__fish_seen_subcommand_from close' -l account -x -d 'An account to add after the others, which starts with 0; given again for each'
 complete -c rbbank -n '__fish_seen_subcommand_from close' -s h -l help -d 'Print help'
 complete -c rbbank -n '__fish_seen_subcommand_from close' -F
 complete -c rbbank -n '__fish_seen_subcommand_from help' -a 'script histories audit migrate threads site close help'

@@ -1,4 +1,4 @@
--- The line and those behind it.
+-- The line and those after it.
 use Rattle.rb_runs.proofs.Words.{◌≡◌, ◌+◌, ◌∷◌, sym, subst, take, take_rest, lines_of}
 use Rattle.rb_runs.proofs.SplitLines.{split_there, split_all}
 use Rattle.rb_runs.proofs.books.closing.split_line.Goals as goal

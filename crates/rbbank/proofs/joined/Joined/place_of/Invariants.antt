@@ -1,4 +1,4 @@
--- The line is behind the files so far.
+-- The line is after the files so far.
 use Rattle.std.proofs.Common.{◌≡◌, drop}
 use Rattle.rbbank.proofs.PlacesInFiles.{place_from}
 use Rattle.rbbank.proofs.joined.Joined.place_of.Given as goal
