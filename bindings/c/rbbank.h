@@ -45,9 +45,9 @@ enum {
  * counts characters, from 1; the words may change. Call it after RBBANK_BAD_LINE, with the same line and what it
  * should have been. `config` is the bank's configuration; for RBBANK_CONFIG it isn't read.
  *
- * An entry isn't taken either if it is another site's, if its id is there, if it has over 1,048,576 bytes, or if a
- * journal has it not as a site writes it: the text then has no column, and names all but the length. "no such kind of
- * line" or "no configuration" if `kind` or `config` isn't one; "out of memory". */
+ * An entry isn't taken either if it is another site's, if its id is there, or if a journal has it not as a site writes
+ * it: the text then names these, and has no column. "no such kind of line" or "no configuration" if `kind` or `config`
+ * isn't one; "out of memory". */
 size_t rbbank_error(uint8_t kind, const char *config, size_t config_length, const char *line, size_t length, char *out,
                     size_t capacity);
 

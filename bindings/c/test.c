@@ -338,6 +338,7 @@ static int is_fault(uint8_t kind, const char *config, const char *line, size_t l
 static void errors(void) {
     static const char entry[] = "{\"event\":{\"balance\":\"ann\"},\"reply\":{\"refused\":25},\"site\":0}";
     static const char other[] = "{\"event\":{\"balance\":\"ann\"},\"reply\":{\"balance\":0},\"site\":1}";
+    static char longer[1048577];
     WANTED(is_fault(RBBANK_ENTRY, CONFIG, TEXT(entry), "column 47: 25 is out of range: a refusal is 1 to 24"));
     WANTED(is_fault(RBBANK_CONFIG, "", TEXT("{\"accounts\":[[\"ann\",0]],\"sites\":17,\"version\":1}"),
                     "column 33: 17 is out of range: the number of sites is 2 to 16"));
@@ -349,6 +350,10 @@ static void errors(void) {
     WANTED(is_fault(RBBANK_COMMAND, CONFIG, NULL, 0, "column 1: the line ends here, and a value is missing"));
     WANTED(is_fault(RBBANK_ENTRY, CONFIG, TEXT(other),
                     "it is an entry: another site's, of an id that is there, or not as a site writes it"));
+    memset(longer, ' ', sizeof longer);
+    memcpy(longer, other, sizeof other - 1);
+    WANTED(is_fault(RBBANK_ENTRY, CONFIG, longer, sizeof longer,
+                    "column 1048577: the line has 1048577 bytes, and the limit is 1048576"));
     WANTED(is_fault(RBBANK_COMMAND, "{}", TEXT(DEPOSIT), "no configuration"));
     WANTED(is_fault(RBBANK_ENTRY + 1, CONFIG, TEXT(DEPOSIT), "no such kind of line"));
 }

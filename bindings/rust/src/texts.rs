@@ -45,8 +45,7 @@ pub struct LineFault {
     /// In words, which may change.
     pub why: String,
     /// Which character of the line it is about, from 1. None if there was no memory, or if nothing is wrong with the
-    /// line itself: an entry is another site's, is too long, has an id that is there, or isn't as a site
-    /// writes it.
+    /// line itself: an entry is another site's, has an id that is there, or isn't as a site writes it.
     pub column: Option<usize>,
 }
 

@@ -7,7 +7,7 @@ ghost use Rattle.rb_capi.specs.declared.why.TheConstants.{CONFIG, ENTRY};
 
 use crate::copy::copy_text;
 use rb_history::{BankName, LineFault, open_config, read_line};
-use rb_lines::{first_feed, text_on};
+use rb_lines::{LINE_LIMIT, first_feed, text_on};
 use rb_money::Config;
 use rb_reasons::{Expected, reason_at_site, reason_of};
 use std::alloc::Global;
@@ -28,10 +28,10 @@ pub const ENTRY: u8 = 3;
 pub const OF_ENTRY: &[u8] =
     b"it is an entry: another site's, of an id that is there, or not as a site writes it";
 
-/// Whether a line is an entry, of whichever site.
+/// Whether a line is an entry, of whichever site, and isn't too long for one.
 fn is_entry(alloc: Global, config: &Config, line: &[u8]) -> bool {
     match text_on(line) {
-        Some(text) => read_line(alloc, config, text).is_ok(),
+        Some(text) => line.len() <= LINE_LIMIT && read_line(alloc, config, text).is_ok(),
         None => false,
     }
 }
