@@ -1,22 +1,18 @@
 -- The replies of a site and the names that it holds fit a line, whatever its events.
-use Rattle.rb_history.proofs.Words.{Bool, true, false, cond, List, [], ◌∷◌, ◌++◌, refl, subst, inl, inr, map, IsConfigured, Settings}
-use Rattle.rb_history.proofs.Words.{HistoryFull, IsName, Among, Shadow, found, member_sound, names_of_all, ShadowMessage, TokenOnItsWay}
-use Rattle.rb_history.proofs.Words.{Refused, ModelSite, Outcome, Refuses, Drops, Answers, Shows, Makes, MakesAll, Holds, Applies, Takes}
-use Rattle.rb_history.proofs.Words.{Passes, after_events, first_site, is_full, outcome_of, reply_of, Each, IsReply, HeldNamesFitLines}
-use Rattle.rb_history.proofs.Words.{RepliesFitLines}
+use Rattle.rb_history.proofs.Words.{Each, IsReply, HeldNamesFitLines, RepliesFitLines, member_sound, IsConfigured, Settings, HistoryFull}
+use Rattle.rb_history.proofs.Words.{names_of_all, found, IsName, Among, Shadow, Answers, Applies, Drops, Holds, Makes, MakesAll, ModelSite}
+use Rattle.rb_history.proofs.Words.{Outcome, Passes, Refuses, Shows, Takes, after_events, first_site, is_full, reply_of, outcome_of}
+use Rattle.rb_history.proofs.Words.{ShadowMessage, TokenOnItsWay, Refused, List, [], cond, false, inl, inr, refl, subst, true, ◌++◌, ◌∷◌}
+use Rattle.rb_history.proofs.Words.{map}
 use Rattle.rb_shadow.proofs.Public.Members
 use Rattle.rb_inbox.specs.Held.{comes_before, with_held}
-use Rattle.rb_history.proofs.MadeFit.{facts_name}
+use Rattle.rb_history.proofs.StatementsFit.{facts_name, statement_fits}
 use Rattle.rb_history.proofs.SentFits.{AllFit, IsInOrder, Keeps, first_in_order, in_order, keeps, sound_name}
-use Rattle.rb_history.proofs.StatementsFit.{statement_fits}
 
 among_held : (v : Shadow) (us : List Shadow) → Among v (with_held v us)
 among_held v [] = inl refl
-among_held v (u ∷ us) = by (comes_before v.name u.name) (among_held v us)
-  where
-    by : (b : Bool) → Among v (with_held v us) → Among v (cond b (v ∷ u ∷ us) (u ∷ with_held v us))
-    by true h = inl refl
-    by false h = inr h
+among_held v (u ∷ us) = elim (comes_before v.name u.name) as (λ b. Among v (cond b (v ∷ u ∷ us) (u ∷ with_held v us)))
+    [ true ↦ inl refl | false ↦ inr (among_held v us) ]
 
 names_fit : (s : Settings) (vs : List Shadow) → AllFit s (map ShadowMessage vs) → Each IsName (names_of_all vs)
 names_fit s [] fit = tt
@@ -39,17 +35,13 @@ reply_fits s c t g (Passes m) k = (k.sends (TokenOnItsWay m) (inl refl)).0
 
 -- ---- the laws
 
-full_or : (b : Bool) (s : Settings) (t : ModelSite) (o : Outcome) → IsReply (reply_of s t.ops o)
-    → IsReply (cond b (Refused HistoryFull) (reply_of s t.ops o))
-full_or true s t o h = tt
-full_or false s t o h = h
-
 -- each reply of a site fits
 pub replies_fit : RepliesFitLines
 replies_fit s c me low es e =
     let t = after_events s (first_site me) es in
     let g = in_order s c es (first_site me) (first_in_order s c me low) in
-    full_or (is_full s t) s t (outcome_of s t e) (reply_fits s c t g (outcome_of s t e) (keeps s c t g e))
+    elim (is_full s t) as (λ b. IsReply (cond b (Refused HistoryFull) (reply_of s t.ops (outcome_of s t e))))
+    [ true ↦ tt | false ↦ reply_fits s c t g (outcome_of s t e) (keeps s c t g e) ]
 
 -- so does the name of what it holds
 pub held_fit : HeldNamesFitLines

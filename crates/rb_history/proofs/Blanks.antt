@@ -1,8 +1,7 @@
 -- Tokens are read alike, whatever follows them, and blanks between them aren't read.
-use Rattle.rb_history.proofs.Words.{◌≡◌, ◌<◌, ◌≤◌, ◌+◌, ◌^◌, ◌||◌, ◌==◌, ℕ, zero, suc, Bool, true, false, cond, List}
-use Rattle.rb_history.proofs.Words.{[], ◌∷◌, ◌++◌, length, take, drop, get_or, decimal, refl, sym, ap, ap₂, ◌∙◌}
-use Rattle.rb_history.proofs.Words.{append_assoc, append-nil, arith, subst, true≢false, eqb-true, or_right, take_more}
-use Rattle.rb_history.proofs.Words.{take-append-drop, take-add, tokens, escape, IsNumber-decimal}
+use Rattle.rb_history.proofs.Words.{IsNumber-decimal, tokens, escape, Bool, List, [], ap, append-nil, append_assoc, ap₂, arith, cond}
+use Rattle.rb_history.proofs.Words.{decimal, drop, false, get_or, length, refl, subst, suc, sym, take, take-append-drop, true, true≢false}
+use Rattle.rb_history.proofs.Words.{zero, ℕ, ◌++◌, ◌+◌, ◌<◌, ◌==◌, ◌^◌, ◌||◌, ◌∙◌, ◌∷◌, ◌≡◌, ◌≤◌, take-add, eqb-true, or_right, take_more}
 use Rattle.json.specs.Token.{number, string}
 use Rattle.json.specs.Text.{content, plain}
 use Rattle.json.specs.Word.{is_operator, is_space, ends_word}

@@ -1,14 +1,12 @@
 -- The refusals that the model gives fit a line.
-use Rattle.rb_history.proofs.Words.{◌≤◌, ◌+◌, ◌^◌, ℕ, Bool, true, false, cond, not, List, [], ◌∷◌, ◌++◌, length, Option}
-use Rattle.rb_history.proofs.Words.{Some, None, Result, Ok, Err, arith, ◌&&◌, IfErr, IfSome, is_some, nat_lt, and_then}
-use Rattle.rb_history.proofs.Words.{number_of_refusal, unless, IsConfigured, Settings, Limits, Refusal}
-use Rattle.rb_history.proofs.Words.{AlreadyCancelled, BatchRefused, Conflict, NeedToken, NotCancellable, NotReady}
-use Rattle.rb_history.proofs.Words.{NumbersExhausted, RedBehind, UnknownAccount, UnknownOperation, WouldOverdraw}
-use Rattle.rb_history.proofs.Words.{find_in, is_cancelled, is_red, may_be_cancelled, names, red_count, same_shadow}
-use Rattle.rb_history.proofs.Words.{target_of, fault_of, rules, CancelKind, Shadow, overdraws, refusal_of_sound}
-use Rattle.rb_history.proofs.Words.{IsValid, first_cancel_from, batch_of, cause_of, made_in_batch, Plan, allowed}
-use Rattle.rb_history.proofs.Words.{allowed_red, made_of, operation_of, plan_of, Request, Cancel, Token}
-use Rattle.rb_history.proofs.Words.{refusal_of_pass, refusal_of_red, refusal_of_token, TokenMessage, IsCause, IsRefusal}
+use Rattle.rb_history.proofs.Words.{IsCause, IsRefusal, overdraws, refusal_of_sound, IsValid, first_cancel_from, and_then}
+use Rattle.rb_history.proofs.Words.{number_of_refusal, unless, IsConfigured, Settings, Limits, Refusal, AlreadyCancelled, BatchRefused}
+use Rattle.rb_history.proofs.Words.{Conflict, NeedToken, NotCancellable, NotReady, NumbersExhausted, RedBehind, UnknownAccount}
+use Rattle.rb_history.proofs.Words.{UnknownOperation, WouldOverdraw, cause_of, made_in_batch, batch_of, Plan, allowed_red, allowed, made_of}
+use Rattle.rb_history.proofs.Words.{operation_of, plan_of, Request, Cancel, find_in, is_cancelled, is_red, may_be_cancelled, names}
+use Rattle.rb_history.proofs.Words.{red_count, same_shadow, target_of, fault_of, CancelKind, Shadow, Token, refusal_of_pass, refusal_of_red}
+use Rattle.rb_history.proofs.Words.{refusal_of_token, TokenMessage, Bool, Err, IfSome, List, None, Ok, Option, Result, Some, [], arith}
+use Rattle.rb_history.proofs.Words.{cond, false, length, not, rules, true, ℕ, ◌&&◌, ◌++◌, ◌+◌, ◌^◌, ◌∷◌, ◌≤◌, IfErr, is_some, nat_lt}
 use Rattle.rb_scratch.specs.declared.run_fault.RunFault.{RunFault}
 use Rattle.rb_scratch.specs.declared.run_fault.RunFault.TheVariants.{Declined as DeclinedFault, Refused as RefusedFault}
 use Rattle.rb_history.proofs.FitsLaws.{IsByte, IsWord}

@@ -1,11 +1,10 @@
 -- Each command that is read from a line is an event of a site's own that fits, or a delivery.
-use Rattle.rb_history.proofs.Words.{◌^◌, codes, Option, Some, None, ◌==◌, IfSome, is_utf8, Data, get, read, Settings}
-use Rattle.rb_history.proofs.Words.{At, Deliver, IsOwn, command_at, command_for, command_of, event_of, teller_event_of}
-use Rattle.rb_history.proofs.Words.{IsEvent, IsFittingCommand, ReadCommandsFit, number_below, size_of, rules}
+use Rattle.rb_history.proofs.Words.{command_at, command_for, command_of, event_of, teller_event_of, IsEvent, IsFittingCommand}
+use Rattle.rb_history.proofs.Words.{ReadCommandsFit, number_below, size_of, Settings, IsOwn, At, Deliver, Data, get, read, IfSome, None}
+use Rattle.rb_history.proofs.Words.{Option, Some, codes, rules, ◌==◌, ◌^◌, is_utf8}
 use Rattle.rb_history.specs.OnLines.{command_on}
 use Rattle.rb_history.proofs.EventsFit.{command as event_fits}
-use Rattle.rb_history.proofs.FitsLaws.{fits_either, fits_if, fits_made, fits_map, fits_next, fits_some}
-use Rattle.rb_history.proofs.PartsFit.{asked}
+use Rattle.rb_history.proofs.FitsLaws.{fits_either, fits_if, fits_made, fits_map, fits_next, fits_some, asked}
 
 -- ---- no command's event is the receipt of a message
 

@@ -1,13 +1,35 @@
--- The line of a configuration is read as the configuration.
-use Rattle.rb_history.proofs.Words.{◌≡◌, ◌<◌, ◌≤◌, ◌+◌, ◌^◌, ℕ, suc, List, [], ◌∷◌, ◌++◌, length, Some, None, true, false, refl, sym, ap}
-use Rattle.rb_history.proofs.Words.{◌∙◌, inl, inr, arith, ◌==◌, ◌&&◌, map, nat_le, nat_lt, bytes_eq, slice_get, option_and_then, le-leb}
-use Rattle.rb_history.proofs.Words.{or_parts, or_right, nat_tests, bytes_eq-Decides, read, items_of, compact_text, MOST_CENTS, Account}
-use Rattle.rb_history.proofs.Words.{account_fault, config_fault, is_among, IsConfigured, IsVersion, Settings, is_account_name, MOST_SITES}
-use Rattle.rb_history.proofs.Words.{MOST_SITES_OF_VERSION_1, MOST_ACCOUNTS, MOST_BLUE, MOST_RED, MOST_INBOX, MOST_HISTORY, MOST_EPOCH}
-use Rattle.rb_history.proofs.Words.{accounts_in, config_at, config_of, is_version, accounts_of, config_json, start_json, Each, below}
+-- The line of a configuration is read as the configuration, and what is read is one.
+use Rattle.rb_history.proofs.Words.{accounts_of, config_json, start_json, accounts_at, accounts_in, config_at, config_from, config_in}
+use Rattle.rb_history.proofs.Words.{config_of, has_known_keys, is_version, limits_of, version_at, Each, number_below, below, Account}
+use Rattle.rb_history.proofs.Words.{account_fault, config_fault, is_among, settings_of, IsConfigured, IsVersion, Settings, is_account_name}
+use Rattle.rb_history.proofs.Words.{MOST_CENTS, Limits, MOST_ACCOUNTS, MOST_BLUE, MOST_EPOCH, MOST_HISTORY, MOST_INBOX, MOST_RED}
+use Rattle.rb_history.proofs.Words.{MOST_SITES, MOST_SITES_OF_VERSION_1, Data, get, read, items_of, compact_text, IfSome, List, None}
+use Rattle.rb_history.proofs.Words.{Option, Some, [], ap, arith, bytes_eq, codes, drop, false, get_or, inl, inr, length, refl, rules, subst}
+use Rattle.rb_history.proofs.Words.{suc, sym, true, zero, ℕ, ◌&&◌, ◌++◌, ◌+◌, ◌<◌, ◌==◌, ◌^◌, ◌∙◌, ◌∷◌, ◌≡◌, ◌≤◌, and_parts, eqb-true}
+use Rattle.rb_history.proofs.Words.{le-leb, leb-true, or_parts, or_cases, or_right, nat_tests, length-map, bytes_eq-Decides, is_none, map}
+use Rattle.rb_history.proofs.Words.{nat_le, nat_lt, option_and_then, slice_get}
 use Rattle.rb_history.proofs.Reading.{compact_read}
 use Rattle.rb_history.proofs.EntryText.{list_text, number_text, pair_text, string_text}
 use Rattle.rb_history.proofs.KnownPlaces.{fails}
+use Rattle.rb_money.proofs.Public.Configured.{parts_configured}
+use Rattle.rb_history.specs.Laws.{ReadConfigsAreConfigured}
+use Rattle.rb_history.proofs.FitsLaws.{fits_if, fits_next}
+
+-- the accounts from a place on begin with the account there
+pub drop_accounts : (names : List (List ℕ)) (starts : List ℕ) (i : ℕ) → i < length names → i < length starts
+    → drop i (accounts_of names starts) ≡ (get_or names i [], get_or starts i 0) ∷ drop (suc i) (accounts_of names starts)
+drop_accounts [] starts i h k = absurd (omega arith)
+drop_accounts (name ∷ names) [] i h k = absurd (omega arith)
+drop_accounts (name ∷ names) (start ∷ starts) zero h k = refl
+drop_accounts (name ∷ names) (start ∷ starts) (suc i) h k = drop_accounts names starts i (omega arith) (omega arith)
+
+-- there are no more accounts than starting balances
+pub few_accounts : (names : List (List ℕ)) (starts : List ℕ) → length (accounts_of names starts) ≤ length starts
+few_accounts [] starts = omega arith
+few_accounts (name ∷ names) [] = omega arith
+few_accounts (name ∷ names) (start ∷ starts) = let h = few_accounts names starts in omega arith
+
+-- ---- the line of a configuration is read as the configuration
 
 -- names and starting balances, from the accounts that they make
 names_back : (names : List (List ℕ)) (starts : List ℕ) → length starts ≡ length names → map (λ a. a.0) (accounts_of names starts) ≡ names
@@ -23,9 +45,7 @@ starts_back (name ∷ names) (start ∷ starts) e = ap (λ l. start ∷ l) (star
 
 accounts_length : (names : List (List ℕ)) (starts : List ℕ) → length starts ≡ length names
     → length (accounts_of names starts) ≡ length names
-accounts_length [] starts e = refl
-accounts_length (name ∷ names) [] e = absurd (omega arith)
-accounts_length (name ∷ names) (start ∷ starts) e = ap suc (accounts_length names starts (omega arith))
+accounts_length names starts e = sym (length-map (accounts_of names starts) (λ (a : Account). a.0)) ∙ ap length (names_back names starts e)
 
 small_starts : (names : List (List ℕ)) (starts : List ℕ) → ((i n : ℕ) → slice_get starts i ≡ Some n → n ≤ MOST_CENTS)
     → Each (λ (a : Account). a.1 < 2 ^ 64) (accounts_of names starts)
@@ -60,11 +80,9 @@ no_account_fault before i (name ∷ names) [] e proper most fresh once = absurd 
 no_account_fault before i (name ∷ names) (start ∷ starts) e proper most fresh once =
     rw (proper 0 name refl, fresh 0 name refl, at_most start (most 0 start refl))
     (no_account_fault (before ++ name ∷ []) (i + 1) names starts (omega arith) (λ j. proper (suc j)) (λ j. most (suc j))
-    (λ j n there. among_more before name n (fresh (suc j) n there) (λ same. first_alone j (once 0 (suc j) n (ap Some (sym same)) there)))
+    (λ j n there. among_more before name n (fresh (suc j) n there) (λ same.
+    let f : 0 ≡ suc j = once 0 (suc j) n (ap Some (sym same)) there in omega arith))
     (λ j k n here there. let f = once (suc j) (suc k) n here there in omega arith))
-  where
-    first_alone : (j : ℕ) → 0 ≡ suc j → ⊥
-    first_alone j f = omega arith
 
 no_fault : (s : Settings) → IsConfigured s → config_fault s.sites (accounts_of s.names s.starts) s.limits ≡ None
 no_fault s c =
@@ -132,14 +150,14 @@ config_text s c =
     let few = c.few_sites in
     let accounts = list_text start_json (λ a. a.1 < 2 ^ 64) 1 (λ a small. pair_text _ _ 0 (string_text a.0) (number_text a.1 small))
     (accounts_of s.names s.starts) (small_starts s.names s.starts c.starts) in
-    let blue = number_text s.limits.blue (omega (arith, c.blue.1)) in
-    let epoch = number_text s.limits.epoch (omega (arith, c.epoch.1)) in
-    let history = number_text s.limits.history (omega (arith, c.history.1)) in
-    let inbox = number_text s.limits.inbox (omega (arith, c.inbox.1)) in
-    let red = number_text s.limits.red (omega (arith, c.red.1)) in
-    let sites = number_text s.sites (omega arith) in
+    let blue = number_text {most = 0} s.limits.blue (omega (arith, c.blue.1)) in
+    let epoch = number_text {most = 0} s.limits.epoch (omega (arith, c.epoch.1)) in
+    let history = number_text {most = 0} s.limits.history (omega (arith, c.history.1)) in
+    let inbox = number_text {most = 0} s.limits.inbox (omega (arith, c.inbox.1)) in
+    let red = number_text {most = 0} s.limits.red (omega (arith, c.red.1)) in
+    let sites = number_text {most = 0} s.sites (omega arith) in
     let small = small_version s.version s.sites c.version in
-    let version = number_text s.version (omega arith) in
+    let version = number_text {most = 0} s.version (omega arith) in
     let depth = accounts.shallow in
     let line = config_json s in
     compact_read line line (
@@ -151,3 +169,46 @@ config_text s c =
 -- the line of a configuration is read as it
 pub config_line : (s : Settings) → IsConfigured s → config_at (compact_text (config_json s)) ≡ Some s
 config_line s c = ap (option_and_then config_of) (config_text s c) ∙ config_back s c
+
+-- ---- a line that is read gives a configuration
+
+nothing : {A : Type 0} (o : Option A) → is_none o ≡ true → o ≡ None
+nothing None e = refl
+nothing (Some x) e = absurd (cc)
+
+-- a version that its sites may have
+may_be : (version sites : ℕ) → is_version version sites ≡ true → IsVersion version sites
+may_be version sites e = elim (or_cases ((version == 1) && nat_le sites MOST_SITES_OF_VERSION_1) (version == 2) e) [
+  | inl h ↦
+      let p = and_parts (version == 1) (nat_le sites MOST_SITES_OF_VERSION_1) h in
+      inl (eqb-true version 1 p.0, leb-true sites MOST_SITES_OF_VERSION_1 p.1)
+  | inr h ↦ inr (eqb-true version 2 h)
+]
+
+-- a configuration is one in each version that its sites may have
+in_version : (s : Settings) (version : ℕ) → IsConfigured s → IsVersion version s.sites → IsConfigured (record s { version = version })
+in_version s version c may = search rules
+
+of_parts : (version sites : ℕ) (limits : Limits) (accounts : List Account) → IfSome (config_from version sites limits accounts) IsConfigured
+of_parts version sites limits accounts =
+    let fault = config_fault sites accounts limits in
+    fits_if IsConfigured (is_version version sites && is_none fault) _ (λ e.
+    let p = and_parts (is_version version sites) (is_none fault) e in
+    in_version (settings_of sites accounts limits) version (parts_configured sites accounts limits (nothing fault p.1))
+    (may_be version sites p.0))
+
+of_values : (d : Data) → IfSome (config_in d) IsConfigured
+of_values d =
+    fits_next IsConfigured _ (version_at d) (λ version.
+    fits_next IsConfigured _ (option_and_then (number_below (2 ^ 8)) (get (codes "sites") d)) (λ sites.
+    fits_next IsConfigured _ (limits_of d) (λ limits.
+    fits_next IsConfigured (config_from version sites limits) (option_and_then accounts_at (get (codes "accounts") d))
+    (of_parts version sites limits))))
+
+of_line : (line : List ℕ) → IfSome (option_and_then config_of (read line)) IsConfigured
+of_line line = fits_next IsConfigured config_of (read line) (λ d. fits_if IsConfigured (has_known_keys d) (config_in d)
+    (λ known. of_values d))
+
+-- whatever line is read as settings, they are a configuration's
+pub read_configured : ReadConfigsAreConfigured
+read_configured line s e = subst (λ o. IfSome o IsConfigured) e (of_line line)

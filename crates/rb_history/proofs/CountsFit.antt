@@ -1,13 +1,12 @@
 -- The counts of all sites that are read, in either version of the format, fit.
-use Rattle.rb_history.proofs.Words.{◌≡◌, ◌<◌, ◌≤◌, ◌+◌, ◌-◌, ◌^◌, ℕ, List, ◌∷◌, ◌++◌, length, Bool, true, false, Option, Some, None, refl}
-use Rattle.rb_history.proofs.Words.{◌∙◌, arith, length-append, ◌==◌, ◌&&◌, IfSome, drop, if◌then◌else◌, nat_le, nat_lt, option_and_then}
-use Rattle.rb_history.proofs.Words.{option_map, replicate, and_parts, eqb-false, eqb-true, leb-true, ltb-true, length-replicate, Data}
-use Rattle.rb_history.proofs.Words.{Items, no_items, item, as_array, MOST_SITES, MOST_SITES_OF_VERSION_1, number_below, pair_of, blue_at}
-use Rattle.rb_history.proofs.Words.{counts_at, counts_in, numbered_at, numbered_in, widened, Each}
-use Rattle.rb_history.proofs.CountsBack.{each_replicate, widened_fits, widened_further, widened_length}
+use Rattle.rb_history.proofs.Words.{counts_at, counts_in, numbered_at, numbered_in, widened, blue_at, Each, number_below, pair_of}
+use Rattle.rb_history.proofs.Words.{MOST_SITES, MOST_SITES_OF_VERSION_1, Data, Items, item, no_items, as_array, Bool, IfSome, List, None}
+use Rattle.rb_history.proofs.Words.{Option, Some, arith, drop, false, length, length-append, refl, true, ℕ, ◌&&◌, ◌++◌, ◌+◌, ◌-◌, ◌<◌, ◌==◌}
+use Rattle.rb_history.proofs.Words.{◌^◌, ◌∙◌, ◌∷◌, ◌≡◌, ◌≤◌, and_parts, eqb-false, eqb-true, leb-true, ltb-true, length-replicate}
+use Rattle.rb_history.proofs.Words.{if◌then◌else◌, nat_le, nat_lt, option_and_then, option_map, replicate}
+use Rattle.rb_history.proofs.SiteCounts.{each_replicate, widened_fits, widened_further, widened_length}
 use Rattle.rb_history.proofs.Public.Each.{each_both}
-use Rattle.rb_history.proofs.FitsLaws.{IsWord, fits_cons, fits_if, fits_map, fits_next, fits_then}
-use Rattle.rb_history.proofs.PartsFit.{number}
+use Rattle.rb_history.proofs.FitsLaws.{IsWord, fits_cons, fits_if, fits_map, fits_next, fits_then, number}
 
 -- ---- version 1
 

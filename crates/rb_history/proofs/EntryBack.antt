@@ -1,12 +1,12 @@
 -- The text that is written for an event or a line's entry is read as it.
-use Rattle.rb_history.proofs.Words.{◌≡◌, ◌<◌, ◌^◌, ℕ, List, [], ◌∷◌, Some, inl, inr, refl, ap, map, option_map, items_of, IsConfigured}
-use Rattle.rb_history.proofs.Words.{Settings, Place, Request, Deposit, Withdraw, Interest, Cancel, Transfer, Kind, CancelKind, TransferKind}
-use Rattle.rb_history.proofs.Words.{OpName, Shadow, Event, Submit, Batch, Receive, Apply, Pass, Balance, AsOf, Statement, ShadowMessage}
-use Rattle.rb_history.proofs.Words.{TokenOnItsWay, asked_entry_json, asked_entry_of_object, entry_in, event_json, request_json, shadow_json}
-use Rattle.rb_history.proofs.Words.{Each, IsEvent, IsKind, IsReply, IsRequest, IsShadow, AskedEntry, IsAsked, event_at, kind_at, shadow_at}
-use Rattle.rb_history.proofs.Words.{request_alone, requests_in, below}
+use Rattle.rb_history.proofs.Words.{asked_entry_json, asked_entry_of_object, entry_in, event_json, request_json, shadow_json, Each, IsEvent}
+use Rattle.rb_history.proofs.Words.{IsKind, IsReply, IsRequest, IsShadow, AskedEntry, IsAsked, event_at, kind_at, shadow_at, request_alone}
+use Rattle.rb_history.proofs.Words.{requests_in, below, IsConfigured, Settings, Request, Cancel, Deposit, Interest, Transfer, Withdraw}
+use Rattle.rb_history.proofs.Words.{Kind, CancelKind, TransferKind, Shadow, Event, Apply, AsOf, Balance, Batch, Pass, Receive, Statement}
+use Rattle.rb_history.proofs.Words.{Submit, ShadowMessage, TokenOnItsWay, items_of, List, Some, [], ap, inl, inr, refl, ℕ, ◌<◌, ◌^◌, ◌∷◌}
+use Rattle.rb_history.proofs.Words.{◌≡◌, map, option_map}
 use Rattle.rb_history.proofs.Reading.{back}
-use Rattle.rb_history.proofs.CountsBack.{blue_back}
+use Rattle.rb_history.proofs.SiteCounts.{blue_back}
 use Rattle.rb_history.proofs.Public.IdText.{id_read}
 use Rattle.rb_history.proofs.KnownPlaces.{known_place}
 use Rattle.rb_history.proofs.ReplyBack.{reply_back}
@@ -27,35 +27,23 @@ requests_back : (s : Settings) → IsConfigured s → (rs : List Request) → Ea
 requests_back s c [] h = refl
 requests_back s c (r ∷ rs) h = rw (request_back s c r h.0, requests_back s c rs h.1) refl
 
-abbrev shadow_with : OpName → ℕ → List ℕ → ℕ → Place → ℕ → Kind → Shadow
-shadow_with name home blue red account amount kind =
-    record { name = name; home = home; deps = record { blue = blue; red = red }; account = account; amount = amount; kind = kind }
-
-kind_back : (s : Settings) → IsConfigured s
-    → (name : OpName) (home : ℕ) (blue : List ℕ) (red : ℕ) (account : Place) (amount : ℕ) (kind : Kind) → IsKind s kind
-    → kind_at s (shadow_json s (shadow_with name home blue red account amount kind)) ≡ Some kind
-kind_back s c name home blue red account amount (CancelKind x) h = rw (back x h) refl
-kind_back s c name home blue red account amount (TransferKind to) h = ap (λ p. Some (TransferKind p)) (known_place s to c h)
-kind_back s c name home blue red account amount _ h = refl
-
-shadow_by : (s : Settings) → IsConfigured s
-    → (name : OpName) (home : ℕ) (blue : List ℕ) (red : ℕ) (account : Place) (amount : ℕ) (kind : Kind)
-    → IsShadow s (shadow_with name home blue red account amount kind)
-    → shadow_at s (shadow_json s (shadow_with name home blue red account amount kind))
-    ≡ Some (shadow_with name home blue red account amount kind)
-shadow_by s c name home blue red account amount kind h =
-    rw (
-      below amount (2 ^ 64) h.amount,
-      blue_back s.version s.sites blue c.version h.sites h.blue h.further,
-      below red (2 ^ 32) h.red,
-      below home (2 ^ 8) h.home,
-      kind_back s c name home blue red account amount kind h.kind,
-      back name h.name,
-    )
-    (ap (λ p. Some (shadow_with name home blue red p amount kind)) (known_place s account c h.account))
+kind_back : (s : Settings) → IsConfigured s → (v : Shadow) (kind : Kind) → IsKind s kind
+    → kind_at s (shadow_json s (record v { kind = kind })) ≡ Some kind
+kind_back s c v (CancelKind x) h = rw (back x h) refl
+kind_back s c v (TransferKind to) h = ap (λ p. Some (TransferKind p)) (known_place s to c h)
+kind_back s c v _ h = refl
 
 shadow_back : (s : Settings) → IsConfigured s → (v : Shadow) → IsShadow s v → shadow_at s (shadow_json s v) ≡ Some v
-shadow_back s c v h = shadow_by s c v.name v.home v.deps.blue v.deps.red v.account v.amount v.kind h
+shadow_back s c v h =
+    rw (
+      below v.amount (2 ^ 64) h.amount,
+      blue_back s.version s.sites v.deps.blue c.version h.sites h.blue h.further,
+      below v.deps.red (2 ^ 32) h.red,
+      below v.home (2 ^ 8) h.home,
+      kind_back s c v v.kind h.kind,
+      back v.name h.name,
+    )
+    (ap (λ p. Some (record v { account = p })) (known_place s v.account c h.account))
 
 submit_back : (s : Settings) (r : Request) → request_alone s (request_json s r) ≡ Some r → event_at s (request_json s r) ≡ Some (Submit r)
 submit_back s (Deposit a amount) e = ap (option_map Submit) e
@@ -77,12 +65,11 @@ event_back s c (Statement a) known = ap (λ p. Some (Statement p)) (known_place 
 -- the members of an entry are read as it, with an id or without
 members_back : (s : Settings) → IsConfigured s → (site : ℕ) (x : AskedEntry) → site < s.sites
     → IsEvent s x.entry.event → IsReply x.entry.reply → entry_in s (asked_entry_json s site x) ≡ Some (site, x.entry)
-members_back s c site x h e r = at x.id
-  where
-    at : (id : List ℕ)
-        → entry_in s (asked_entry_json s site (record { id = id; entry = x.entry })) ≡ Some (site, x.entry)
-    at [] = rw (below site s.sites h, event_back s c x.entry.event e, reply_back x.entry.reply r) refl
-    at (b ∷ bs) = rw (below site s.sites h, event_back s c x.entry.event e, reply_back x.entry.reply r) refl
+members_back s c site x h e r = elim x.id as (λ id.
+    entry_in s (asked_entry_json s site (record { id = id; entry = x.entry })) ≡ Some (site, x.entry)) [
+      | [] ↦ rw (below site s.sites h, event_back s c x.entry.event e, reply_back x.entry.reply r) refl
+      | b ∷ bs ↦ rw (below site s.sites h, event_back s c x.entry.event e, reply_back x.entry.reply r) refl
+    ]
 
 -- the object of an entry with its id, or none, is read as them
 pub entry_back : (s : Settings) → IsConfigured s → (site : ℕ) (x : AskedEntry) → site < s.sites

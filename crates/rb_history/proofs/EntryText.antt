@@ -1,21 +1,21 @@
 -- The text of an entry is read as the entry's JSON object.
-use Rattle.rb_history.proofs.Words.{◌≡◌, ◌<◌, ◌≤◌, ◌^◌, ℕ, suc, ℤ, pos, negsuc, List, [], ◌∷◌, length, take, Some, Bool, true, false, refl}
-use Rattle.rb_history.proofs.Words.{arith, lit<, ◌==◌, map, if◌then◌else◌, HasNumbers, ItemsHaveNumbers, IsNumber-decimal}
-use Rattle.rb_history.proofs.Words.{IsNumber-signed_decimal, Data, string, of_items, of_json, read, items_of, compact_text, items_outline}
-use Rattle.rb_history.proofs.Words.{outline, number_of-decimal, number_of-negative, Settings, MOST_SITES, MOST_SITES_OF_VERSION_1, Place}
-use Rattle.rb_history.proofs.Words.{CauseDeclined, CauseRefused, Refusal, OutOfMemory, AlreadyCancelled, RedBehind, BatchRefused}
-use Rattle.rb_history.proofs.Words.{BadMessage, number_of_refusal, Request, Deposit, Withdraw, Interest, Cancel, Transfer, IsName, Kind}
-use Rattle.rb_history.proofs.Words.{CancelKind, TransferKind, Shadow, Event, Submit, Batch, Receive, Apply, Pass, Balance, AsOf, Statement}
-use Rattle.rb_history.proofs.Words.{ShadowMessage, TokenOnItsWay, Reply, Made, Names, Held, Already, Taken, Stale, Applied, Passed}
-use Rattle.rb_history.proofs.Words.{BalanceIs, StatementIs, Refused, Row, blue_json, numbered_from, numbered_json, asked_entry_json}
-use Rattle.rb_history.proofs.Words.{asked_json, deps_json, event_json, request_json, shadow_json, Each, IsCause, IsEvent, IsMoved}
-use Rattle.rb_history.proofs.Words.{IsRefusal, IsReply, IsRequest, IsStatementRow, IsShadow, AskedEntry, cause_json, refusal_json}
-use Rattle.rb_history.proofs.Words.{reply_json, row_json, integer_json, list_json, name_json, number_json, one_json, pair_json, three_json}
+use Rattle.rb_history.proofs.Words.{IsNumber-decimal, IsNumber-signed_decimal, HasNumbers, ItemsHaveNumbers, numbered_from, numbered_json}
+use Rattle.rb_history.proofs.Words.{blue_json, asked_entry_json, asked_json, deps_json, event_json, request_json, shadow_json, Each}
+use Rattle.rb_history.proofs.Words.{IsCause, IsEvent, IsMoved, IsRefusal, IsReply, IsRequest, IsShadow, IsStatementRow, AskedEntry}
+use Rattle.rb_history.proofs.Words.{cause_json, refusal_json, reply_json, row_json, integer_json, list_json, name_json, number_json}
+use Rattle.rb_history.proofs.Words.{one_json, pair_json, three_json, number_of_refusal, Settings, MOST_SITES, MOST_SITES_OF_VERSION_1}
+use Rattle.rb_history.proofs.Words.{Place, CauseDeclined, CauseRefused, Refusal, AlreadyCancelled, BadMessage, BatchRefused, OutOfMemory}
+use Rattle.rb_history.proofs.Words.{RedBehind, Request, Cancel, Deposit, Interest, Transfer, Withdraw, IsName, Kind, CancelKind}
+use Rattle.rb_history.proofs.Words.{TransferKind, Shadow, Event, Apply, AsOf, Balance, Batch, Pass, Receive, Statement, Submit}
+use Rattle.rb_history.proofs.Words.{ShadowMessage, TokenOnItsWay, Reply, Already, Applied, BalanceIs, Held, Made, Names, Passed, Refused}
+use Rattle.rb_history.proofs.Words.{Stale, StatementIs, Taken, Row, number_of-decimal, number_of-negative, Data, member, no_members, object}
+use Rattle.rb_history.proofs.Words.{put, string, of_items, of_json, read, items_of, compact_text, items_outline, outline, List, Some, []}
+use Rattle.rb_history.proofs.Words.{ap, arith, false, length, lit<, negsuc, pos, refl, suc, take, true, ℕ, ℤ, ◌<◌, ◌==◌, ◌^◌, ◌∷◌, ◌≡◌, ◌≤◌}
+use Rattle.rb_history.proofs.Words.{if◌then◌else◌, map}
 use Rattle.json.specs.Tree as tree
 use Rattle.rb_money.specs.declared.refusal.Cause.{Cause}
 use Rattle.rb_history.proofs.Reading.{compact_read}
-use Rattle.rb_history.proofs.CountsBack.{each_take}
-use Rattle.rb_history.proofs.Numbered.{numbered_fit}
+use Rattle.rb_history.proofs.SiteCounts.{each_take, numbered_fit}
 
 -- a value that is read from its own text, and nests at most so deep
 pub record IsText (d : Data) (most : ℕ) : Type 0 where
@@ -32,14 +32,14 @@ record AreTexts (ds : List Data) (most : ℕ) : Type 0 where
 -- ---- values by their shapes
 
 -- a string
-pub string_text : (text : List ℕ) → IsText (string text) 0
+pub string_text : {most : ℕ} (text : List ℕ) → IsText (string text) most
 string_text text = record { numbers = tt; shallow = omega arith; same = refl }
 
 -- a number of 64 bits
-pub number_text : (n : ℕ) → n < 2 ^ 64 → IsText (number_json n) 0
+pub number_text : {most : ℕ} (n : ℕ) → n < 2 ^ 64 → IsText (number_json n) most
 number_text n h = record { numbers = IsNumber-decimal n h; shallow = omega arith; same = rw (number_of-decimal n h) refl }
 
-integer_text : (z : ℤ) → IsMoved z → IsText (integer_json z) 0
+integer_text : {most : ℕ} (z : ℤ) → IsMoved z → IsText (integer_json z) most
 integer_text (pos n) h = number_text n (omega arith)
 integer_text (negsuc n) h =
     record { numbers = IsNumber-signed_decimal (negsuc n) h; shallow = omega arith; same = rw (number_of-negative n h) refl }
@@ -71,54 +71,65 @@ pair_text a b most x y =
     record { numbers = (x.numbers, (y.numbers, tt)); shallow = omega (arith, x.shallow, y.shallow); same = rw (x.same, y.same) refl }
 
 three_text : (a b c : Data) (most : ℕ) → IsText a most → IsText b most → IsText c most → IsText (three_json a b c) (suc most)
-three_text a b c most x y z =
-    let d = x.shallow in
-    let e = y.shallow in
-    let f = z.shallow in
-    record { numbers = (x.numbers, (y.numbers, (z.numbers, tt))); shallow = omega arith; same = rw (x.same, y.same, z.same) refl }
+three_text a b c most x y z = record {
+  numbers = (x.numbers, (y.numbers, (z.numbers, tt)));
+  shallow = omega (arith, x.shallow, y.shallow, z.shallow);
+  same = rw (x.same, y.same, z.same) refl;
+}
 
-deeper : (d : Data) (few most : ℕ) → IsText d few → few ≤ most → IsText d most
-deeper d few most t h = record { numbers = t.numbers; shallow = omega (arith, t.shallow); same = t.same }
+-- an object of two members, in the order of their keys
+pub two_text : (k l : List ℕ) (a b : Data) (most : ℕ) → put l b (member k a no_members) ≡ member k a (member l b no_members)
+    → IsText a most → IsText b most → IsText (object (member k a (member l b no_members))) (suc most)
+two_text k l a b most e x y = record {
+  numbers = (x.numbers, (y.numbers, tt));
+  shallow = omega (arith, x.shallow, y.shallow);
+  same = rw (x.same, y.same) (ap (λ ms. Some (object ms)) e);
+}
+
+-- an object of three
+three_members : (k l j : List ℕ) (a b c : Data) (most : ℕ)
+    → put j c (put l b (member k a no_members)) ≡ member k a (member l b (member j c no_members)) → IsText a most → IsText b most
+    → IsText c most → IsText (object (member k a (member l b (member j c no_members)))) (suc most)
+three_members k l j a b c most e x y z = record {
+  numbers = (x.numbers, (y.numbers, (z.numbers, tt)));
+  shallow = omega (arith, x.shallow, y.shallow, z.shallow);
+  same = rw (x.same, y.same, z.same) (ap (λ ms. Some (object ms)) e);
+}
+
+-- a value that isn't too deep is read from its text
+pub text_read : (d : Data) → IsText d 5 → read (compact_text d) ≡ Some d
+text_read d t = compact_read d d t.numbers (omega (arith, t.shallow)) t.same
 
 -- ---- events
 
-asked_text : (s : Settings) (a : Place) (n : ℕ) → n < 2 ^ 64 → IsText (asked_json s a n) 1
-asked_text s a n h = pair_text _ (number_json n) 0 (string_text _) (number_text n h)
+asked_text : (s : Settings) (most : ℕ) (a : Place) (n : ℕ) → n < 2 ^ 64 → IsText (asked_json s a n) (suc most)
+asked_text s most a n h = pair_text _ (number_json n) most (string_text _) (number_text n h)
 
-request_text : (s : Settings) (r : Request) → IsRequest s r → IsText (request_json s r) 2
-request_text s (Deposit a amount) (known, fits) = one_text _ _ 1 (asked_text s a amount fits)
-request_text s (Withdraw a amount) (known, fits) = one_text _ _ 1 (asked_text s a amount fits)
-request_text s (Interest a rate) (known, fits) = one_text _ _ 1 (asked_text s a rate (omega arith))
-request_text s (Cancel x) h = deeper (request_json s (Cancel x)) 1 2 (one_text _ (name_json x) 0 (string_text _)) (omega arith)
-request_text s (Transfer from to amount) (leaves, arrives, fits) = one_text _ _ 1
-    (three_text _ _ (number_json amount) 0 (string_text _) (string_text _) (number_text amount fits))
+request_text : (s : Settings) (most : ℕ) (r : Request) → IsRequest s r → IsText (request_json s r) (suc (suc most))
+request_text s most (Deposit a amount) (known, fits) = one_text _ _ (suc most) (asked_text s most a amount fits)
+request_text s most (Withdraw a amount) (known, fits) = one_text _ _ (suc most) (asked_text s most a amount fits)
+request_text s most (Interest a rate) (known, fits) = one_text _ _ (suc most) (asked_text s most a rate (omega arith))
+request_text s most (Cancel x) h = one_text _ (name_json x) (suc most) (string_text _)
+request_text s most (Transfer from to amount) (leaves, arrives, fits) = one_text _ _ (suc most)
+    (three_text _ _ (number_json amount) most (string_text _) (string_text _) (number_text amount fits))
 
 blue_text : (version : ℕ) (blue : List ℕ) → length blue ≡ MOST_SITES → Each (λ n. n < 2 ^ 32) blue → IsText (blue_json version blue) 2
 unfolding blue_json
-blue_text version blue long h = at (version == 1)
-  where
-    at : (b : Bool) → IsText (if b then list_json number_json (take MOST_SITES_OF_VERSION_1 blue)
-        else list_json numbered_json (numbered_from 0 blue)) 2
-    at true = deeper (list_json number_json (take MOST_SITES_OF_VERSION_1 blue)) 1 2
-        (list_text number_json (λ n. n < 2 ^ 32) 0 (λ n small. number_text n (omega arith)) (take MOST_SITES_OF_VERSION_1 blue)
-        (each_take (λ n. n < 2 ^ 32) MOST_SITES_OF_VERSION_1 blue h)) (omega arith)
-    at false = list_text numbered_json (λ (p : ℕ × ℕ). (p.0 < 2 ^ 64) × (p.1 < 2 ^ 64)) 1
-        (λ p fits. pair_text (number_json p.0) (number_json p.1) 0 (number_text p.0 fits.0) (number_text p.1 fits.1))
-        (numbered_from 0 blue) (numbered_fit 0 blue (omega arith) h)
-
-deps_text : (version : ℕ) (blue : List ℕ) (red : ℕ) → length blue ≡ MOST_SITES → Each (λ n. n < 2 ^ 32) blue → red < 2 ^ 32
-    → IsText (deps_json version (record { blue = blue; red = red })) 3
-deps_text version blue red long h k = pair_text (blue_json version blue) (number_json red) 2 (blue_text version blue long h)
-    (deeper (number_json red) 0 2 (number_text red (omega arith)) (omega arith))
-
-abbrev with_kind : Shadow → Kind → Shadow
-with_kind v kind = record { name = v.name; home = v.home; deps = v.deps; account = v.account; amount = v.amount; kind = kind }
+blue_text version blue long h = elim (version == 1) as (λ b. IsText (if b then list_json number_json (take MOST_SITES_OF_VERSION_1 blue)
+    else list_json numbered_json (numbered_from 0 blue)) 2) [
+      | true ↦ list_text number_json (λ n. n < 2 ^ 32) 1 (λ n small. number_text n (omega arith)) (take MOST_SITES_OF_VERSION_1 blue)
+          (each_take (λ n. n < 2 ^ 32) MOST_SITES_OF_VERSION_1 blue h)
+      | false ↦ list_text numbered_json (λ (p : ℕ × ℕ). (p.0 < 2 ^ 64) × (p.1 < 2 ^ 64)) 1
+          (λ p fits. pair_text (number_json p.0) (number_json p.1) 0 (number_text p.0 fits.0) (number_text p.1 fits.1))
+          (numbered_from 0 blue) (numbered_fit 0 blue (omega arith) h)
+    ]
 
 shadow_text : (s : Settings) (v : Shadow) → IsShadow s v → IsText (shadow_json s v) 4
 shadow_text s v h = of_kind v.kind
   where
     deps : IsText (deps_json s.version v.deps) 3
-    deps = deps_text s.version v.deps.blue v.deps.red h.sites h.blue h.red
+    deps = pair_text (blue_json s.version v.deps.blue) (number_json v.deps.red) 2 (blue_text s.version v.deps.blue h.sites h.blue)
+        (let small = h.red in number_text v.deps.red (omega arith))
 
     amount : IsText (number_json v.amount) 0
     amount = number_text v.amount h.amount
@@ -126,7 +137,7 @@ shadow_text s v h = of_kind v.kind
     home : IsText (number_json v.home) 0
     home = let small = h.home in number_text v.home (omega arith)
 
-    of_kind : (kind : Kind) → IsText (shadow_json s (with_kind v kind)) 4
+    of_kind : (kind : Kind) → IsText (shadow_json s (record v { kind = kind })) 4
     of_kind (CancelKind x) = record {
       numbers = (tt, (amount.numbers, (deps.numbers, (home.numbers, (tt, (tt, (tt, tt)))))));
       shallow = omega (arith, deps.shallow);
@@ -145,87 +156,62 @@ shadow_text s v h = of_kind v.kind
 
 -- the text of an event is read as its JSON object
 pub event_text : (s : Settings) (e : Event) → IsEvent s e → IsText (event_json s e) 5
-event_text s (Submit r) h = deeper (request_json s r) 2 5 (request_text s r h) (omega arith)
-event_text s (Batch rs) h = deeper (event_json s (Batch rs)) 4 5
-    (one_text _ _ 3 (list_text (request_json s) (IsRequest s) 2 (request_text s) rs h)) (omega arith)
+event_text s (Submit r) h = request_text s 3 r h
+event_text s (Batch rs) h = one_text _ _ 4 (list_text (request_json s) (IsRequest s) 3 (request_text s 1) rs h)
 event_text s (Receive (ShadowMessage v)) h = one_text _ _ 4 (shadow_text s v h)
 event_text s (Receive (TokenOnItsWay m)) (epoch, to, red) =
-    let written = three_text (number_json m.epoch) (number_json m.to) (number_json m.red) 0 (number_text m.epoch (omega arith))
-    (number_text m.to (omega arith)) (number_text m.red (omega arith)) in
-    deeper (event_json s (Receive (TokenOnItsWay m))) 2 5 (one_text _ _ 1 written) (omega arith)
-event_text s (Apply x) h = deeper (event_json s (Apply x)) 1 5 (one_text _ (name_json x) 0 (string_text _)) (omega arith)
-event_text s (Pass to) h = deeper (event_json s (Pass to)) 1 5 (one_text _ (number_json to) 0 (number_text to (omega arith))) (omega arith)
-event_text s (Balance a) h = deeper (event_json s (Balance a)) 1 5 (one_text _ _ 0 (string_text _)) (omega arith)
-event_text s (AsOf a n) (known, fits) = deeper (event_json s (AsOf a n)) 2 5 (one_text _ _ 1 (asked_text s a n (omega arith))) (omega arith)
-event_text s (Statement a) h = deeper (event_json s (Statement a)) 1 5 (one_text _ _ 0 (string_text _)) (omega arith)
+    one_text _ _ 4 (three_text (number_json m.epoch) (number_json m.to) (number_json m.red) 3 (number_text m.epoch (omega arith))
+    (number_text m.to (omega arith)) (number_text m.red (omega arith)))
+event_text s (Apply x) h = one_text _ (name_json x) 4 (string_text _)
+event_text s (Pass to) h = one_text _ (number_json to) 4 (number_text to (omega arith))
+event_text s (Balance a) h = one_text _ _ 4 (string_text _)
+event_text s (AsOf a n) (known, fits) = one_text _ _ 4 (asked_text s 3 a n (omega arith))
+event_text s (Statement a) h = one_text _ _ 4 (string_text _)
 
 -- ---- replies
 
-row_text : (r : Row) → IsStatementRow r → IsText (row_json r) 1
+row_text : (r : Row) → IsStatementRow r → IsText (row_json r) 2
 row_text r (position, name, moved, balance) =
-    let a = number_text r.position (omega arith) in
-    let b = integer_text r.moved moved in
-    let c = number_text r.balance balance in
+    let a = number_text {most = 0} r.position (omega arith) in
+    let b = integer_text {most = 0} r.moved moved in
+    let c = number_text {most = 0} r.balance balance in
     record {
       numbers = (a.numbers, (tt, (tt, (b.numbers, (tt, (c.numbers, tt))))));
       shallow = omega (arith, b.shallow);
       same = rw (a.same, b.same, c.same) refl;
     }
 
-number_written : (key : List ℕ) (n : ℕ) → n < 2 ^ 64 → IsText (one_json key (number_json n)) 4
-number_written key n h = deeper (one_json key (number_json n)) 1 4 (one_text key (number_json n) 0 (number_text n h)) (omega arith)
-
-string_written : (key text : List ℕ) → IsText (one_json key (string text)) 4
-string_written key text = deeper (one_json key (string text)) 1 4 (one_text key (string text) 0 (string_text text)) (omega arith)
-
 small_number : (r : Refusal) → number_of_refusal r < 2 ^ 64
 small_number OutOfMemory = lit< tt
 small_number _ = lit< tt
 
-cause_text : (c : Cause) → IsCause c → IsText (cause_json c) 0
+cause_text : (c : Cause) → IsCause c → IsText (cause_json c) 3
 cause_text CauseDeclined h = string_text _
 cause_text (CauseRefused n) h = number_text n (omega arith)
 
 refusal_text : (r : Refusal) → IsRefusal r → IsText (refusal_json r) 4
 refusal_text OutOfMemory h = absurd h
-refusal_text (AlreadyCancelled position) h =
-    let a = number_text position (omega arith) in
-    let b = number_text 6 (lit< tt) in
-    record { numbers = (a.numbers, (b.numbers, tt)); shallow = omega arith; same = rw (a.same, b.same) refl }
+refusal_text (AlreadyCancelled position) h = two_text _ _ _ _ 3 refl (number_text position (omega arith)) (number_text 6 (lit< tt))
 refusal_text (RedBehind seen needed) (h, k) =
-    let a = number_text needed (omega arith) in
-    let b = number_text 9 (lit< tt) in
-    let c = number_text seen (omega arith) in
-    record { numbers = (a.numbers, (b.numbers, (c.numbers, tt))); shallow = omega arith; same = rw (a.same, b.same, c.same) refl }
+    three_members _ _ _ _ _ _ 3 refl (number_text needed (omega arith)) (number_text 9 (lit< tt)) (number_text seen (omega arith))
 refusal_text (BatchRefused index cause) (h, k) =
-    let a = cause_text cause k in
-    let b = number_text index (omega arith) in
-    let c = number_text 13 (lit< tt) in
-    let depth = a.shallow in
-    record { numbers = (a.numbers, (b.numbers, (c.numbers, tt))); shallow = omega arith; same = rw (a.same, b.same, c.same) refl }
-refusal_text (BadMessage why) h =
-    let a = number_text why (omega arith) in
-    let b = number_text 17 (lit< tt) in
-    record { numbers = (b.numbers, (a.numbers, tt)); shallow = omega arith; same = rw (b.same, a.same) refl }
-refusal_text r h = number_written _ (number_of_refusal r) (small_number r)
+    three_members _ _ _ _ _ _ 3 refl (cause_text cause k) (number_text index (omega arith)) (number_text 13 (lit< tt))
+refusal_text (BadMessage why) h = two_text _ _ _ _ 3 refl (number_text 17 (lit< tt)) (number_text why (omega arith))
+refusal_text r h = one_text _ _ 3 (number_text (number_of_refusal r) (small_number r))
 
 reply_text : (r : Reply) → IsReply r → IsText (reply_json r) 4
-reply_text (Made x kind) h = record { numbers = (tt, (tt, tt)); shallow = omega arith; same = refl }
-reply_text (Names xs) h = deeper (reply_json (Names xs)) 2 4 (one_text _ _ 1 (list_text name_json IsName 0 (λ x k. string_text _) xs h))
-    (omega arith)
-reply_text (Held x) h = string_written _ _
-reply_text (Already x) h = string_written _ _
-reply_text (Taken n) h = number_written _ n (omega arith)
-reply_text (Stale n) h = number_written _ n (omega arith)
-reply_text (Applied x) h = string_written _ _
-reply_text (Passed n) h = number_written _ n (omega arith)
-reply_text (BalanceIs n) h = number_written _ n h
+reply_text (Made x kind) h = two_text _ _ _ _ 3 refl (string_text _) (string_text _)
+reply_text (Names xs) h = one_text _ _ 3 (list_text name_json IsName 2 (λ x k. string_text _) xs h)
+reply_text (Held x) h = one_text _ _ 3 (string_text _)
+reply_text (Already x) h = one_text _ _ 3 (string_text _)
+reply_text (Taken n) h = one_text _ _ 3 (number_text n (omega arith))
+reply_text (Stale n) h = one_text _ _ 3 (number_text n (omega arith))
+reply_text (Applied x) h = one_text _ _ 3 (string_text _)
+reply_text (Passed n) h = one_text _ _ 3 (number_text n (omega arith))
+reply_text (BalanceIs n) h = one_text _ _ 3 (number_text n h)
 reply_text (StatementIs t) (start, rows, balance) =
-    let a = number_text t.balance balance in
-    let b = list_text row_json IsStatementRow 1 row_text t.rows rows in
-    let c = number_text t.start start in
-    let depth = b.shallow in
-    record { numbers = (a.numbers, (b.numbers, (c.numbers, tt))); shallow = omega arith; same = rw (a.same, b.same, c.same) refl }
+    three_members _ _ _ _ _ _ 3 refl (number_text t.balance balance) (list_text row_json IsStatementRow 2 row_text t.rows rows)
+    (number_text t.start start)
 reply_text (Refused why) h = refusal_text why h
 
 -- ---- the line

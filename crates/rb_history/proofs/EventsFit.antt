@@ -1,10 +1,10 @@
 -- A request that is read, or an event that commands have too, fits a line.
-use Rattle.rb_history.proofs.Words.{◌^◌, codes, ◌==◌, IfSome, Data, Items, no_items, item, as_array, get, Settings, Deposit, Withdraw}
-use Rattle.rb_history.proofs.Words.{Interest, Cancel, Transfer, IsName, Submit, Batch, Apply, Pass, Balance, AsOf, Statement}
-use Rattle.rb_history.proofs.Words.{teller_event_of, event_of, place_at, request_alone, request_of, requests_at, requests_in, transfer_at}
-use Rattle.rb_history.proofs.Words.{name_at, number_below, size_of, three_of, Each, IsEvent, IsKnown, IsRequest}
-use Rattle.rb_history.proofs.FitsLaws.{IsByte, IsLong, fits_cons, fits_either, fits_if, fits_map, fits_next, fits_then}
-use Rattle.rb_history.proofs.PartsFit.{asked, name, number, place}
+use Rattle.rb_history.proofs.Words.{event_of, teller_event_of, Each, IsEvent, IsKnown, IsRequest, place_at, request_alone, request_of}
+use Rattle.rb_history.proofs.Words.{requests_at, requests_in, transfer_at, name_at, number_below, size_of, three_of, Settings, Cancel}
+use Rattle.rb_history.proofs.Words.{Deposit, Interest, Transfer, Withdraw, IsName, Apply, AsOf, Balance, Batch, Pass, Statement, Submit}
+use Rattle.rb_history.proofs.Words.{Data, Items, item, no_items, as_array, get, IfSome, codes, ◌==◌, ◌^◌}
+use Rattle.rb_history.proofs.FitsLaws.{IsByte, IsLong, fits_cons, fits_either, fits_if, fits_map, fits_next, fits_then, asked, name, number}
+use Rattle.rb_history.proofs.FitsLaws.{place}
 
 transfer : (s : Settings) (d : Data) → IfSome (transfer_at s d) (IsRequest s)
 transfer s d =

@@ -1,8 +1,9 @@
--- Bytes that are written in a string as they are.
-use Rattle.rb_history.proofs.Words.{◌≡◌, ◌<◌, ◌≤◌, ◌^◌, ℕ, suc, List, [], ◌∷◌, ◌++◌, length, get_or, decimal, codes, refl, sym, true, ◌∙◌}
-use Rattle.rb_history.proofs.Words.{Bool, append_assoc, arith, ⊤, ◌&&◌, nat_le, list_all, and_parts, nat_tests, digits_decimal}
-use Rattle.rb_history.proofs.Words.{escape_byte_plain, escape, escape_byte, quoted, is_account_name, is_name_byte, name_text, IsName}
-use Rattle.rb_history.proofs.Words.{OpName, Blue, Red, word_of, Label}
+-- Bytes that are written in a string as they are, and parts of a text.
+use Rattle.rb_history.proofs.Words.{escape_byte_plain, escape, quoted, escape_byte, BeginsWithMember, IsBetween, behind_quote, word_of}
+use Rattle.rb_history.proofs.Words.{one_json, is_account_name, is_name_byte, IsName, name_text, Label, OpName, Blue, Red, Data, of_integer}
+use Rattle.rb_history.proofs.Words.{compact_text, number_text, Bool, List, [], ap, append_assoc, arith, codes, decimal, get_or, length}
+use Rattle.rb_history.proofs.Words.{negsuc, pos, refl, suc, sym, true, ℕ, ℤ, ◌&&◌, ◌++◌, ◌<◌, ◌^◌, ◌∙◌, ◌∷◌, ◌≡◌, ◌≤◌, and_parts, nat_tests}
+use Rattle.rb_history.proofs.Words.{digits_decimal, signed_decimal, digits, list_all, nat_le, ⊤}
 use Rattle.std.proofs.lemmas.Str.Parse.{digit_at}
 use Rattle.rb_money.specs.declared.accounts.TheConstants.{LONGEST_NAME}
 use Rattle.rb_shadow.specs.declared.label.Label.TheVariants.{Deposit}
@@ -83,3 +84,46 @@ plain_all p each (b ∷ bs) h = let q = and_parts (p b) (list_all p bs) h in (ea
 pub account_plain : (name : List ℕ) → is_account_name name ≡ true → escape name ≡ name
 account_plain name h = escape_plain name (plain_all is_name_byte byte_plain name (and_parts (nat_le 1 (length name) && nat_le (length name)
     LONGEST_NAME) _ h).1)
+
+-- ---- numbers in digits, among them those that refusals hold
+
+-- an integer as JSON is written with its sign if it is negative
+pub integer_text : (z : ℤ) → number_text (of_integer z) ≡ signed_decimal z
+integer_text (pos n) = refl
+integer_text (negsuc n) = refl
+
+-- the numbers of a second cancellation, a red operation that is behind, a batch refused and a bad message in digits
+pub numerals : (decimal 6 ≡ codes "6") × (decimal 9 ≡ codes "9") × (decimal 13 ≡ codes "13") × (decimal 17 ≡ codes "17")
+unfolding digits
+numerals = (refl, refl, refl, refl)
+
+-- ---- parts that are read one after another are the text that is written
+
+-- a text between two others, each read after the one before it
+pub between : (text front behind middle more back rest : List ℕ) → text ≡ front ++ behind → behind ≡ middle ++ more → more ≡ back ++ rest
+    → IsBetween middle text front back rest
+between text front behind middle more back rest e f g = rw (e, f, g) (simp append_assoc)
+
+-- a part behind another
+pub two_written : (text a front b back more rest : List ℕ) → text ≡ (front ++ (a ++ back)) ++ more → more ≡ b ++ rest
+    → text ≡ (front ++ (a ++ (back ++ b))) ++ rest
+two_written text a front b back more rest e f = rw (e, f) (simp append_assoc)
+
+-- a string with no escape
+pub string_written : (name text rest : List ℕ) → escape name ≡ name → text ≡ name ++ (codes "\"" ++ rest) → text ≡ behind_quote name ++ rest
+string_written name text rest plain e = e ∙ sym (append_assoc name (codes "\"") rest) ∙ ap (λ l. (l ++ codes "\"") ++ rest) (sym plain)
+
+-- an operation's name
+pub name_written : (x : OpName) (text rest : List ℕ) → IsName x → text ≡ name_text x ++ (codes "\"" ++ rest)
+    → text ≡ behind_quote (name_text x) ++ rest
+name_written x text rest h e = string_written (name_text x) text rest (escape_plain (name_text x) (plain_name x h)) e
+
+-- a kind's word
+pub label_written : (k : Label) (text mid rest : List ℕ) → text ≡ word_of k ++ mid → mid ≡ codes "\"" ++ rest
+    → text ≡ behind_quote (word_of k) ++ rest
+label_written k text mid rest is e = string_written (word_of k) text rest (label_plain k) (is ∙ ap (λ l. word_of k ++ l) e)
+
+-- an object's one member, read behind its first quote
+pub member_of : {text rest : List ℕ} (key : List ℕ) (value : Data)
+    → text ≡ behind_quote key ++ (codes ":" ++ (compact_text value ++ rest)) → BeginsWithMember (one_json key value) text rest
+member_of key value e = record { key = key; value = value; object = refl; written = e }

@@ -1,14 +1,14 @@
 -- A shadow, a token or any event that is read fits a line.
-use Rattle.rb_history.proofs.Words.{◌^◌, ℕ, Some, codes, ◌==◌, IfSome, option_map, Data, get, Settings, IsName, DepositKind, WithdrawKind}
-use Rattle.rb_history.proofs.Words.{DeclinedKind, InterestKind, CancelKind, TransferKind, Label, Declined, Receive, TokenOnItsWay, place_at}
-use Rattle.rb_history.proofs.Words.{name_at, number_below, pair_of, size_of, three_of, blue_at, field, label_at, IsEvent, IsKind, IsKnown}
-use Rattle.rb_history.proofs.Words.{IsShadow, deps_at, event_at, kind_at, kind_of, recorded_of, shadow_at, token_at}
+use Rattle.rb_history.proofs.Words.{blue_at, field, label_at, IsEvent, IsKind, IsKnown, IsShadow, deps_at, event_at, kind_at, kind_of}
+use Rattle.rb_history.proofs.Words.{recorded_of, shadow_at, token_at, place_at, name_at, number_below, pair_of, size_of, three_of, Settings}
+use Rattle.rb_history.proofs.Words.{IsName, CancelKind, DeclinedKind, DepositKind, InterestKind, TransferKind, WithdrawKind, Label}
+use Rattle.rb_history.proofs.Words.{Declined, Receive, TokenOnItsWay, Data, get, IfSome, Some, codes, rules, ℕ, ◌==◌, ◌^◌, option_map}
 use Rattle.rb_shadow.specs.declared.deps.Deps.{Deps}
 use Rattle.rb_shadow.specs.declared.label.Label.TheVariants.{Deposit, Withdraw, Interest, Cancel, Transfer}
 use Rattle.rb_history.proofs.CountsFit.{AreBlue, blue}
 use Rattle.rb_history.proofs.EventsFit.{command}
-use Rattle.rb_history.proofs.FitsLaws.{IsByte, IsLong, IsWord, fits_either, fits_field, fits_if, fits_map, fits_next, fits_then}
-use Rattle.rb_history.proofs.PartsFit.{byte_at, long_at, name, number, place}
+use Rattle.rb_history.proofs.FitsLaws.{IsByte, IsLong, IsWord, fits_either, fits_field, fits_if, fits_map, fits_next, fits_then, number_at}
+use Rattle.rb_history.proofs.FitsLaws.{name, number, place}
 
 abbrev AreDeps : ℕ → Deps → Type 0
 AreDeps version c = AreBlue version c.blue × IsWord c.red
@@ -37,26 +37,12 @@ kind s d = fits_next (IsKind s) (kind_of s d) (field (codes "kind") label_at d) 
 shadow : (s : Settings) (d : Data) → IfSome (shadow_at s d) (IsShadow s)
 shadow s d =
     let Q = IsShadow s in
-    let account_there = fits_field (IsKnown s) (codes "account") (place_at s) d (place s) in
-    let deps_there = fits_field (AreDeps s.version) (codes "deps") (deps_at s.version) d (deps s.version) in
-    let name_there = fits_field IsName (codes "name") name_at d name in
-    fits_then (IsKnown s) Q _ (field (codes "account") (place_at s) d) account_there (λ account a.
-    fits_then IsLong Q _ (field (codes "amount") (number_below (2 ^ 64)) d) (long_at (codes "amount") d) (λ amount b.
-    fits_then (AreDeps s.version) Q _ (field (codes "deps") (deps_at s.version) d) deps_there (λ c e.
-    fits_then IsByte Q _ (field (codes "home") (number_below (2 ^ 8)) d) (byte_at (codes "home") d) (λ home f.
-    fits_then (IsKind s) Q _ (kind_at s d) (kind s d) (λ k g.
-    fits_map IsName Q _ (field (codes "name") name_at d) name_there (λ x h.
-    record {
-      name = h;
-      home = f;
-      sites = e.0.sites;
-      blue = e.0.fit;
-      further = e.0.further;
-      red = e.1;
-      account = a;
-      amount = b;
-      kind = g;
-    }))))))
+    fits_then (IsKnown s) Q _ _ (fits_field (IsKnown s) (codes "account") (place_at s) d (place s)) (λ account a.
+    fits_then IsLong Q _ _ (number_at (2 ^ 64) (codes "amount") d) (λ amount b.
+    fits_then (AreDeps s.version) Q _ _ (fits_field (AreDeps s.version) (codes "deps") (deps_at s.version) d (deps s.version)) (λ c e.
+    fits_then IsByte Q _ _ (number_at (2 ^ 8) (codes "home") d) (λ home f.
+    fits_then (IsKind s) Q _ _ (kind s d) (λ k g.
+    fits_map IsName Q _ _ (fits_field IsName (codes "name") name_at d name) (λ x h. search rules))))))
 
 token : (s : Settings) (d : Data) → IfSome (option_map (λ sent. Receive (TokenOnItsWay sent)) (token_at d)) (IsEvent s)
 token s d =

@@ -1,15 +1,42 @@
--- A reply that is read fits a line.
-use Rattle.rb_history.proofs.Words.{◌^◌, codes, ◌==◌, IfSome, nat_lt, option_and_then, ltb-true, Data, Num, unsigned, negative, float}
-use Rattle.rb_history.proofs.Words.{Items, no_items, item, as_array, as_bool, as_i64, as_number, get, IsName, Made, Names, Held, Already}
-use Rattle.rb_history.proofs.Words.{Taken, Stale, Applied, Passed, Refused, name_at, number_below, size_of, field, label_at, six_in, six_of}
-use Rattle.rb_history.proofs.Words.{Each, IsMoved, IsRefusal, IsReply, IsStatementRow, answer_of, made_parsed, moved_parsed, names_at}
-use Rattle.rb_history.proofs.Words.{names_in, refusal_parsed, reply_parsed, row_at, rows_at, rows_in, short_of, simple_of, statement_parsed}
+-- A refusal or a reply that is read fits a line.
+use Rattle.rb_history.proofs.Words.{field, label_at, six_in, six_of, Each, IsCause, IsMoved, IsRefusal, IsReply, IsStatementRow, answer_of}
+use Rattle.rb_history.proofs.Words.{cause_at, find_refusal, is_word_declined, made_parsed, moved_parsed, names_at, names_in, plain_refusals}
+use Rattle.rb_history.proofs.Words.{refusal_parsed, reply_parsed, row_at, rows_at, rows_in, short_of, simple_of, statement_parsed, name_at}
+use Rattle.rb_history.proofs.Words.{number_below, size_of, number_of_refusal, CauseDeclined, CauseRefused, Refusal, AlreadyCancelled}
+use Rattle.rb_history.proofs.Words.{BadMessage, BatchRefused, RedBehind, IsName, Already, Applied, Held, Made, Names, Passed, Refused}
+use Rattle.rb_history.proofs.Words.{Stale, Taken, Data, Items, Num, float, item, negative, no_items, unsigned, as_array, as_bool, as_i64}
+use Rattle.rb_history.proofs.Words.{as_number, get, IfSome, List, Some, [], codes, ℕ, ◌==◌, ◌^◌, ◌∷◌, ltb-true, nat_lt, option_and_then}
+use Rattle.rb_history.proofs.FitsLaws.{IsByte, IsWord, fits_choice, fits_field, fits_if, fits_map, fits_then, number_at, number, IsLong}
+use Rattle.rb_history.proofs.FitsLaws.{fits_cons, fits_either, fits_made, fits_next, name}
 use Rattle.rb_site.specs.declared.reply.Reply.TheVariants.{Balance}
-use Rattle.rb_history.proofs.FitsLaws.{IsLong, IsWord, fits_choice, fits_cons, fits_either, fits_field, fits_if, fits_made, fits_map}
-use Rattle.rb_history.proofs.FitsLaws.{fits_next, fits_then}
 use Rattle.rb_history.proofs.NumbersFit.{Fits, FitItems, FitsNumber, fits_array, fits_get, fits_signed}
-use Rattle.rb_history.proofs.PartsFit.{long_at, name, number}
-use Rattle.rb_history.proofs.RefusalsFit.{refusal}
+
+cause : (d : Data) → IfSome (cause_at d) IsCause
+cause d = fits_choice IsCause (is_word_declined d) (Some CauseDeclined) _ tt
+    (fits_map IsByte IsCause CauseRefused (number_below (2 ^ 8) d) (number (2 ^ 8) d) (λ n h. h))
+
+find : (n : ℕ) (rs : List Refusal) → Each IsRefusal rs → IfSome (find_refusal n rs) IsRefusal
+find n [] h = tt
+find n (r ∷ rs) h = fits_choice IsRefusal (number_of_refusal r == n) (Some r) (find_refusal n rs) h.0 (find n rs h.1)
+
+plain_fit : Each IsRefusal plain_refusals
+plain_fit = (tt, (tt, (tt, (tt, (tt, (tt, (tt, (tt, (tt, (tt, (tt, (tt, (tt, (tt, (tt, (tt, (tt, (tt, (tt, (tt, tt))))))))))))))))))))
+
+-- the refusal of a number
+pub refusal : (d : Data) (n : ℕ) → IfSome (refusal_parsed d n) IsRefusal
+refusal d n =
+    let Q = IsRefusal in
+    fits_choice Q (n == 6) _ _ (fits_if Q (size_of d == 2) _ (λ e.
+    fits_map IsWord Q AlreadyCancelled _ (number_at (2 ^ 32) (codes "position") d) (λ n h. h)))
+    (fits_choice Q (n == 9) _ _ (fits_if Q (size_of d == 3) _ (λ e.
+    fits_then IsWord Q _ _ (number_at (2 ^ 32) (codes "seen") d) (λ seen h.
+    fits_map IsWord Q (RedBehind seen) _ (number_at (2 ^ 32) (codes "needed") d) (λ needed k. (h, k)))))
+    (fits_choice Q (n == 13) _ _ (fits_if Q (size_of d == 3) _ (λ e.
+    fits_then IsByte Q _ _ (number_at (2 ^ 8) (codes "index") d) (λ index h.
+    fits_map IsCause Q (BatchRefused index) _ (fits_field IsCause (codes "cause") cause_at d cause) (λ c k. (h, k)))))
+    (fits_choice Q (n == 17) _ _ (fits_if Q (size_of d == 2) _ (λ e.
+    fits_map IsByte Q BadMessage _ (number_at (2 ^ 8) (codes "why") d) (λ n h. h)))
+    (fits_if Q (size_of d == 1) (find_refusal n plain_refusals) (λ e. find n plain_refusals plain_fit)))))
 
 -- ---- statements
 
@@ -45,8 +72,8 @@ statement : (d : Data) → Fits d → IfSome (statement_parsed d) IsReply
 statement d f =
     let listed = λ (v : Data) (g : Fits v). fits_then FitItems (Each IsStatementRow) rows_in (as_array v) (fits_array v g) rows in
     let all = fits_then Fits (Each IsStatementRow) rows_at (get (codes "rows") d) (fits_get (codes "rows") d f) listed in
-    fits_then IsLong IsReply _ (field (codes "start") (number_below (2 ^ 64)) d) (long_at (codes "start") d) (λ start a.
-    fits_then IsLong IsReply _ (field (codes "balance") (number_below (2 ^ 64)) d) (long_at (codes "balance") d) (λ balance b.
+    fits_then IsLong IsReply _ (field (codes "start") (number_below (2 ^ 64)) d) (number_at (2 ^ 64) (codes "start") d) (λ start a.
+    fits_then IsLong IsReply _ (field (codes "balance") (number_below (2 ^ 64)) d) (number_at (2 ^ 64) (codes "balance") d) (λ balance b.
     fits_map (Each IsStatementRow) IsReply _ (field (codes "rows") rows_at d) all (λ rs c. (a, c, b))))
 
 -- ---- other replies
@@ -64,7 +91,7 @@ simple d =
     (fits_either Q (get (codes "stale") d) _ _ (λ v. fits_map IsWord Q Stale (number_below (2 ^ 32) v) (number (2 ^ 32) v) (λ n h. h))
     (fits_either Q (get (codes "applied") d) _ _ (λ v. fits_map IsName Q Applied (name_at v) (name v) (λ x h. h))
     (fits_either Q (get (codes "passed") d) _ _ (λ v. fits_map IsWord Q Passed (number_below (2 ^ 32) v) (number (2 ^ 32) v) (λ n h. h))
-    (fits_map IsLong Q Balance (field (codes "balance") (number_below (2 ^ 64)) d) (long_at (codes "balance") d) (λ n h. h)))))))
+    (fits_map IsLong Q Balance (field (codes "balance") (number_below (2 ^ 64)) d) (number_at (2 ^ 64) (codes "balance") d) (λ n h. h)))))))
 
 short : (d : Data) → IfSome (short_of d) IsReply
 short d =

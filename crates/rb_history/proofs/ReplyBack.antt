@@ -1,9 +1,9 @@
 -- The text that is written for a reply is read as the reply.
-use Rattle.rb_history.proofs.Words.{◌≡◌, ◌^◌, ℕ, ℤ, pos, negsuc, List, [], ◌∷◌, Some, Bool, refl, map, items_of, CauseDeclined}
-use Rattle.rb_history.proofs.Words.{CauseRefused, Refusal, OutOfMemory, AlreadyCancelled, RedBehind, BatchRefused, BadMessage, IsName}
-use Rattle.rb_history.proofs.Words.{Label, OpName, Reply, Made, Names, Held, Already, Taken, Stale, Applied, Passed, Refused, Row, Each}
-use Rattle.rb_history.proofs.Words.{IsMoved, IsRefusal, IsReply, IsStatementRow, refusal_json, reply_json, moved_parsed, names_in}
-use Rattle.rb_history.proofs.Words.{reply_parsed, row_at, rows_in, row_json, label_of_word, word_of, integer_json, name_json, below}
+use Rattle.rb_history.proofs.Words.{Each, IsMoved, IsRefusal, IsReply, IsStatementRow, label_of_word, word_of, refusal_json, reply_json}
+use Rattle.rb_history.proofs.Words.{moved_parsed, names_in, reply_parsed, row_at, rows_in, row_json, integer_json, name_json, below}
+use Rattle.rb_history.proofs.Words.{CauseDeclined, CauseRefused, Refusal, AlreadyCancelled, BadMessage, BatchRefused, OutOfMemory}
+use Rattle.rb_history.proofs.Words.{RedBehind, IsName, Label, OpName, Reply, Already, Applied, Held, Made, Names, Passed, Refused, Stale}
+use Rattle.rb_history.proofs.Words.{Taken, Row, items_of, List, Some, [], negsuc, pos, refl, ℤ, ◌^◌, ◌∷◌, ◌≡◌, map}
 use Rattle.rb_shadow.specs.declared.label.Label.TheVariants.{Deposit}
 use Rattle.rb_site.specs.declared.reply.Reply.TheVariants.{Balance, Statement}
 use Rattle.rb_history.proofs.Reading.{back}
@@ -20,19 +20,18 @@ moved_back : (z : ℤ) → IsMoved z → moved_parsed (integer_json z) ≡ Some 
 moved_back (pos n) h = rw (below n (2 ^ 63) h) refl
 moved_back (negsuc n) h = refl
 
-abbrev row_with : ℕ → OpName → Label → ℤ → Bool → ℕ → Row
-row_with position name kind moved cancelled balance = record
-    { position = position; name = name; kind = kind; moved = moved; cancelled = cancelled; balance = balance }
-
-row_by : (position : ℕ) (name : OpName) (kind : Label) (moved : ℤ) (cancelled : Bool) (balance : ℕ)
-    → IsStatementRow (row_with position name kind moved cancelled balance)
-    → row_at (row_json (row_with position name kind moved cancelled balance)) ≡ Some (row_with position name kind moved cancelled balance)
-row_by position name kind moved cancelled balance
-    (a, b, d, e) = rw (below position (2 ^ 32) a, back name b, label_back kind, moved_back moved d, below balance (2 ^ 64) e) refl
+row_back : (r : Row) → IsStatementRow r → row_at (row_json r) ≡ Some r
+row_back r (a, b, d, e) = rw (
+  below r.position (2 ^ 32) a,
+  back r.name b,
+  label_back r.kind,
+  moved_back r.moved d,
+  below r.balance (2 ^ 64) e,
+) refl
 
 rows_back : (rs : List Row) → Each IsStatementRow rs → rows_in (items_of (map row_json rs)) ≡ Some rs
 rows_back [] h = refl
-rows_back (r ∷ rs) h = rw (row_by r.position r.name r.kind r.moved r.cancelled r.balance h.0, rows_back rs h.1) refl
+rows_back (r ∷ rs) h = rw (row_back r h.0, rows_back rs h.1) refl
 
 refusal_back : (r : Refusal) → IsRefusal r → reply_parsed (refusal_json r) ≡ Some (Refused r)
 refusal_back OutOfMemory h = absurd h

@@ -1,8 +1,8 @@
 -- The finds of a scan of a line's bytes.
-use Rattle.rb_history.proofs.Words.{◌≡◌, ◌<◌, ◌≤◌, ◌+◌, ◌-◌, ◌*◌, ◌/◌, ◌%◌, ◌^◌, decimal, ℕ, List, [], ◌∷◌, ◌++◌, length, take, get_or, sym}
-use Rattle.rb_history.proofs.Words.{ap, ◌∙◌, arith, drop, subst, take-add, to_le_bytes, w32, w64, IsUtf8, IsCharBoundary}
-use Rattle.rb_history.proofs.Words.{IsCharBoundary-from_take, IsCharBoundary-after_ascii, take_more, decimal_digit, decimal_step, escape}
-use Rattle.rb_history.proofs.Words.{escape_byte, escape_byte_plain}
+use Rattle.rb_history.proofs.Words.{escape_byte_plain, escape, escape_byte, IsUtf8, List, [], ap, arith, decimal, drop, get_or, length}
+use Rattle.rb_history.proofs.Words.{subst, sym, take, ℕ, ◌%◌, ◌*◌, ◌++◌, ◌+◌, ◌-◌, ◌/◌, ◌<◌, ◌^◌, ◌∙◌, ◌∷◌, ◌≡◌, ◌≤◌, take-add}
+use Rattle.rb_history.proofs.Words.{decimal_digit, decimal_step, take_more, IsCharBoundary-after_ascii, IsCharBoundary-from_take}
+use Rattle.rb_history.proofs.Words.{IsCharBoundary}
 use Rattle.std.proofs.lemmas.List.Concat.{flat_map-append}
 
 -- a byte more of two texts that begin alike
@@ -10,19 +10,12 @@ pub same_more : (text front : List ℕ) (i : ℕ) → i < length text → i < le
     take i text ≡ take i front → take (i + 1) text ≡ take (i + 1) front
 same_more text front i h k here e = take_more text i 0 h ∙ (λ j. e j ++ (here j ∷ [])) ∙ sym (take_more front i 0 k)
 
--- eight bytes more of two texts that begin alike
-pub same_eight_more : (text front : List ℕ) (i x y : ℕ) → to_le_bytes w64 x ≡ take 8 (drop i text) →
-    to_le_bytes w64 y ≡ take 8 (drop i front) → x ≡ y → take i text ≡ take i front → take (i + 8) text ≡ take (i + 8) front
-same_eight_more text front i x y here there same e =
-    let alike = sym here ∙ ap (to_le_bytes w64) same ∙ there in
-    take-add i 8 text ∙ (λ j. e j ++ alike j) ∙ sym (take-add i 8 front)
-
--- four bytes more of two texts that begin alike
-pub same_four_more : (text front : List ℕ) (i x y : ℕ) → to_le_bytes w32 x ≡ take 4 (drop i text) →
-    to_le_bytes w32 y ≡ take 4 (drop i front) → x ≡ y → take i text ≡ take i front → take (i + 4) text ≡ take (i + 4) front
-same_four_more text front i x y here there same e =
-    let alike = sym here ∙ ap (to_le_bytes w32) same ∙ there in
-    take-add i 4 text ∙ (λ j. e j ++ alike j) ∙ sym (take-add i 4 front)
+-- some bytes more of two texts that begin alike
+pub same_many_more : (text front : List ℕ) (i many : ℕ) (bytes : ℕ → List ℕ) (x y : ℕ) → bytes x ≡ take many (drop i text)
+    → bytes y ≡ take many (drop i front) → x ≡ y → take i text ≡ take i front → take (i + many) text ≡ take (i + many) front
+same_many_more text front i many bytes x y here there same e =
+    let alike = sym here ∙ ap bytes same ∙ there in
+    take-add i many text ∙ (λ j. e j ++ alike j) ∙ sym (take-add i many front)
 
 -- a plain byte more
 pub one_more : (text : List ℕ) (i : ℕ) → i < length text → escape (take i text) ≡ take i text → (get_or text i 0 ≡ 34 → ⊥) →

@@ -1,17 +1,16 @@
 -- The messages of a site fit a line, whatever its events.
-use Rattle.rb_history.proofs.Words.{◌≡◌, ◌<◌, ◌≤◌, ◌+◌, ℕ, Bool, true, false, cond, not, ◌&&◌, ◌||◌, List, [], ◌∷◌, ◌++◌, length, Option}
-use Rattle.rb_history.proofs.Words.{Some, None, Result, Ok, Err, refl, sym, ap, subst, ◌∙◌, inl, inr, arith, append-nil, append_assoc, ◌==◌}
-use Rattle.rb_history.proofs.Words.{◌⊎◌, filter, map, nat_le, nat_lt, and_parts, nat_tests, and_then, unless, IsConfigured, Settings}
-use Rattle.rb_history.proofs.Words.{is_account, Refusal, BadBatch, BadMessage, Conflict, InboxFull, NotHeld, NotReady, Among, clock_of}
-use Rattle.rb_history.proofs.Words.{find_in, is_eligible, red_count, same_shadow, IsSound, are_entries, fault_of, Shadow, found}
-use Rattle.rb_history.proofs.Words.{refusal_of_sound, IsValid, IsValid-none, IsValid-push, taken_rightly, clock_is_clock, batch_of, Plan}
-use Rattle.rb_history.proofs.Words.{made_of, operation_of, Request, Token, is_stale, pass_message, refusal_of_pass, refusal_of_token}
-use Rattle.rb_history.proofs.Words.{TokenMessage, Event, Submit, Batch, Receive, Apply, Pass, Balance, AsOf, AskStatement, Message}
-use Rattle.rb_history.proofs.Words.{ShadowMessage, TokenOnItsWay, Reply, Already, Stale, ModelSite, Outcome, Refuses, Answers, Makes}
-use Rattle.rb_history.proofs.Words.{MakesAll, Holds, Takes, Passes, after_event, changed, after_events, first_site, is_full, outcome_of}
-use Rattle.rb_history.proofs.Words.{outcome_of_check, sent_at, sent_by, unless_known, IsEvent, IsShadow, ◌^◌, IfErr, IfSome, take}
-use Rattle.rb_history.proofs.Words.{take-append-drop, drop, PositionBeyond, UnknownAccount, IsName, sound_facts, IsValid-front, Drops}
-use Rattle.rb_history.proofs.Words.{IsRefusal, IsReply}
+use Rattle.rb_history.proofs.Words.{IsEvent, IsRefusal, IsReply, IsShadow, IsValid-front, IsValid-none, IsValid-push, taken_rightly}
+use Rattle.rb_history.proofs.Words.{clock_is_clock, refusal_of_sound, IsValid, and_then, unless, IsConfigured, Settings, is_account}
+use Rattle.rb_history.proofs.Words.{Refusal, BadBatch, BadMessage, Conflict, InboxFull, NotHeld, NotReady, PositionBeyond, UnknownAccount}
+use Rattle.rb_history.proofs.Words.{batch_of, made_of, operation_of, found, sound_facts, IsName, Among, find_in, is_eligible, red_count}
+use Rattle.rb_history.proofs.Words.{same_shadow, clock_of, IsSound, are_entries, fault_of, Shadow, Answers, Drops, Holds, Makes, MakesAll}
+use Rattle.rb_history.proofs.Words.{ModelSite, Outcome, Passes, Refuses, Takes, after_event, after_events, changed, first_site, is_full}
+use Rattle.rb_history.proofs.Words.{outcome_of_check, sent_at, sent_by, unless_known, outcome_of, Event, Apply, AsOf, Balance, Batch, Pass}
+use Rattle.rb_history.proofs.Words.{Receive, AskStatement, Submit, Message, ShadowMessage, TokenOnItsWay, Reply, Already, Stale, Token}
+use Rattle.rb_history.proofs.Words.{is_stale, pass_message, refusal_of_pass, refusal_of_token, TokenMessage, Bool, Err, IfSome, List, None}
+use Rattle.rb_history.proofs.Words.{Ok, Option, Result, Some, [], ap, append-nil, append_assoc, arith, cond, drop, false, inl, inr, length}
+use Rattle.rb_history.proofs.Words.{not, refl, rules, subst, sym, take, take-append-drop, true, ℕ, ◌&&◌, ◌++◌, ◌+◌, ◌<◌, ◌==◌, ◌^◌, ◌||◌}
+use Rattle.rb_history.proofs.Words.{◌∷◌, ◌≡◌, ◌≤◌, and_parts, not-false, nat_tests, IfErr, filter, map, nat_le, nat_lt}
 use Rattle.rb_shadow.proofs.Public.Members.{or-false}
 use Rattle.rb_inbox.proofs.Public.{held_cases, kept_among}
 use Rattle.rb_scratch.specs.declared.request.TheConstants.{MOST_REQUESTS}
@@ -21,8 +20,7 @@ use Rattle.rb_site.specs.Histories.{IsAmong, sends_of}
 use Rattle.rb_site.proofs.Public.Stuck.{among-cases}
 use Rattle.rb_history.proofs.CausesFit.{batch_fits, check_fits, fault_fits, pass_fits, request_fits, token_fits}
 use Rattle.rb_history.proofs.FitsLaws.{IsWord}
-use Rattle.rb_history.proofs.MadeFit.{facts_name, made_fits, passed}
-use Rattle.rb_history.proofs.StatementsFit.{balance_fits}
+use Rattle.rb_history.proofs.StatementsFit.{facts_name, made_fits, balance_fits}
 
 -- what holds of a site, whatever its events: its list is valid, what it holds is sound, and the token is within the
 -- limits
@@ -76,22 +74,15 @@ if_none s t refused None next g r h = h refl
 if_unknown : (s : Settings) (t : ModelSite) (v : Shadow) (o : Option Shadow) (next : Outcome) → IsInOrder s t → IsName v.name
     → Keeps s t next → Keeps s t (unless_known v o next)
 if_unknown s t v None next g name h = h
-if_unknown s t v (Some u) next g name h = by (same_shadow u v)
-  where
-    by : (b : Bool) → Keeps s t (cond b (Answers (Already v.name)) (Refuses Conflict))
-    by true = answers s t (Already v.name) g name
-    by false = refuses s t Conflict g tt
+if_unknown s t v (Some u) next g name h =
+    elim (same_shadow u v) as (λ b. Keeps s t (cond b (Answers (Already v.name)) (Refuses Conflict)))
+    [ true ↦ answers s t (Already v.name) g name | false ↦ refuses s t Conflict g tt ]
 
 holds : (s : Settings) (t : ModelSite) (v : Shadow) → IsInOrder s t → IsSound s v → Keeps s t (Holds v)
-holds s t v g sound = record {
-  order = record { me = g.me; valid = g.valid; held = λ u h. by u (held_cases v t.held u h); needed = g.needed };
-  sends = none_fit s;
-  says = tt;
-}
-  where
-    by : (u : Shadow) → (u ≡ v) ⊎ Among u t.held → IsSound s u
-    by u (inl same) = subst (IsSound s) (sym same) sound
-    by u (inr there) = g.held u there
+holds s t v g sound =
+    let held : (u : Shadow) → Among u (changed t (Holds v)).held → IsSound s u = λ u h.
+    elim (held_cases v t.held u h) [ inl same ↦ subst (IsSound s) (sym same) sound | inr there ↦ g.held u there ] in
+    record { order = record { me = g.me; valid = g.valid; held = held; needed = g.needed }; sends = none_fit s; says = tt }
 
 fewer_held : (s : Settings) (t : ModelSite) (p : Shadow → Bool) → IsInOrder s t → (v : Shadow) → Among v (filter p t.held) → IsSound s v
 fewer_held s t p g v h = g.held v (kept_among p t.held v h)
@@ -121,10 +112,6 @@ applies s t g (Some v) sound =
 
 -- ---- what is made
 
-deps_of : (me : ℕ) (us : List Shadow) (p : Plan) → (operation_of me us p).deps ≡ clock_of us
-unfolding operation_of
-deps_of me us p = refl
-
 -- a list with what is made after it is valid, and what is made fits
 record Grows (s : Settings) (us vs : List Shadow) : Type 0 where
   valid : IsValid s (us ++ vs)
@@ -132,25 +119,20 @@ record Grows (s : Settings) (us vs : List Shadow) : Type 0 where
 
 one_grows : (s : Settings) → IsConfigured s → (me : ℕ) (us : List Shadow) (token : Token) (v : Shadow) → me < s.sites → IsValid s us
     → IsMadeAt s me us token v → IsValid s (us ++ v ∷ []) × IsShadow s v
+unfolding operation_of
 one_grows s c me us token v low valid made =
     let may = made_follows s me us token v c.few_sites low valid made in
-    let clock : v.deps ≡ clock_of us = ap (λ (u : Shadow). u.deps) made.is ∙ deps_of me us made.plan in
-    (IsValid-push s us v valid may, made_fits s c us v valid may clock)
+    (IsValid-push s us v valid may, made_fits s c us v valid may (ap (λ (u : Shadow). u.deps) made.is))
 
 all_grow : (s : Settings) → IsConfigured s → (me : ℕ) (us : List Shadow) (token : Token) (vs : List Shadow) → me < s.sites → IsValid s us
     → AreMadeAt s me us token vs → Grows s us vs
 all_grow s c me us token [] low valid made = record { valid = subst (IsValid s) (sym (append-nil us)) valid; fit = λ v h. absurd h }
 all_grow s c me us token (v ∷ vs) low valid made =
     let one = one_grows s c me us token v low valid made.0 in
-    let later = all_grow s c me (us ++ v ∷ []) token vs low one.0 made.1 in
-    record {
+    let later = all_grow s c me (us ++ v ∷ []) token vs low one.0 made.1 in record {
       valid = subst (IsValid s) (append_assoc us (v ∷ []) vs) later.valid;
-      fit = λ u h. by u h one.1 later.fit;
+      fit = λ u h. elim h [ inl same ↦ subst (IsShadow s) (sym same) one.1 | inr there ↦ later.fit u there ];
     }
-  where
-    by : (u : Shadow) → (u ≡ v) ⊎ Among u vs → IsShadow s v → ((w : Shadow) → Among w vs → IsShadow s w) → IsShadow s u
-    by u (inl same) first rest = subst (IsShadow s) (sym same) first
-    by u (inr there) first rest = rest u there
 
 sent_fit : (s : Settings) (vs : List Shadow) → ((v : Shadow) → Among v vs → IsShadow s v) → AllFit s (map ShadowMessage vs)
 sent_fit s [] fit m h = absurd h
@@ -158,30 +140,16 @@ sent_fit s (v ∷ vs) fit m (inl same) = subst (λ n. IsEvent s (Receive n)) (sy
 sent_fit s (v ∷ vs) fit m (inr there) = sent_fit s vs (λ u h. fit u (inr h)) m there
 
 makes : (s : Settings) (t : ModelSite) (v : Shadow) → IsInOrder s t → Grows s t.ops (v ∷ []) → Keeps s t (Makes v)
-makes s t v g grown = record {
-  order = record { me = g.me; valid = grown.valid; held = g.held; needed = g.needed };
-  sends = sent_fit s (v ∷ []) grown.fit;
-  says = tt;
-}
+makes s t v g grown = record { order = search rules; sends = sent_fit s (v ∷ []) grown.fit; says = tt }
 
 makes_all : (s : Settings) (t : ModelSite) (vs : List Shadow) → IsInOrder s t → Grows s t.ops vs → Keeps s t (MakesAll vs)
-makes_all s t vs g grown = record {
-  order = record { me = g.me; valid = grown.valid; held = g.held; needed = g.needed };
-  sends = sent_fit s vs grown.fit;
-  says = tt;
-}
+makes_all s t vs g grown = record { order = search rules; sends = sent_fit s vs grown.fit; says = tt }
 
-submits : (s : Settings) → IsConfigured s → (t : ModelSite) → IsInOrder s t → (r : Request) (q : Result Shadow Refusal)
-    → made_of s t.me t.ops t.token r ≡ q → IfErr q IsRefusal → Keeps s t (and_then Refuses q Makes)
-submits s c t g r (Ok v) e h =
-    makes s t v g (all_grow s c t.me t.ops t.token (v ∷ []) g.me g.valid (made_is s t.me t.ops t.token r v e, tt))
-submits s c t g r (Err why) e h = refuses s t why g h
-
-tries : (s : Settings) → IsConfigured s → (t : ModelSite) → IsInOrder s t → (rs : List Request) (q : Result (List Shadow) Refusal)
-    → batch_of s t.me t.ops t.token 0 rs ≡ q → IfErr q IsRefusal → Keeps s t (and_then Refuses q MakesAll)
-tries s c t g rs (Ok vs) e h =
-    makes_all s t vs g (all_grow s c t.me t.ops t.token vs g.me g.valid (batch_is s t.me t.ops t.token 0 rs vs e))
-tries s c t g rs (Err why) e h = refuses s t why g h
+-- a refusal if nothing is made, and else what is made
+if_made : {A : Type 0} (s : Settings) (t : ModelSite) (made : A → Outcome) (q : Result A Refusal) → IsInOrder s t → IfErr q IsRefusal
+    → ((x : A) → q ≡ Ok x → Keeps s t (made x)) → Keeps s t (and_then Refuses q made)
+if_made s t made (Ok x) g h k = k x refl
+if_made s t made (Err why) g h k = refuses s t why g h
 
 -- ---- the token
 
@@ -222,18 +190,12 @@ passes s c t to g e =
     let most_reds = c.red.1 in
     let needed = g.needed in
     let reds = few_reds s t.ops g.valid in
+    let fits : IsEvent s (Receive (TokenOnItsWay (pass_message t.token to (red_count t.ops)))) = (omega arith, omega arith, omega arith) in
     record {
-      order = record { me = g.me; valid = g.valid; held = g.held; needed = g.needed };
-      sends = λ m h. by m h (omega arith, omega arith, omega arith);
+      order = search rules;
+      sends = λ m h. elim h [ inl same ↦ subst (λ n. IsEvent s (Receive n)) (sym same) fits | inr never ↦ absurd never ];
       says = tt;
     }
-  where
-    sent : TokenMessage
-    sent = pass_message t.token to (red_count t.ops)
-
-    by : (m : Message) → (m ≡ TokenOnItsWay sent) ⊎ ⊥ → IsEvent s (Receive (TokenOnItsWay sent)) → IsEvent s (Receive m)
-    by m (inl same) fits = subst (λ n. IsEvent s (Receive n)) (sym same) fits
-    by m (inr never) fits = absurd never
 
 -- ---- one event, and all
 
@@ -248,15 +210,17 @@ sound_name s c v sound = facts_name s c v (sound_facts s v sound)
 pub keeps : (s : Settings) → IsConfigured s → (t : ModelSite) → IsInOrder s t → (e : Event) → Keeps s t (outcome_of s t e)
 unfolding outcome_of
 keeps s c t g (Submit r) =
-    submits s c t g r (made_of s t.me t.ops t.token r) refl (request_fits s c t.me t.ops t.token r g.valid
-    (few_needed s c (red_count t.ops) (few_reds s t.ops g.valid)) (few_needed s c t.token.needed g.needed))
+    if_made s t Makes (made_of s t.me t.ops t.token r) g (request_fits s c t.me t.ops t.token r g.valid
+    (few_needed s c (red_count t.ops) (few_reds s t.ops g.valid)) (few_needed s c t.token.needed g.needed)) (λ v e.
+    makes s t v g (all_grow s c t.me t.ops t.token (v ∷ []) g.me g.valid (made_is s t.me t.ops t.token r v e, tt)))
 keeps s c t g (Batch rs) =
     if_not s t (not (nat_le 1 (length rs) && nat_le (length rs) MOST_REQUESTS)) BadBatch _ g tt (λ e.
-    tries s c t g rs (batch_of s t.me t.ops t.token 0 rs) refl (batch_fits s t.me t.ops t.token 0 rs (few_requests e)))
+    if_made s t MakesAll (batch_of s t.me t.ops t.token 0 rs) g (batch_fits s t.me t.ops t.token 0 rs (few_requests e)) (λ vs f.
+    makes_all s t vs g (all_grow s c t.me t.ops t.token vs g.me g.valid (batch_is s t.me t.ops t.token 0 rs vs f))))
   where
     few_requests : not (nat_le 1 (length rs) && nat_le (length rs) MOST_REQUESTS) ≡ false → 0 + length rs ≤ 2 ^ 8
     few_requests e =
-        let low = (and_parts (nat_le 1 (length rs)) (nat_le (length rs) MOST_REQUESTS) (passed _ e)).1 in
+        let low = (and_parts (nat_le 1 (length rs)) (nat_le (length rs) MOST_REQUESTS) (not-false _ e)).1 in
         let most : length rs ≤ MOST_REQUESTS = grind (arith, nat_tests) in
         omega arith
 keeps s c t g (Receive (ShadowMessage v)) =
@@ -267,16 +231,12 @@ keeps s c t g (Receive (ShadowMessage v)) =
     if_unknown s t v (find_in t.held v.name) _ g name
     (if_not s t (nat_le s.limits.inbox (length t.held) && not (is_eligible t.ops v)) InboxFull (Holds v) g tt (λ e. holds s t v g sound)))))
 keeps s c t g (Receive (TokenOnItsWay m)) =
-    if_none s t (λ why. why) (refusal_of_token s.limits t.me m) _ g (token_fits s.limits t.me m)
-    (λ e. by (is_stale t.token m) (few s c t.me m e))
-  where
-    by : (b : Bool) → IsWord m.epoch × (m.red ≤ s.limits.red) → Keeps s t (cond b (Answers (Stale m.epoch)) (Takes m))
-    by true low = answers s t (Stale m.epoch) g low.0
-    by false low = record {
-      order = record { me = g.me; valid = g.valid; held = g.held; needed = low.1 };
-      sends = none_fit s;
-      says = low.0;
-    }
+    if_none s t (λ why. why) (refusal_of_token s.limits t.me m) _ g (token_fits s.limits t.me m) (λ e.
+    let low = few s c t.me m e in
+    elim (is_stale t.token m) as (λ b. Keeps s t (cond b (Answers (Stale m.epoch)) (Takes m))) [
+      | true ↦ answers s t (Stale m.epoch) g low.0
+      | false ↦ record { order = record { me = g.me; valid = g.valid; held = g.held; needed = low.1 }; sends = none_fit s; says = low.0 }
+    ])
 keeps s c t g (Apply x) = applies s t g (find_in t.held x) (λ v e. g.held v (found t.held x v e).0)
 keeps s c t g (Pass to) =
     if_none s t (λ why. why) (refusal_of_pass s.sites s.limits t.me t.token to) _ g (pass_fits s.sites s.limits t.me t.token to)
@@ -293,24 +253,20 @@ keeps s c t g (AskStatement a) =
 -- the same of an event that may find the history full
 stays : (s : Settings) → IsConfigured s → (t : ModelSite) → IsInOrder s t → (e : Event) →
     IsInOrder s (after_event s t e) × AllFit s (sent_at s t e)
-stays s c t g e = by (is_full s t) (keeps s c t g e)
-  where
-    by : (b : Bool) → Keeps s t (outcome_of s t e)
-        → IsInOrder s (cond b t (record (changed t (outcome_of s t e)) { history = t.history ++ e ∷ [] }))
-        × AllFit s (cond b [] (sent_by (outcome_of s t e)))
-    by true k = (g, none_fit s)
-    by false k = let o = k.order in (record { me = o.me; valid = o.valid; held = o.held; needed = o.needed }, k.sends)
+stays s c t g e =
+    let k = keeps s c t g e in
+    let o = k.order in
+    elim (is_full s t) as (λ b. IsInOrder s (cond b t (record (changed t (outcome_of s t e)) { history = t.history ++ e ∷ [] }))
+    × AllFit s (cond b [] (sent_by (outcome_of s t e)))) [ true ↦ (g, none_fit s) | false ↦ (search rules, k.sends) ]
 
 all_fit : (s : Settings) → IsConfigured s → (es : List Event) (t : ModelSite) → IsInOrder s t → AllFit s (sends_of s t es)
 all_fit s c [] t g m h = absurd h
 all_fit s c (e ∷ es) t g m h =
     let now = stays s c t g e in
-    by now.1 (all_fit s c es (after_event s t e) now.0) (among-cases m (sent_at s t e) (sends_of s (after_event s t e) es) h)
-  where
-    by : AllFit s (sent_at s t e) → AllFit s (sends_of s (after_event s t e) es)
-        → IsAmong m (sent_at s t e) ⊎ IsAmong m (sends_of s (after_event s t e) es) → IsEvent s (Receive m)
-    by first later (inl here) = first m here
-    by first later (inr there) = later m there
+    elim (among-cases m (sent_at s t e) (sends_of s (after_event s t e) es) h) [
+      | inl here ↦ now.1 m here
+      | inr there ↦ all_fit s c es (after_event s t e) now.0 m there
+    ]
 
 -- a site before any event is in order
 pub first_in_order : (s : Settings) → IsConfigured s → (me : ℕ) → me < s.sites → IsInOrder s (first_site me)

@@ -129,13 +129,13 @@ pub use Rattle.std.proofs.Common.{not, of_z, pos, refl, rules, set, slice_set, s
 pub use Rattle.std.proofs.Common.{true≢false, w64, zero, ℕ, ℤ, ◌%◌, ◌&&◌, ◌*◌, ◌++◌, ◌+◌, ◌-◌, ◌/◌, ◌<◌, ◌==◌, ◌^◌, ◌||◌, ◌∙◌, ◌∷◌, ◌≡◌}
 pub use Rattle.std.proofs.Common.{◌≤◌}
 pub use Rattle.std.proofs.Math.Seq.{set-append_seam, take-add, take-length}
-pub use Rattle.std.proofs.lemmas.Bool.{and_parts, cases_eq, cases_lt, eqb-false, eqb-true, le-leb, leb-true, ltb-true, ne_eqb, or_parts}
-pub use Rattle.std.proofs.lemmas.Bool.{or_right}
+pub use Rattle.std.proofs.lemmas.Bool.{and_parts, cases_eq, cases_lt, eqb-false, eqb-true, le-leb, leb-true, ltb-true, ne_eqb, not-true}
+pub use Rattle.std.proofs.lemmas.Bool.{not-false, or_cases, or_parts, or_right}
 pub use Rattle.std.proofs.lemmas.Bool.Decides.{nat_tests}
 pub use Rattle.std.proofs.lemmas.Fmt.{decimal_digit, decimal_step, digits_decimal}
 pub use Rattle.std.proofs.lemmas.Grind.{take-set_at}
 pub use Rattle.std.proofs.lemmas.Int.{ints, to_z-of_z}
-pub use Rattle.std.proofs.lemmas.List.{drop-drop, drop-replicate, drop-set-lt, drop_all, drop_at, length-drop, length-replicate}
+pub use Rattle.std.proofs.lemmas.List.{drop-drop, drop-replicate, drop-set-lt, drop_all, drop_at, length-drop, length-map, length-replicate}
 pub use Rattle.std.proofs.lemmas.List.{length-take-le, map-append, replicate_more, take-replicate, take_all, take_at, take_more}
 pub use Rattle.std.proofs.lemmas.List.{take_more_set}
 pub use Rattle.std.proofs.lemmas.List.Quantifiers.{position-Some}

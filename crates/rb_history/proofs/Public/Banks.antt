@@ -1,14 +1,51 @@
 -- No line is both a question and an event to a bank, and one of another bank is none of them.
-use Rattle.rb_history.proofs.Words.{◌≡◌, ◌==◌, suc, List, ℕ, Option, None, Some, Ordering, Equal, nat_cmp, is_eq, Bool, true, false, []}
-use Rattle.rb_history.proofs.Words.{◌∷◌, codes, bytes_eq, refl, sym, ◌∙◌, subst, inl, inr, arith, eqb-true, is_eq-slice_cmp}
-use Rattle.rb_history.proofs.Words.{bytes_eq-Decides, slice_cmp, match_ordering, ◌⊎◌, if◌then◌else◌, not, option_and_then, option_map}
-use Rattle.rb_history.proofs.Words.{unwrap_or, Data, object, no_members, member, members_len, as_str, get, read, Settings}
-use Rattle.rb_history.proofs.Words.{QuestionsAreNoEvents, OtherBanksAskNothing, event_beside, event_named, has_bank, has_other_bank}
+use Rattle.rb_history.proofs.Words.{OtherBanksAskNothing, QuestionsAreNoEvents, event_beside, event_named, has_bank, has_other_bank}
 use Rattle.rb_history.proofs.Words.{is_other_named, is_other_text, is_receipt, is_this_text, question_beside, question_named, question_or}
-use Rattle.rb_history.proofs.Words.{asked_event_at, AskedEvent, question_asked, question_of, one_json, size_of, Question}
-use Rattle.rb_history.proofs.Banked.{beside_alone}
+use Rattle.rb_history.proofs.Words.{asked_event_at, asked_event_of_line, AskedEvent, question_asked, question_of, question_of_line}
+use Rattle.rb_history.proofs.Words.{event_at, one_json, size_of, Question, Settings, Data, member, no_members, object, members_len, as_str}
+use Rattle.rb_history.proofs.Words.{get, read, Bool, Equal, List, None, Option, Ordering, Some, [], ap, arith, bytes_eq, codes, false, inl}
+use Rattle.rb_history.proofs.Words.{inr, is_eq, nat_cmp, not, refl, subst, suc, sym, true, ℕ, ◌==◌, ◌∙◌, ◌∷◌, ◌≡◌, eqb-true, not-true}
+use Rattle.rb_history.proofs.Words.{is_eq-slice_cmp, bytes_eq-Decides, slice_cmp, match_ordering, if◌then◌else◌, option_and_then}
+use Rattle.rb_history.proofs.Words.{option_map, unwrap_or, ◌⊎◌}
 use Rattle.rb_history.proofs.FitsLaws.{tested}
-use Rattle.rb_history.proofs.Questions.{key_is, no_event, question_no_event}
+use Rattle.rb_history.proofs.Banked.{beside_alone}
+
+equal : (o : Ordering) (value v : Data) → match_ordering o None (Some value) None ≡ Some v → is_eq o ≡ true
+equal Equal value v e = refl
+equal _ value v e = absurd (cc)
+
+-- the key that is found in an object of one member is the member's
+key_is : (k key : List ℕ) (value v : Data) → get k (one_json key value) ≡ Some v → k ≡ key
+key_is k key value v e = (bytes_eq-Decides k key).0 (sym (is_eq-slice_cmp k key) ∙ equal (slice_cmp nat_cmp k key) value v e)
+
+-- an object of one member that asks is no event
+by_key : (s : Settings) (key : List ℕ) (value : Data) (about resend : Option Data) (q : Question)
+    → get (codes "about") (one_json key value) ≡ about → get (codes "resend") (one_json key value) ≡ resend
+    → question_asked about resend ≡ Some q → event_at s (one_json key value) ≡ None
+by_key s key value (Some v) resend q e f asked =
+    subst (λ k. event_at s (one_json k value) ≡ None) (key_is (codes "about") key value v e) refl
+by_key s key value None (Some n) q e f asked =
+    subst (λ k. event_at s (one_json k value) ≡ None) (key_is (codes "resend") key value n f) refl
+by_key s key value None None q e f asked = absurd (cc)
+
+-- a question has one member, so it is no event with an id either
+no_event : (s : Settings) (d : Data) (q : Question) → question_of d ≡ Some q → asked_event_at s d ≡ None
+no_event s (object (member key value no_members)) q e =
+    let d = one_json key value in
+    ap (option_map (λ made. record { id = []; event = made }))
+    (by_key s key value (get (codes "about") d) (get (codes "resend") d) q refl refl e)
+no_event s (object (member key value (member other more ms))) q e =
+    let d = object (member key value (member other more ms)) in
+    let asked = question_asked (get (codes "about") d) (get (codes "resend") d) in
+    let one : suc (suc (members_len ms)) ≡ 1 = eqb-true (size_of d) 1 (tested (size_of d == 1) asked q e) in
+    absurd (omega arith)
+no_event s _ q e = absurd (cc)
+
+-- a line that is a question by itself is no event by itself
+question_no_event : (s : Settings) (line : List ℕ) (q : Question) → question_of_line line ≡ Some q
+    → asked_event_of_line s line ≡ None
+question_no_event s line q e = (elim (read line) as (λ o. option_and_then question_of o ≡ Some q
+    → option_and_then (asked_event_at s) o ≡ None) [ None ↦ λ f. refl | Some d ↦ λ f. no_event s d q f ]) e
 
 -- ---- what is found in an object
 
@@ -37,11 +74,10 @@ here_or_later _ later value v e = inr e
 one_of : (k key other : List ℕ) (value more v : Data)
     → get k (object (member key value (member other more no_members))) ≡ Some v → (k ≡ key) ⊎ (k ≡ other)
 one_of k key other value more v e =
-    by (here_or_later (slice_cmp nat_cmp k key) (get k (one_json other more)) value v e)
-  where
-    by : (is_eq (slice_cmp nat_cmp k key) ≡ true) ⊎ (get k (one_json other more) ≡ Some v) → (k ≡ key) ⊎ (k ≡ other)
-    by (inl same) = inl ((bytes_eq-Decides k key).0 (sym (is_eq-slice_cmp k key) ∙ same))
-    by (inr later) = inr (key_is k other more v later)
+    elim (here_or_later (slice_cmp nat_cmp k key) (get k (one_json other more)) value v e) [
+      | inl same ↦ inl ((bytes_eq-Decides k key).0 (sym (is_eq-slice_cmp k key) ∙ same))
+      | inr later ↦ inr (key_is k other more v later)
+    ]
 
 -- an object that asks has one of the two keys
 asks : (about resend : Option Data) (q : Question) → question_asked about resend ≡ Some q
@@ -108,10 +144,8 @@ one_member d q e = eqb-true (size_of d) 1
 named_none : (s : Settings) (bank : List ℕ) (d : Data) (q : Question) → question_named bank d ≡ Some q → IsNone s d
 named_none s bank d q e = by (question_of d) refl e
   where
-    beside : Option Question
-    beside = if has_bank bank d then question_beside d else None
-
-    by : (o : Option Question) → question_of d ≡ o → question_or o beside ≡ Some q → IsNone s d
+    by : (o : Option Question) → question_of d ≡ o → question_or o (if has_bank bank d then question_beside d else None) ≡ Some q
+        → IsNone s d
     by (Some p) is f = (no_event s d p is, rw (one_member d p is) refl)
     by None is f =
         let found = there (is_this_text bank) (get (codes "bank") d) (tested (has_bank bank d) (question_beside d) q f) in
@@ -131,33 +165,23 @@ question_none_to s (b ∷ bs) line q e = by (read line) e
 
 -- ---- another bank's line is nothing
 
-other_text : (b : Bool) → not b ≡ true → b ≡ false
-other_text true h = absurd (cc)
-other_text false h = refl
-
-other_value : (bank : List ℕ) (o : Option (List ℕ)) → unwrap_or (option_map (λ u. not (bytes_eq bank u)) o) false ≡ true
-    → unwrap_or (option_map (bytes_eq bank) o) false ≡ false
-other_value bank None h = absurd (cc)
-other_value bank (Some t) h = other_text (bytes_eq bank t) h
-
 -- an object with another bank's name doesn't have this one
 not_this : (bank : List ℕ) (o : Option Data) → unwrap_or (option_map (is_other_text bank) o) false ≡ true
     → unwrap_or (option_map (is_this_text bank) o) false ≡ false
 not_this bank None h = absurd (cc)
-not_this bank (Some d) h = other_value bank (as_str d) h
+not_this bank (Some d) h = (elim (as_str d) as (λ o. unwrap_or (option_map (λ u. not (bytes_eq bank u)) o) false ≡ true
+    → unwrap_or (option_map (bytes_eq bank) o) false ≡ false) [ None ↦ λ e. absurd (cc) | Some t ↦ λ e. not-true (bytes_eq bank t) e ]) h
 
 -- an object that has a bank's name is no question by itself
 no_question : (d named : Data) → get (codes "bank") d ≡ Some named → question_of d ≡ None
 no_question (object (member key value no_members)) named found =
     subst (λ k. question_of (one_json k value) ≡ None) (key_is (codes "bank") key value named found) refl
-no_question (object (member key value (member other more ms))) named found = by (question_of d) refl
-  where
-    d : Data
-    d = object (member key value (member other more ms))
-
-    by : (o : Option Question) → question_of d ≡ o → question_of d ≡ None
-    by None e = e
-    by (Some q) e = let one : suc (suc (members_len ms)) ≡ 1 = one_member d q e in absurd (omega arith)
+no_question (object (member key value (member other more ms))) named found =
+    let d = object (member key value (member other more ms)) in
+    (elim (question_of d) as (λ o. question_of d ≡ o → o ≡ None) [
+      | None ↦ λ e. refl
+      | Some q ↦ λ e. let one : suc (suc (members_len ms)) ≡ 1 = one_member d q e in absurd (omega arith)
+    ]) refl
 no_question _ named found = absurd (cc)
 
 -- an object of another bank is no event and no question
@@ -181,9 +205,6 @@ nothing_named s bank d h = by (asked_event_at s d) refl h
 -- a line of another bank is no event and no question
 pub nothing_asked : OtherBanksAskNothing
 nothing_asked s [] line h = absurd (cc)
-nothing_asked s (b ∷ bs) line h = by (read line) h
-  where
-    by : (o : Option Data) → unwrap_or (option_map (is_other_named s (b ∷ bs)) o) false ≡ true
-        → (option_and_then (event_named s (b ∷ bs)) o ≡ None) × (option_and_then (question_named (b ∷ bs)) o ≡ None)
-    by None e = absurd (cc)
-    by (Some d) e = nothing_named s (b ∷ bs) d e
+nothing_asked s (b ∷ bs) line h = (elim (read line) as (λ o. unwrap_or (option_map (is_other_named s (b ∷ bs)) o) false ≡ true
+    → (option_and_then (event_named s (b ∷ bs)) o ≡ None) × (option_and_then (question_named (b ∷ bs)) o ≡ None))
+    [ None ↦ λ e. absurd (cc) | Some d ↦ λ e. nothing_named s (b ∷ bs) d e ]) h

@@ -1,7 +1,7 @@
 -- An id, as a text: its bytes are written as they are, and are read back.
-use Rattle.rb_history.proofs.Words.{◌≡◌, ◌≤◌, ℕ, List, [], ◌∷◌, ◌++◌, Some, length, codes, true, IsUtf8, refl, sym, ap, ◌∙◌, append_assoc}
-use Rattle.rb_history.proofs.Words.{arith, ◌&&◌, nat_le, nat_lt, list_all, and_parts, nat_tests, escape_byte_plain, are_ascii}
-use Rattle.rb_history.proofs.Words.{IsUtf8-are_ascii, escape, escape_byte, quoted, string, id_at, is_id, is_id_byte}
+use Rattle.rb_history.proofs.Words.{escape_byte_plain, IsUtf8-are_ascii, escape, quoted, escape_byte, id_at, is_id, is_id_byte, string}
+use Rattle.rb_history.proofs.Words.{IsUtf8, List, Some, [], ap, append_assoc, arith, codes, length, refl, sym, true, ℕ, ◌&&◌, ◌++◌, ◌∙◌}
+use Rattle.rb_history.proofs.Words.{◌∷◌, ◌≡◌, ◌≤◌, and_parts, nat_tests, list_all, nat_le, nat_lt}
 use Rattle.rb_history.specs.declared.id.TheConstants.{MOST_ID_BYTES}
 use Rattle.rb_history.proofs.Plain.{ArePlain, escape_plain, plain_all, quoted_plain}
 use Rattle.rb_history.proofs.Utf8.{ascii_all}
@@ -43,13 +43,9 @@ id_quoted t rest h =
 byte_ascii : (b : ℕ) → is_id_byte b ≡ true → nat_lt b 128 ≡ true
 byte_ascii b h = let range = id_byte_range b h in grind (arith, nat_tests, range.1)
 
--- its bytes are ASCII
-pub id_ascii : (t : List ℕ) → is_id t ≡ true → are_ascii t ≡ true
-id_ascii t h = ascii_all is_id_byte byte_ascii t (id_bytes t h)
-
--- and so it is UTF-8
+-- its bytes are ASCII, so it is UTF-8
 pub id_utf8 : (t : List ℕ) → is_id t ≡ true → IsUtf8 t
-id_utf8 t h = IsUtf8-are_ascii t (id_ascii t h)
+id_utf8 t h = IsUtf8-are_ascii t (ascii_all is_id_byte byte_ascii t (id_bytes t h))
 
 -- no bytes are no id
 pub id_some : (t : List ℕ) → is_id t ≡ true → t ≡ [] → ⊥

@@ -1,7 +1,8 @@
 -- A list as it is written, item by item.
-use Rattle.rb_history.proofs.Words.{◌≡◌, ◌≤◌, ◌+◌, ℕ, List, [], ◌∷◌, ◌++◌, codes, length, drop, refl, sym, ap, ◌∙◌, true, false}
-use Rattle.rb_history.proofs.Words.{append_assoc, append-nil, map, Result, drop_all, Data, items_of, compact_text, items_text, Adds}
-use Rattle.rb_history.proofs.Public.Appended.{then}
+use Rattle.rb_history.proofs.Words.{Adds, Data, items_of, compact_text, items_text, Err, List, Ok, Result, [], ap, append-nil, append_assoc}
+use Rattle.rb_history.proofs.Words.{codes, drop, false, length, refl, sym, take, true, ℕ, ◌++◌, ◌+◌, ◌∙◌, ◌∷◌, ◌≡◌, ◌≤◌, drop_all, map}
+use Rattle.rb_history.proofs.Words.{IsErr}
+use Rattle.rb_history.proofs.Public.Appended.{then, front_of_front, front_of_sum}
 
 -- the items that are still to be written, with this before the first
 abbrev pub rest_text : List ℕ → List Data → List ℕ
@@ -45,3 +46,28 @@ list_between written r old out new comma front back xs i h e f =
     then r old out new (front ++ list) (codes "]" ++ back) _ all f
     (append_assoc front list (codes "]" ++ back) ∙ ap (λ l. front ++ l) (sym (append_assoc list (codes "]") back)
     ∙ ap (λ l. l ++ back) (whole_text (map written xs))))
+
+-- ---- what a call leaves in place, and adds, after others wrote
+
+-- what was there first is there after a call that failed
+pub failed_behind : {A E : Type 0} (r : Result A E) (old mid new t : List ℕ) → IsErr r → take (length old) mid ≡ old
+    → take (length mid) new ≡ mid → Adds r old new t
+failed_behind (Ok x) old mid new t is e h = absurd (cc)
+failed_behind (Err x) old mid new t is e h = front_of_front old mid new e h
+
+-- and after a text was added
+pub front_more : (old mid new a : List ℕ) → take (length old) mid ≡ old → new ≡ mid ++ a → take (length old) new ≡ old
+front_more old mid new a e h = front_of_front old mid new e (front_of_sum mid new a h)
+
+-- a list behind a text is written if no item is left, with its last bracket
+pub list_behind : {A E : Type 0} (r : Result A E) (old out new comma front : List ℕ) (later all : List Data)
+    → later ≡ []
+    → out ++ rest_text comma later ≡ (old ++ front) ++ rest_text [] all → Adds r out new (codes "]")
+    → Adds r old new (front ++ items_text false (items_of all))
+list_behind r old out new comma front later all none h f =
+    let list = rest_text [] all in
+    let written : out ≡ old ++ (front ++ list) = sym (append-nil out)
+    ∙ ap (λ ds. out ++ rest_text comma ds) (sym none) ∙ h
+    ∙ append_assoc old front list in
+    then r old out new (front ++ list) (codes "]") _ written f
+    (append_assoc front list (codes "]") ∙ ap (λ l. front ++ l) (whole_text all))

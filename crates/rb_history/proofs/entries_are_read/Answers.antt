@@ -1,4 +1,4 @@
-use Rattle.rb_history.proofs.EntryLine.{entry_line}
+use Rattle.rb_history.proofs.OwnLines.{entry_line}
 use Rattle.rb_history.proofs.entries_are_read.Goals as goal
 
 pub returns : goal.returns

@@ -1,4 +1,4 @@
-use Rattle.rb_history.proofs.EventLine.{event_line}
+use Rattle.rb_history.proofs.OwnLines.{event_line}
 use Rattle.rb_history.proofs.events_are_read.Goals as goal
 
 pub returns : goal.returns

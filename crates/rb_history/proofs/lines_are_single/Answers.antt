@@ -1,4 +1,4 @@
-use Rattle.rb_history.proofs.OneLine.{configs_lines, entries_lines}
+use Rattle.rb_history.proofs.Texts.{configs_lines, entries_lines}
 use Rattle.rb_history.proofs.lines_are_single.Goals as goal
 
 pub returns-clause-configs : goal.returns-clause-configs

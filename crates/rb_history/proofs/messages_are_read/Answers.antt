@@ -1,4 +1,4 @@
-use Rattle.rb_history.proofs.SentBack.{sent_read}
+use Rattle.rb_history.proofs.Banked.{sent_read}
 use Rattle.rb_history.proofs.messages_are_read.Goals as goal
 
 pub returns : goal.returns

@@ -1,4 +1,4 @@
-use Rattle.rb_history.proofs.Configured.{read_configured}
+use Rattle.rb_history.proofs.ConfigBack.{read_configured}
 use Rattle.rb_history.proofs.read_configs_are_configured.Goals as goal
 
 pub returns : goal.returns

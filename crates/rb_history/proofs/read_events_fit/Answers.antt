@@ -1,5 +1,5 @@
-use Rattle.rb_history.proofs.NamedFit.{read_fits}
+use Rattle.rb_history.proofs.EntriesFit.{event_fits}
 use Rattle.rb_history.proofs.read_events_fit.Goals as goal
 
 pub returns : goal.returns
-returns c = read_fits
+returns c = event_fits

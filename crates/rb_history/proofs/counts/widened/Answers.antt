@@ -1,6 +1,6 @@
-use Rattle.rb_history.proofs.Words.{◌≡◌, ◌-◌, ◌++◌, ◌∷◌, [], drop, get_or, ap, sym, ◌∙◌, arith, rules, take-append-drop, replicate}
-use Rattle.rb_history.proofs.Words.{take_all, take_more, take_more_set, MOST_SITES, MOST_SITES_OF_VERSION_1}
-use Rattle.rb_history.proofs.Numbered.{none_behind}
+use Rattle.rb_history.proofs.Words.{MOST_SITES, MOST_SITES_OF_VERSION_1, [], ap, arith, drop, get_or, rules, sym, take-append-drop, ◌++◌}
+use Rattle.rb_history.proofs.Words.{◌-◌, ◌∙◌, ◌∷◌, ◌≡◌, take_all, take_more, take_more_set, replicate}
+use Rattle.rb_history.proofs.SiteCounts.{none_behind}
 use Rattle.rb_history.proofs.counts.widened.Goals as goal
 
 pub loop-site-preserved : goal.loop-site-preserved

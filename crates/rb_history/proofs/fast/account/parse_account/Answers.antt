@@ -1,6 +1,6 @@
-use Rattle.rb_history.proofs.Words.{◌≡◌, ◌++◌, Some, codes, sym, ap, ◌∙◌, rules, unwrap_or, place_in, behind_quote}
-use Rattle.rb_history.proofs.PlacesRead.{name_there, nobody_there}
-use Rattle.rb_history.proofs.Joined.{string_written}
+use Rattle.rb_history.proofs.Words.{behind_quote, place_in, Some, ap, codes, rules, sym, ◌++◌, ◌∙◌, ◌≡◌, unwrap_or}
+use Rattle.rb_history.proofs.KnownPlaces.{name_there, nobody_there}
+use Rattle.rb_history.proofs.Plain.{string_written}
 use Rattle.rb_history.proofs.fast.account.parse_account.Goals as goal
 
 pub returns-in-Some-clause-text : goal.returns-in-Some-clause-text

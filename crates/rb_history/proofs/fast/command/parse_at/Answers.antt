@@ -1,5 +1,5 @@
-use Rattle.rb_history.proofs.Words.{◌++◌, codes, ap, ◌∙◌, arith, command_at}
-use Rattle.rb_history.proofs.OneMember.{own_line}
+use Rattle.rb_history.proofs.Words.{command_at, ap, arith, codes, ◌++◌, ◌∙◌}
+use Rattle.rb_history.proofs.OwnLines.{own_line}
 use Rattle.rb_history.proofs.fast.command.parse_at.Goals as goal
 
 pub returns-clause-value : goal.returns-clause-value

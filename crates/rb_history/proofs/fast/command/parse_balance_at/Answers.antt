@@ -1,5 +1,5 @@
 use Rattle.std.proofs.Common.{None, arith}
-use Rattle.rb_history.proofs.OneMember.{own_line}
+use Rattle.rb_history.proofs.OwnLines.{own_line}
 use Rattle.rb_history.proofs.fast.command.parse_balance_at.Goals as goal
 
 pub returns : goal.returns

@@ -1,5 +1,5 @@
 use Rattle.std.proofs.Common.{◌++◌, codes, ap, ◌∙◌, arith}
-use Rattle.rb_history.proofs.OneMember.{delivery_line}
+use Rattle.rb_history.proofs.OwnLines.{delivery_line}
 use Rattle.rb_history.proofs.fast.command.parse_delivery.Goals as goal
 
 pub returns : goal.returns

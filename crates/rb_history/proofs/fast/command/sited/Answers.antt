@@ -1,5 +1,5 @@
-use Rattle.rb_history.proofs.Words.{IfSome, arith, subst, Submit, BeginsWithRequest}
-use Rattle.rb_history.proofs.OneMember.{own_line}
+use Rattle.rb_history.proofs.Words.{BeginsWithRequest, Submit, IfSome, arith, subst}
+use Rattle.rb_history.proofs.OwnLines.{own_line}
 use Rattle.rb_history.proofs.fast.command.sited.Goals as goal
 
 pub returns : goal.returns

@@ -1,6 +1,6 @@
-use Rattle.rb_history.proofs.Words.{◌≡◌, ◌++◌, ℕ, List, codes, length, ap, sym, subst, ◌∙◌, rules, IfSome_then, compact_text}
-use Rattle.rb_history.proofs.Words.{MOST_SITES_OF_VERSION_1, blue_json, widened, BeginsWithCounts, BeginsWithNumbered}
-use Rattle.rb_history.proofs.CountsBack.{widened_fits, widened_further, widened_json, widened_length}
+use Rattle.rb_history.proofs.Words.{BeginsWithCounts, BeginsWithNumbered, widened, blue_json, MOST_SITES_OF_VERSION_1, compact_text, List}
+use Rattle.rb_history.proofs.Words.{ap, codes, length, rules, subst, sym, ℕ, ◌++◌, ◌∙◌, ◌≡◌, IfSome_then}
+use Rattle.rb_history.proofs.SiteCounts.{widened_fits, widened_further, widened_json, widened_length}
 use Rattle.rb_history.proofs.fast.counts.parse_counts.Goals as goal
 
 pub returns-then-version-eq1 : goal.returns-then-version-eq1

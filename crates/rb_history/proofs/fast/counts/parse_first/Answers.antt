@@ -1,6 +1,6 @@
-use Rattle.rb_history.proofs.Words.{take, ◌≡◌, ◌<◌, ◌^◌, ℕ, [], codes, refl, subst, arith, rules, take_all}
-use Rattle.rb_history.proofs.Words.{take_more_set, number_json, Each}
-use Rattle.rb_history.proofs.ListRead.{BeginsWith, all_read, each_more, one_more}
+use Rattle.rb_history.proofs.Words.{Each, number_json, [], arith, codes, refl, rules, subst, take, ℕ, ◌<◌, ◌^◌, ◌≡◌, take_all}
+use Rattle.rb_history.proofs.Words.{take_more_set}
+use Rattle.rb_history.proofs.Reading.{BeginsWith, all_read, each_more, one_more}
 use Rattle.rb_history.proofs.fast.counts.parse_first.Goals as goal
 
 pub loop-site-init : goal.loop-site-init

@@ -1,5 +1,5 @@
-use Rattle.rb_history.proofs.Words.{◌≡◌, ◌<◌, ◌^◌, codes, length, take, Utf8, shadow, number_json, Each}
-use Rattle.rb_history.proofs.ListRead.{BeginsWith}
+use Rattle.rb_history.proofs.Words.{Each, number_json, codes, length, take, ◌<◌, ◌^◌, ◌≡◌, shadow, Utf8}
+use Rattle.rb_history.proofs.Reading.{BeginsWith}
 use Rattle.rb_history.proofs.fast.counts.parse_first.Given as goal
 
 abbrev pub invariant-loop-site : goal.invariant-loop-site

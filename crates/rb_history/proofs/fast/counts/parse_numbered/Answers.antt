@@ -1,7 +1,6 @@
-use Rattle.rb_history.proofs.Words.{◌<◌, ◌^◌, ℕ, subst, arith, rules, numbered_from, numbered_json}
-use Rattle.rb_history.proofs.CountsParsed.{fit_all, fit_more, numbered_all, numbered_more}
-use Rattle.rb_history.proofs.ListRead.{BeginsWith, all_read, one_more}
-use Rattle.rb_history.proofs.Numbered.{none_behind}
+use Rattle.rb_history.proofs.Words.{numbered_from, numbered_json, arith, rules, subst, ℕ, ◌<◌, ◌^◌}
+use Rattle.rb_history.proofs.SiteCounts.{fit_all, fit_more, numbered_all, numbered_more, none_behind}
+use Rattle.rb_history.proofs.Reading.{BeginsWith, all_read, one_more}
 use Rattle.rb_history.proofs.fast.counts.parse_numbered.Goals as goal
 
 abbrev IsWord : ℕ → Type 0

@@ -1,6 +1,6 @@
-use Rattle.rb_history.proofs.Words.{◌≡◌, ◌<◌, ◌≤◌, ◌-◌, ◌^◌, length, take, drop, replicate, MOST_SITES, Utf8, shadow, numbered_from}
-use Rattle.rb_history.proofs.Words.{numbered_json, Each}
-use Rattle.rb_history.proofs.ListRead.{BeginsWith}
+use Rattle.rb_history.proofs.Words.{numbered_from, numbered_json, Each, MOST_SITES, drop, length, take, ◌-◌, ◌<◌, ◌^◌, ◌≡◌, ◌≤◌, replicate}
+use Rattle.rb_history.proofs.Words.{shadow, Utf8}
+use Rattle.rb_history.proofs.Reading.{BeginsWith}
 use Rattle.rb_history.proofs.fast.counts.parse_numbered.Given as goal
 
 abbrev pub invariant-sites : goal.invariant-sites

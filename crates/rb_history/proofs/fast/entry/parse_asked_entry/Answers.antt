@@ -1,9 +1,8 @@
-use Rattle.rb_history.proofs.Words.{◌≡◌, [], true, inl, inr, ap, ◌∙◌, rules, ◌⊎◌, Entry, asked_entry_of_line, AskedEntry, may_be_asked}
-use Rattle.rb_history.proofs.AskedText.{id_or_none, is_asked, line_written}
-use Rattle.rb_history.proofs.EntryLine.{entry_line}
+use Rattle.rb_history.proofs.Words.{asked_entry_of_line, AskedEntry, may_be_asked, Entry, [], ap, inl, inr, rules, true, ◌∙◌, ◌≡◌, ◌⊎◌}
+use Rattle.rb_history.proofs.Receipts.{id_or_none, is_asked, line_written}
+use Rattle.rb_history.proofs.OwnLines.{entry_line}
 use Rattle.rb_history.proofs.fast.entry.parse_asked_entry.Goals as goal
-use Rattle.rb_history.proofs.fast.entry.parse_asked_entry.Goals.{else-ne-via-then-ne+else-not-may_be_asked}
-use Rattle.rb_history.proofs.fast.entry.parse_asked_entry.Goals.{else-ne-via-else-ne}
+use Rattle.rb_history.proofs.fast.entry.parse_asked_entry.Goals.{else-ne-via-then-ne+else-not-may_be_asked, else-ne-via-else-ne}
 
 pub returns-clause-id : goal.returns-clause-id
 returns-clause-id c = id_or_none c.in_ok-id.id.now c.in_ok-behind.behind.now c.in_ok-id.rest.now c.in_ok-id.ensures

@@ -1,5 +1,5 @@
-use Rattle.rb_history.proofs.Words.{codes, escape_byte, name_json}
-use Rattle.rb_history.proofs.Joined.{member_of}
+use Rattle.rb_history.proofs.Words.{escape_byte, name_json, codes}
+use Rattle.rb_history.proofs.Plain.{member_of}
 use Rattle.rb_history.proofs.fast.event.parse_apply.Goals as goal
 
 pub returns : goal.returns

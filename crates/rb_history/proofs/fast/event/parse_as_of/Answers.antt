@@ -1,5 +1,5 @@
-use Rattle.rb_history.proofs.Words.{codes, refl, escape_byte, asked_json}
-use Rattle.rb_history.proofs.Joined.{member_of}
+use Rattle.rb_history.proofs.Words.{escape_byte, asked_json, codes, refl}
+use Rattle.rb_history.proofs.Plain.{member_of}
 use Rattle.rb_history.proofs.fast.event.parse_as_of.Goals as goal
 
 pub returns : goal.returns

@@ -1,5 +1,5 @@
-use Rattle.rb_history.proofs.Words.{subst, sym, IfSome_then, BeginsWithEvent}
-use Rattle.rb_history.proofs.EventAsked.{alone_line}
+use Rattle.rb_history.proofs.Words.{BeginsWithEvent, subst, sym, IfSome_then}
+use Rattle.rb_history.proofs.OwnLines.{alone_line}
 use Rattle.rb_history.proofs.fast.event.parse_asked_line.Goals as goal
 
 pub returns-in_ok-parse_message-in-Some-eq115-Some-eq100-clause-value :

@@ -1,5 +1,5 @@
-use Rattle.rb_history.proofs.Words.{◌++◌, codes, ap, ◌∙◌, escape_byte, request_json, list_json}
-use Rattle.rb_history.proofs.Joined.{member_of}
+use Rattle.rb_history.proofs.Words.{escape_byte, request_json, list_json, ap, codes, ◌++◌, ◌∙◌}
+use Rattle.rb_history.proofs.Plain.{member_of}
 use Rattle.rb_history.proofs.fast.event.parse_batch.Goals as goal
 
 pub returns : goal.returns

@@ -1,5 +1,5 @@
-use Rattle.rb_history.proofs.Words.{◌≡◌, codes, true, rules, may_have_id}
-use Rattle.rb_history.proofs.EventAsked.{id_before}
+use Rattle.rb_history.proofs.Words.{may_have_id, codes, rules, true, ◌≡◌}
+use Rattle.rb_history.proofs.OwnLines.{id_before}
 use Rattle.rb_history.proofs.fast.event.parse_id_first.Goals as goal
 
 pub returns-clause-value : goal.returns-clause-value

@@ -1,9 +1,8 @@
-use Rattle.rb_history.proofs.Words.{◌≡◌, [], true, rules, is_id, may_have_id}
-use Rattle.rb_history.proofs.EventAsked.{ended_line}
+use Rattle.rb_history.proofs.Words.{is_id, may_have_id, [], rules, true, ◌≡◌}
+use Rattle.rb_history.proofs.OwnLines.{ended_line}
 use Rattle.rb_history.proofs.Public.IdText.{id_some}
 use Rattle.rb_history.proofs.fast.event.parse_id_last.Goals as goal
-use Rattle.rb_history.proofs.fast.event.parse_id_last.Goals.{else-ne-via-then-ne+else-not-may_have_id}
-use Rattle.rb_history.proofs.fast.event.parse_id_last.Goals.{else-ne-via-else-ne}
+use Rattle.rb_history.proofs.fast.event.parse_id_last.Goals.{else-ne-via-then-ne+else-not-may_have_id, else-ne-via-else-ne}
 
 pub returns-clause-value : goal.returns-clause-value
 returns-clause-value c =

@@ -1,5 +1,5 @@
 use Rattle.rb_history.specs.Entries.{request_json}
-use Rattle.rb_history.proofs.OneMember.{in_object}
+use Rattle.rb_history.proofs.OwnLines.{in_object}
 use Rattle.rb_history.proofs.fast.event.parse_item.Goals as goal
 
 pub returns : goal.returns

@@ -1,5 +1,5 @@
-use Rattle.rb_history.proofs.Words.{◌++◌, codes, ap, ◌∙◌, escape_byte, number_json}
-use Rattle.rb_history.proofs.Joined.{member_of}
+use Rattle.rb_history.proofs.Words.{escape_byte, number_json, ap, codes, ◌++◌, ◌∙◌}
+use Rattle.rb_history.proofs.Plain.{member_of}
 use Rattle.rb_history.proofs.fast.event.parse_pass.Goals as goal
 
 pub returns : goal.returns

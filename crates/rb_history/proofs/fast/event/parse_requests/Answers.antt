@@ -1,5 +1,5 @@
-use Rattle.rb_history.proofs.Words.{◌≡◌, ◌++◌, ◌∷◌, [], rules, request_json, IsRequest}
-use Rattle.rb_history.proofs.ListRead.{all_read, each_more, one_more}
+use Rattle.rb_history.proofs.Words.{request_json, IsRequest, [], rules, ◌++◌, ◌∷◌, ◌≡◌}
+use Rattle.rb_history.proofs.Reading.{all_read, each_more, one_more}
 use Rattle.rb_history.proofs.fast.event.parse_requests.Goals as goal
 
 pub loop-init : goal.loop-init

@@ -1,5 +1,5 @@
-use Rattle.rb_history.proofs.Words.{Utf8, shadow, request_json, Each, IsRequest}
-use Rattle.rb_history.proofs.ListRead.{BeginsWith}
+use Rattle.rb_history.proofs.Words.{request_json, Each, IsRequest, shadow, Utf8}
+use Rattle.rb_history.proofs.Reading.{BeginsWith}
 use Rattle.rb_history.proofs.fast.event.parse_requests.Given as goal
 
 abbrev pub invariant-loop : goal.invariant-loop

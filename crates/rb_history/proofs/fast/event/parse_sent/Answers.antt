@@ -1,5 +1,5 @@
-use Rattle.rb_history.proofs.Words.{◌≡◌, ◌++◌, [], append-nil, codes, true, subst, ap, ◌∙◌, rules, compact_text, event_json, is_id}
-use Rattle.rb_history.proofs.SentBack.{sent_parsed}
+use Rattle.rb_history.proofs.Words.{event_json, is_id, compact_text, [], ap, append-nil, codes, rules, subst, true, ◌++◌, ◌∙◌, ◌≡◌}
+use Rattle.rb_history.proofs.Banked.{sent_parsed}
 use Rattle.rb_history.proofs.fast.event.parse_sent.Goals as goal
 
 pub returns : goal.returns

@@ -1,5 +1,5 @@
-use Rattle.rb_history.proofs.Words.{codes, escape_byte, account_json}
-use Rattle.rb_history.proofs.Joined.{member_of}
+use Rattle.rb_history.proofs.Words.{escape_byte, account_json, codes}
+use Rattle.rb_history.proofs.Plain.{member_of}
 use Rattle.rb_history.proofs.fast.event.parse_statement.Goals as goal
 
 pub returns : goal.returns

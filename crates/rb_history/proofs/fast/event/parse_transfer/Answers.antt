@@ -1,6 +1,6 @@
-use Rattle.rb_history.proofs.Words.{◌≡◌, ◌++◌, List, ℕ, codes, decimal, ap, ◌∙◌, append_assoc, escape_byte, account_behind_quote}
-use Rattle.rb_history.proofs.Words.{account_json, number_json, three_json}
-use Rattle.rb_history.proofs.Joined.{member_of}
+use Rattle.rb_history.proofs.Words.{escape_byte, account_behind_quote, account_json, number_json, three_json, List, ap, append_assoc, codes}
+use Rattle.rb_history.proofs.Words.{decimal, ℕ, ◌++◌, ◌∙◌, ◌≡◌}
+use Rattle.rb_history.proofs.Plain.{member_of}
 use Rattle.rb_history.proofs.fast.event.parse_transfer.Goals as goal
 
 transfer_written : (text from to amount more rest : List ℕ) → text ≡ (codes "transfer\":[\"" ++ (from ++ codes ",\"")) ++ more

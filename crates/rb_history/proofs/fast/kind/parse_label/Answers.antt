@@ -1,4 +1,4 @@
-use Rattle.rb_history.proofs.Joined.{label_written}
+use Rattle.rb_history.proofs.Plain.{label_written}
 use Rattle.rb_history.proofs.fast.kind.parse_label.Goals as goal
 
 pub returns : goal.returns

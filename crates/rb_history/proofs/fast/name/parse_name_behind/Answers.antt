@@ -1,5 +1,5 @@
 use Rattle.std.proofs.Common.{◌++◌, ap, ◌∙◌}
-use Rattle.rb_history.proofs.Joined.{name_written}
+use Rattle.rb_history.proofs.Plain.{name_written}
 use Rattle.rb_history.proofs.fast.name.parse_name_behind.Goals as goal
 
 pub returns : goal.returns

@@ -1,5 +1,5 @@
 use Rattle.std.proofs.Common.{append_assoc}
-use Rattle.rb_history.proofs.Joined.{name_written}
+use Rattle.rb_history.proofs.Plain.{name_written}
 use Rattle.rb_history.proofs.fast.name.parse_name_between.Goals as goal
 
 pub returns : goal.returns

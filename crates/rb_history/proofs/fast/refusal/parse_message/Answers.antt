@@ -1,7 +1,7 @@
-use Rattle.rb_history.proofs.Numerals.{seventeen}
+use Rattle.rb_history.proofs.Plain.{numerals}
 use Rattle.json.specs.Print.{escape_byte}
 use Rattle.rb_history.proofs.fast.refusal.parse_message.Goals as goal
 
 pub returns : goal.returns
 unfolding escape_byte
-returns c = (c.in_ok-why.ensures.0, rw seventeen c.in_ok-why.ensures.1)
+returns c = (c.in_ok-why.ensures.0, rw numerals.3 c.in_ok-why.ensures.1)

@@ -1,6 +1,6 @@
-use Rattle.rb_history.proofs.Words.{◌≡◌, ◌++◌, ◌∷◌, [], codes, ap, ◌∙◌, rules, name_json, IsName}
-use Rattle.rb_history.proofs.Joined.{name_written}
-use Rattle.rb_history.proofs.ListRead.{all_read, each_more, one_more}
+use Rattle.rb_history.proofs.Words.{name_json, IsName, [], ap, codes, rules, ◌++◌, ◌∙◌, ◌∷◌, ◌≡◌}
+use Rattle.rb_history.proofs.Plain.{name_written}
+use Rattle.rb_history.proofs.Reading.{all_read, each_more, one_more}
 use Rattle.rb_history.proofs.fast.reply.parse_list.Goals as goal
 
 pub loop-init : goal.loop-init

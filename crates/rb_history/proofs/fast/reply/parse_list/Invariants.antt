@@ -1,5 +1,5 @@
-use Rattle.rb_history.proofs.Words.{Utf8, shadow, name_json, IsName, Each}
-use Rattle.rb_history.proofs.ListRead.{BeginsWith}
+use Rattle.rb_history.proofs.Words.{Each, name_json, IsName, shadow, Utf8}
+use Rattle.rb_history.proofs.Reading.{BeginsWith}
 use Rattle.rb_history.proofs.fast.reply.parse_list.Given as goal
 
 abbrev pub invariant-loop : goal.invariant-loop

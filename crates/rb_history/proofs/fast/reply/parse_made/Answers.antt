@@ -1,5 +1,5 @@
-use Rattle.rb_history.proofs.Words.{◌++◌, codes, name_text, word_of, behind_quote, escape_byte}
-use Rattle.rb_history.proofs.Joined.{between}
+use Rattle.rb_history.proofs.Words.{escape_byte, behind_quote, word_of, name_text, codes, ◌++◌}
+use Rattle.rb_history.proofs.Plain.{between}
 use Rattle.rb_history.proofs.fast.reply.parse_made.Goals as goal
 
 pub returns : goal.returns

@@ -1,5 +1,5 @@
-use Rattle.rb_history.proofs.Words.{codes, false, map, escape_byte, items_of, items_text, name_json}
-use Rattle.rb_history.proofs.Joined.{between}
+use Rattle.rb_history.proofs.Words.{escape_byte, name_json, items_of, items_text, codes, false, map}
+use Rattle.rb_history.proofs.Plain.{between}
 use Rattle.rb_history.proofs.fast.reply.parse_names.Goals as goal
 
 pub returns : goal.returns

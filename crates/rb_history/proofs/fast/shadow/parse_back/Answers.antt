@@ -1,6 +1,6 @@
-use Rattle.rb_history.proofs.Words.{◌≡◌, ◌++◌, List, ℕ, true, codes, decimal, ap, ◌∙◌, sym, append_assoc, escape_byte, members_text}
-use Rattle.rb_history.proofs.Words.{name_text, word_of, last_members, behind_quote}
-use Rattle.rb_history.proofs.Joined.{name_written}
+use Rattle.rb_history.proofs.Words.{escape_byte, behind_quote, last_members, word_of, name_text, members_text, List, ap, append_assoc}
+use Rattle.rb_history.proofs.Words.{codes, decimal, sym, true, ℕ, ◌++◌, ◌∙◌, ◌≡◌}
+use Rattle.rb_history.proofs.Plain.{name_written}
 use Rattle.rb_history.proofs.fast.shadow.parse_back.Goals as goal
 
 back_text : (red home kind name last rest : List ℕ)

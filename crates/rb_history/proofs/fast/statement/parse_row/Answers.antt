@@ -1,7 +1,6 @@
-use Rattle.rb_history.proofs.Words.{◌≡◌, to_z, of_z, w64, rules, ◌++◌, List, ℕ, codes, decimal, ap, sym, ◌∙◌, append_assoc, signed_decimal}
-use Rattle.rb_history.proofs.Words.{token_text, boolean, name_text, word_of, behind_quote}
-use Rattle.rb_history.proofs.Numerals.{integer_text}
-use Rattle.rb_history.proofs.Joined.{name_written}
+use Rattle.rb_history.proofs.Words.{token_text, boolean, behind_quote, word_of, name_text, List, ap, append_assoc, codes, decimal, of_z}
+use Rattle.rb_history.proofs.Words.{rules, sym, to_z, w64, ℕ, ◌++◌, ◌∙◌, ◌≡◌, signed_decimal}
+use Rattle.rb_history.proofs.Plain.{integer_text, name_written}
 use Rattle.rb_history.proofs.fast.statement.parse_row.Goals as goal
 
 row_text : (position name kind moved cancelled balance rest : List ℕ)

@@ -1,5 +1,5 @@
-use Rattle.rb_history.proofs.Words.{◌≡◌, ◌++◌, ◌∷◌, [], rules, row_json, IsStatementRow}
-use Rattle.rb_history.proofs.ListRead.{all_read, each_more, one_more}
+use Rattle.rb_history.proofs.Words.{IsStatementRow, row_json, [], rules, ◌++◌, ◌∷◌, ◌≡◌}
+use Rattle.rb_history.proofs.Reading.{all_read, each_more, one_more}
 use Rattle.rb_history.proofs.fast.statement.parse_rows.Goals as goal
 
 pub loop-init : goal.loop-init

@@ -1,5 +1,5 @@
-use Rattle.rb_history.proofs.Words.{Utf8, shadow, row_json, Each, IsStatementRow}
-use Rattle.rb_history.proofs.ListRead.{BeginsWith}
+use Rattle.rb_history.proofs.Words.{Each, IsStatementRow, row_json, shadow, Utf8}
+use Rattle.rb_history.proofs.Reading.{BeginsWith}
 use Rattle.rb_history.proofs.fast.statement.parse_rows.Given as goal
 
 abbrev pub invariant-loop : goal.invariant-loop

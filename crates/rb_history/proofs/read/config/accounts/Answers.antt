@@ -1,8 +1,7 @@
-use Rattle.rb_history.proofs.Words.{ap, arith, refl, rules, map, items_view, view, accounts_in}
+use Rattle.rb_history.proofs.Words.{accounts_in, items_view, view, ap, arith, refl, rules, map}
 use Rattle.rb_money.specs.Faults.{account_of}
 use Rattle.rb_history.specs.Configurations.{account_at}
-use Rattle.rb_history.proofs.Reading.{nothing_read}
-use Rattle.rb_history.proofs.ItemsRead.{all_items_read, one_more_read}
+use Rattle.rb_history.proofs.Reading.{nothing_read, all_items_read, one_more_read}
 use Rattle.rb_history.proofs.read.config.accounts.Goals as goal
 
 pub loop-item-init : goal.loop-item-init

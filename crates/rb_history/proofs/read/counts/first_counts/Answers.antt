@@ -1,6 +1,6 @@
-use Rattle.rb_history.proofs.Words.{◌≡◌, ℕ, List, Some, None, length, ap, sym, ◌∙◌, rules, ◌==◌, if◌then◌else◌}
-use Rattle.rb_history.proofs.Words.{option_and_then, MOST_SITES_OF_VERSION_1, as_array, items_view, view, counts_in}
-use Rattle.rb_history.proofs.CountsLength.{other_length}
+use Rattle.rb_history.proofs.Words.{counts_in, MOST_SITES_OF_VERSION_1, as_array, items_view, view, List, None, Some, ap, length, rules}
+use Rattle.rb_history.proofs.Words.{sym, ℕ, ◌==◌, ◌∙◌, ◌≡◌, if◌then◌else◌, option_and_then}
+use Rattle.rb_history.proofs.SiteCounts.{other_length}
 use Rattle.rb_history.proofs.read.counts.first_counts.Goals as goal
 
 pub returns-then-len-ne-MOST_SITES_OF_VERSION_1 : goal.returns-then-len-ne-MOST_SITES_OF_VERSION_1

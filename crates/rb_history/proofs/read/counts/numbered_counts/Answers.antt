@@ -1,6 +1,6 @@
-use Rattle.rb_history.proofs.Words.{Some, take, [], ap, sym, ◌∙◌, arith, refl, rules, drop_all, items_view, numbered_in}
+use Rattle.rb_history.proofs.Words.{numbered_in, items_view, Some, [], ap, arith, refl, rules, sym, take, ◌∙◌, drop_all}
 use Rattle.rb_history.proofs.Reading.{item_here, nothing_read, with_front}
-use Rattle.rb_history.proofs.Numbered.{all_read, none_behind, value_read}
+use Rattle.rb_history.proofs.SiteCounts.{all_read, none_behind, value_read}
 use Rattle.rb_history.proofs.read.counts.numbered_counts.Goals as goal
 
 pub loop-item-init : goal.loop-item-init

@@ -1,6 +1,5 @@
-use Rattle.rb_history.proofs.Words.{arith, refl, rules, items_view, view, request_alone, requests_in}
-use Rattle.rb_history.proofs.Reading.{nothing_read}
-use Rattle.rb_history.proofs.ItemsRead.{all_items_read, one_more_read}
+use Rattle.rb_history.proofs.Words.{request_alone, requests_in, items_view, view, arith, refl, rules}
+use Rattle.rb_history.proofs.Reading.{nothing_read, all_items_read, one_more_read}
 use Rattle.rb_history.proofs.read.request.requests.Goals as goal
 
 pub loop-item-init : goal.loop-item-init

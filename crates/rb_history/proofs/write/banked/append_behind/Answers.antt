@@ -1,5 +1,5 @@
 use Rattle.std.proofs.Common.{◌∙◌}
-use Rattle.rb_history.proofs.BankText.{comma_first}
+use Rattle.rb_history.proofs.Banked.{comma_first}
 use Rattle.rb_history.proofs.write.banked.append_behind.Goals as goal
 
 pub returns : goal.returns

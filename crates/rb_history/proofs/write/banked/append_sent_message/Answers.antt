@@ -1,6 +1,5 @@
-use Rattle.rb_history.proofs.Words.{◌∙◌, ◌++◌, List, ℕ, codes, sym, ap, members_text, true, receipt_member, between_if_any}
-use Rattle.rb_history.proofs.BankText.{sent_line}
-use Rattle.rb_history.proofs.Banked.{some_name}
+use Rattle.rb_history.proofs.Words.{receipt_member, between_if_any, members_text, List, ap, codes, sym, true, ℕ, ◌++◌, ◌∙◌}
+use Rattle.rb_history.proofs.Banked.{sent_line, some_name}
 use Rattle.rb_history.proofs.Public.Appended.{then}
 use Rattle.rb_history.proofs.write.banked.append_sent_message.Goals as goal
 

@@ -1,8 +1,7 @@
-use Rattle.rb_history.proofs.Words.{ap, length, add-one, arith, rules, map, accounts_of, start_json}
+use Rattle.rb_history.proofs.Words.{accounts_of, start_json, add-one, ap, arith, length, rules, map}
 use Rattle.rb_history.proofs.Public.Appended.{then}
-use Rattle.rb_history.proofs.Public.Listed.{item_written, items_written, whole_text}
-use Rattle.rb_history.proofs.Starts.{drop_accounts, few_accounts}
-use Rattle.rb_history.proofs.Behind.{failed_behind, front_more}
+use Rattle.rb_history.proofs.Public.Listed.{item_written, items_written, whole_text, failed_behind, front_more}
+use Rattle.rb_history.proofs.ConfigBack.{drop_accounts, few_accounts}
 use Rattle.rb_history.proofs.write.config.append_accounts.Goals as goal
 
 pub loop-place-preserved : goal.loop-place-preserved

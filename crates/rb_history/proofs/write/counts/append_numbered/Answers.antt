@@ -1,6 +1,6 @@
-use Rattle.rb_history.proofs.Words.{codes, get_or, ap, add-one, drop-cons, arith, rules, map, numbered_json}
-use Rattle.rb_history.proofs.Behind.{failed_behind, front_more, list_behind}
-use Rattle.rb_history.proofs.Numbered.{numbered_end, one_written}
+use Rattle.rb_history.proofs.Words.{numbered_json, add-one, ap, arith, codes, drop-cons, get_or, rules, map}
+use Rattle.rb_history.proofs.Public.Listed.{failed_behind, front_more, list_behind}
+use Rattle.rb_history.proofs.SiteCounts.{numbered_end, one_written}
 use Rattle.rb_history.proofs.write.counts.append_numbered.Goals as goal
 
 pub loop-site-preserved : goal.loop-site-preserved

@@ -1,5 +1,5 @@
 use Rattle.rb_history.proofs.Words.{append_assoc, sym}
-use Rattle.rb_history.proofs.AskedText.{line_parts}
+use Rattle.rb_history.proofs.Receipts.{line_parts}
 use Rattle.rb_history.proofs.Public.Appended.{both, failed, then}
 use Rattle.rb_history.proofs.write.entry.append_entry.Goals as goal
 

@@ -1,6 +1,5 @@
-use Rattle.rb_history.proofs.Words.{codes, add-one, drop-cons, arith, rules, escape_byte, request_json}
-use Rattle.rb_history.proofs.Public.Listed.{item_written, list_between}
-use Rattle.rb_history.proofs.Behind.{failed_behind, front_more}
+use Rattle.rb_history.proofs.Words.{escape_byte, request_json, add-one, arith, codes, drop-cons, rules}
+use Rattle.rb_history.proofs.Public.Listed.{item_written, list_between, failed_behind, front_more}
 use Rattle.rb_history.proofs.write.event.append_requests.Goals as goal
 
 pub loop-request-preserved : goal.loop-request-preserved

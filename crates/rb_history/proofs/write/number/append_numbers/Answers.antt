@@ -1,6 +1,5 @@
-use Rattle.rb_history.proofs.Words.{◌++◌, ◌∙◌, [], ap, codes, cond, decimal, drop_all, arith, map, number_json}
-use Rattle.rb_history.proofs.Public.Listed.{item_written}
-use Rattle.rb_history.proofs.Behind.{failed_behind, front_more, list_behind}
+use Rattle.rb_history.proofs.Words.{number_json, [], ap, arith, codes, cond, decimal, ◌++◌, ◌∙◌, drop_all, map}
+use Rattle.rb_history.proofs.Public.Listed.{item_written, failed_behind, front_more, list_behind}
 use Rattle.rb_history.proofs.Reading.{item_here}
 use Rattle.rb_history.proofs.write.number.append_numbers.Goals as goal
 

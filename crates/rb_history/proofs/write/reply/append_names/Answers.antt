@@ -1,7 +1,6 @@
-use Rattle.rb_history.proofs.Words.{◌++◌, [], ap, codes, cond, add-one, drop-cons, arith, escape_byte, Blue, name_json, map}
+use Rattle.rb_history.proofs.Words.{escape_byte, name_json, Blue, [], add-one, ap, arith, codes, cond, drop-cons, ◌++◌, map}
 use Rattle.rb_history.proofs.Public.Appended.{failed_first, front_of_sum}
-use Rattle.rb_history.proofs.Public.Listed.{item_written, list_between, rest_text}
-use Rattle.rb_history.proofs.Behind.{failed_behind, front_more}
+use Rattle.rb_history.proofs.Public.Listed.{item_written, list_between, rest_text, failed_behind, front_more}
 use Rattle.rb_history.proofs.write.reply.append_names.Goals as goal
 
 pub loop-name-init : goal.loop-name-init

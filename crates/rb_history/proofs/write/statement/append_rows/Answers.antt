@@ -1,8 +1,7 @@
-use Rattle.rb_history.proofs.Words.{◌++◌, ◌∙◌, codes, decimal, add-one, ap, append_assoc, drop-cons, arith, refl, sym}
-use Rattle.rb_history.proofs.Words.{take-length, map, row_json, []}
+use Rattle.rb_history.proofs.Words.{row_json, [], add-one, ap, append_assoc, arith, codes, decimal, drop-cons, refl, sym, ◌++◌, ◌∙◌}
+use Rattle.rb_history.proofs.Words.{take-length, map}
 use Rattle.rb_history.proofs.Public.Appended.{then}
-use Rattle.rb_history.proofs.Public.Listed.{rest_text, whole_text, item_written, items_written}
-use Rattle.rb_history.proofs.Behind.{failed_behind, front_more}
+use Rattle.rb_history.proofs.Public.Listed.{rest_text, whole_text, item_written, items_written, failed_behind, front_more}
 use Rattle.rb_history.proofs.write.statement.append_rows.Goals as goal
 
 pub loop-row-init : goal.loop-row-init

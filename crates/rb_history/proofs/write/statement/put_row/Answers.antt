@@ -1,7 +1,6 @@
-use Rattle.rb_history.proofs.Words.{◌≡◌, ◌++◌, [], cond, codes, decimal, append_assoc, ap, ◌∙◌, sym, List, ℕ, signed_decimal, token_text}
-use Rattle.rb_history.proofs.Words.{quoted, boolean, name_text, word_of}
-use Rattle.rb_history.proofs.Numerals.{integer_text}
-use Rattle.rb_history.proofs.Plain.{quoted_label}
+use Rattle.rb_history.proofs.Words.{quoted, token_text, boolean, word_of, name_text, List, [], ap, append_assoc, codes, cond, decimal, sym}
+use Rattle.rb_history.proofs.Words.{ℕ, ◌++◌, ◌∙◌, ◌≡◌, signed_decimal}
+use Rattle.rb_history.proofs.Plain.{integer_text, quoted_label}
 use Rattle.rb_history.proofs.Put.{placed_is, placed_then}
 use Rattle.rb_history.proofs.write.statement.put_row.Goals as goal
 

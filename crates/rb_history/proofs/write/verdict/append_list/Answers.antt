@@ -1,8 +1,7 @@
-use Rattle.rb_history.proofs.Words.{false, items_of, items_text, ◌++◌, ◌∙◌, [], ap, codes, add-one, drop-cons, drop_all}
-use Rattle.rb_history.proofs.Words.{arith, append_assoc, append-nil, map, Blue, name_json, sym}
+use Rattle.rb_history.proofs.Words.{name_json, Blue, items_of, items_text, [], add-one, ap, append-nil, append_assoc, arith, codes}
+use Rattle.rb_history.proofs.Words.{drop-cons, false, sym, ◌++◌, ◌∙◌, drop_all, map}
 use Rattle.rb_history.proofs.Public.Appended.{front_of_sum}
-use Rattle.rb_history.proofs.Public.Listed.{item_written, rest_text}
-use Rattle.rb_history.proofs.Behind.{failed_behind, front_more, list_behind}
+use Rattle.rb_history.proofs.Public.Listed.{item_written, rest_text, failed_behind, front_more, list_behind}
 use Rattle.rb_history.proofs.write.verdict.append_list.Goals as goal
 
 pub loop-name-init : goal.loop-name-init

@@ -1,7 +1,6 @@
-use Rattle.rb_history.proofs.Words.{◌++◌, ◌∙◌, ap, codes, arith, rules, escape_byte, compact_text, list_json, name_json}
+use Rattle.rb_history.proofs.Words.{escape_byte, list_json, name_json, compact_text, ap, arith, codes, rules, ◌++◌, ◌∙◌}
 use Rattle.std.proofs.lemmas.Simd.{map-map}
-use Rattle.rb_history.proofs.Public.Listed.{item_written, list_between}
-use Rattle.rb_history.proofs.Behind.{failed_behind, front_more}
+use Rattle.rb_history.proofs.Public.Listed.{item_written, list_between, failed_behind, front_more}
 use Rattle.rb_history.proofs.Reading.{item_here}
 use Rattle.rb_history.proofs.write.verdict.append_open.Goals as goal
 
