@@ -34,16 +34,11 @@ pub replays : (s : Settings) (i : ℕ) (n : Notes) (ms : List Message) → IsJud
     → IsReplay s i (entries_noted n)
 replays s i n ms j whole = subst (IsReplay s i) (take_all (length n.steps.items) (entries_noted n) (omega arith)) j.replays
 
--- the notes of a history
-notes_of : (ns : List Notes) (i : ℕ) (h : List Entry) → slice_get (histories_in ns) i ≡ Some h
-    → (n : Notes) × (slice_get ns i ≡ Some n) × (entries_noted n ≡ h)
-notes_of ns i h at = let m = map_back entries_noted ns i h at in (m.0, m.1, sym m.2)
-
 -- if that is so of each history, all replay
 pub all_replay : {s : Settings} {ns : List Notes} {ms : List Message} → AreJudged s ns ms → AreWhole ns
     → AreReplays s (histories_in ns)
 all_replay {s} {ns} {ms} all whole i h at =
-    let n = notes_of ns i h at in subst (IsReplay s i) n.2 (replays s i n.0 ms (all.each i n.0 n.1) (whole i n.0 n.1))
+    let (n, there, is) = map_back entries_noted ns i h at in rw is (replays s i n ms (all.each i n there) (whole i n there))
 
 -- and before any entry is taken all is as a world could have it
 pub first_taken : {s : Settings} {ns : List Notes} {ms : List Message} → AreJudged s ns ms → AreWhole ns
@@ -69,30 +64,22 @@ whole_more ns k n old at whole i m less there = elim (same_number k i) [
 pub wrong_found : (s : Settings) (ns : List Notes) (ms : List Message) (k : ℕ) (n : Notes) → AreJudged s ns ms → WholeBelow ns k
     → slice_get ns k ≡ Some n → ¬ (length n.steps.items ≡ length (entries_noted n))
     → IsFirstWrong s (histories_in ns) k (length n.steps.items + 1)
-wrong_found s ns ms k n all below at not = record {
-  below = λ i h less there.
-      (let m = notes_of ns i h there in
-      subst (IsReplay s i) m.2 (replays s i m.0 ms (all.each i m.0 m.1) (below i m.0 less m.1)));
-  history = entries_noted n;
-  there = map_at entries_noted ns k n at;
-  before = subst (λ l. IsReplay s k (take l (entries_noted n))) (let q : length n.steps.items ≡ length n.steps.items + 1 - 1 =
-      omega arith in q)
-      judged.replays;
-  wrong = judged.wrong (let within : length n.steps.items ≤ length (entries_noted n) = judged.within in omega (arith, not));
-}
-  where
-    judged : IsJudged s k n ms
-    judged = all.each k n at
+wrong_found s ns ms k n all below at not =
+    let judged = all.each k n at in
+    let back : length n.steps.items + 1 - 1 ≡ length n.steps.items = omega arith in
+    record {
+      below = λ i h less there. (let (m, here, is) = map_back entries_noted ns i h there in
+          rw is (replays s i m ms (all.each i m here) (below i m less here)));
+      history = entries_noted n;
+      there = map_at entries_noted ns k n at;
+      before = rw back judged.replays;
+      wrong = judged.wrong (omega (arith, not, judged.within));
+    }
 
 -- there are no more steps than a history may have entries
 pub steps_few : (s : Settings) (i : ℕ) (n : Notes) (ms : List Message) → IsConfigured s → IsJudged s i n ms
     → length n.steps.items ≤ MOST_HISTORY
-steps_few s i n ms c j =
-    let taken : length (take (length n.steps.items) (entries_noted n)) ≡ length n.steps.items =
-    length-take-le (length n.steps.items) (entries_noted n) j.within in
-    let room : length (take (length n.steps.items) (entries_noted n)) ≤ s.limits.history = j.replays.room in
-    let most : s.limits.history ≤ MOST_HISTORY = c.history.1 in
-    omega arith
+steps_few s i n ms c j = omega (arith, length-take-le (length n.steps.items) (entries_noted n) j.within, j.replays.room)
 
 -- ---- the next entry, as the code reads it
 
@@ -108,12 +95,11 @@ pub read : {p : Progress} {ns : List Notes} {ms : List Message} {i t : ℕ} {n :
     → IsTaking p → AreJudged p.settings ns ms → AreWhole ns → i < length ns → t ≡ get_or p.taken i t → n ≡ get_or ns i n
     → IsReadAt p ms i t n
 read {p} {ns} {ms} {i} {t} {n} is v all whole less e f =
-    let many : length p.histories ≡ length ns = ap length is ∙ length-map ns entries_noted in
-    let here : slice_get ns i ≡ Some n = slice_get_read ns (length ns) i n refl less f in
-    let counts : length p.taken ≡ length p.histories = v.counts in
+    let here = slice_get_read ns (length ns) i n refl less f in
+    let within : i < length p.taken = omega (arith, ap length is, length-map ns entries_noted) in
     record {
-      there = ap (λ hs. slice_get hs i) is ∙ map_at entries_noted ns i n here;
-      at = slice_get_read p.taken (length p.taken) i t refl (omega arith) e;
+      there = cc (map_at entries_noted ns i n here);
+      at = slice_get_read p.taken (length p.taken) i t refl within e;
       steps = (all.each i n here).steps;
       whole = whole i n here;
     }
@@ -121,21 +107,18 @@ read {p} {ns} {ms} {i} {t} {n} is v all whole less e f =
 -- a place of the histories that a client sees is one of the notes
 pub has_notes : {p q : Progress} (ns : List Notes) {i : ℕ} → p ≡ q → p.histories ≡ histories_in ns
     → i < length q.histories → i < length ns
-has_notes ns {i = i} same is less =
-    subst (λ n. i < n) (ap (λ (r : Progress). length r.histories) (sym same) ∙ ap length is ∙ length-map ns entries_noted) less
+has_notes ns same is less =
+    omega (arith, ap (λ (r : Progress). length r.histories) same, ap length is, length-map ns entries_noted)
 
 -- and there it is known how many entries were taken
 pub has_taken : {p : Progress} (ns : List Notes) {i len : ℕ} → IsTaking p → p.histories ≡ histories_in ns
     → len ≡ length p.taken → i < length ns → i < len
-has_taken ns {i = i} v is e less =
-    subst (λ n. i < n) (sym (length-map ns entries_noted) ∙ ap length (sym is) ∙ sym v.counts ∙ sym e) less
+has_taken ns v is e less = omega (arith, ap length is, length-map ns entries_noted)
 
 -- a site rests whose entries were all taken
 pub rests_past : {p : Progress} {ms : List Message} {i t : ℕ} {n : Notes} → IsReadAt p ms i t n
     → length n.steps.items ≤ t → Rests p i
-rests_past {p} {ms} {i} {t} {n} r past =
-    Resting.rests_past p i t (entries_noted n) r.there r.at (let whole : length n.steps.items ≡ length (entries_noted n) = r.whole
-    in omega arith)
+rests_past {p} {ms} {i} {t} {n} r past = Resting.rests_past p i t (entries_noted n) r.there r.at (omega arith)
 
 -- the next entry and its step
 pub record IsNextStep (p : Progress) (ms : List Message) (i t : ℕ) (n : Notes) (step : Step) : Type 0 where
@@ -147,9 +130,7 @@ pub record IsNextStep (p : Progress) (ms : List Message) (i t : ℕ) (n : Notes)
 pub next_step : {p : Progress} {ms : List Message} {i t : ℕ} {n : Notes} {step : Step} → IsReadAt p ms i t n
     → slice_get n.steps.items t ≡ Some step → IsNextStep p ms i t n step
 next_step {p} {ms} {i} {t} {n} {step} r at =
-    let less : t < length n.steps.items = slice_get_within n.steps.items t step at in
-    let whole : length n.steps.items ≡ length (entries_noted n) = r.whole in
-    let x = Lists.item_at (entries_noted n) t (omega arith) in
+    let x = Lists.item_at (entries_noted n) t (omega (arith, slice_get_within n.steps.items t step at)) in
     record { entry = x.0; next = x.1; says = r.steps t x.0 step x.1 at }
 
 -- the places of a step are among the messages
@@ -196,12 +177,10 @@ DoneBelow p n =
 pub done_more : (p : Progress) → IsTaking p → (j t : ℕ) (g : List Entry) → slice_get p.histories j ≡ Some g
     → slice_get p.taken j ≡ Some t → length g ≤ t → DoneBelow p j → DoneBelow p (j + 1)
 done_more p v j t g there place past old i k h less at taken = elim (same_number j i) [
-  | inl e ↦
-      let size : length g ≡ length h = cc (there, e, at) in
-      let is : t ≡ k = cc (place, e, taken) in
-      let within : k ≤ length h = v.within i k h at taken in
-      omega arith
-  | inr ne ↦ old i k h (let q : i < j + 1 = less in omega (arith, ne)) at taken
+  | inl e ↦ (let is : t ≡ k = cc (place, taken) in
+      let same : g ≡ h = cc (there, at) in
+      omega (arith, ap length same, v.within i k h at taken))
+  | inr ne ↦ old i k h (omega (arith, less, ne)) at taken
 ]
 
 -- no more entries were taken than a history may have
@@ -209,6 +188,5 @@ pub taken_fits : (p : Progress) (ks : List ℕ) (i : ℕ) → IsTaking p → IsC
     → i < length ks → get_or ks i 0 ≤ MOST_HISTORY
 taken_fits p ks i v c same less =
     let at : slice_get p.taken i ≡ Some (get_or ks i 0) = rw (← same) (slice_get-get_or ks i 0 less) in
-    let n : length ks ≡ length p.taken = ap length same in
-    let (h, there) = Lists.item_at p.histories i (omega (arith, v.counts)) in
+    let (h, there) = Lists.item_at p.histories i (omega (arith, v.counts, ap length same)) in
     omega (arith, v.within i (get_or ks i 0) h there at, (v.replays i h there).room, c.history.1)

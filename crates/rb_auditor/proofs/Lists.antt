@@ -1,6 +1,6 @@
 -- Histories and how many entries of each were taken, place by place.
-use Rattle.std.proofs.Common.{◌≡◌, ℕ, zero, suc, ◌+◌, ◌<◌, ◌≤◌, List, [], ◌∷◌, ◌++◌, length, take, drop, refl, ap, sym, ◌∙◌, arith}
-use Rattle.std.proofs.Common.{Option, Some, ◌⊎◌, inl, inr}
+use Rattle.std.proofs.Common.{◌≡◌, ℕ, zero, suc, ◌+◌, ◌<◌, ◌≤◌, List, [], ◌∷◌, ◌++◌, length, take, drop, refl, ap, sym, ◌∙◌, arith, add-one}
+use Rattle.std.proofs.Common.{Option, Some, ◌⊎◌, inl, inr, add-zero, ◌≢◌}
 use Rattle.std.specs.Prelude.{map, replicate, slice_get, slice_set}
 use Rattle.std.specs.List.{range_with_len}
 use Rattle.std.proofs.lemmas.List.{length-take-le}
@@ -8,6 +8,7 @@ use Rattle.std.proofs.lemmas.List.FromFn.{get_or-map-range_with_len, length-map-
 use Rattle.std.proofs.lemmas.Option.{get_or_from_slice_get, slice_get_within}
 use Rattle.rb_money.specs.Settings.{Settings}
 use Rattle.rb_site.specs.declared.entry.Entry.{Entry}
+use Rattle.rb_site.proofs.Public.Places
 use Rattle.rb_site.specs.Events.{ModelSite, first_site}
 use Rattle.rb_auditor.specs.Progress.{fronts_of, left_of, site_after, sites_after}
 
@@ -25,18 +26,11 @@ pub record IsSplit {A : Type 0} (xs : List A) (k : ℕ) (x : A) : Type 0 where
 -- a list is split around the item that is found at a place
 pub split_at : {A : Type 0} (xs : List A) (k : ℕ) (x : A) → slice_get xs k ≡ Some x → IsSplit xs k x
 split_at [] k x h = cc
-split_at (y ∷ ys) zero x h =
-    record { rest = ys; whole = cc; more = cc; dropped = cc; within = omega arith; front = refl }
+split_at (y ∷ ys) zero x h = record { rest = ys; whole = cc; more = cc; dropped = cc; within = omega arith; front = refl }
 split_at (y ∷ ys) (suc k) x h =
-    let i : IsSplit ys k x = split_at ys k x h in
-    record {
-      rest = i.rest;
-      whole = ap (λ zs. y ∷ zs) i.whole;
-      more = ap (λ n. take n (y ∷ ys)) (let q : suc k + 1 ≡ suc (k + 1) = omega arith in q) ∙ ap (λ zs. y ∷ zs) i.more;
-      dropped = i.dropped;
-      within = omega arith;
-      front = ap suc i.front;
-    }
+    let i = split_at ys k x h in
+    let more : take (suc k + 1) (y ∷ ys) ≡ (y ∷ take k ys) ++ x ∷ [] = rw (add-one (suc k)) (cc (add-one k)) in
+    record { rest = i.rest; whole = cc; more = more; dropped = i.dropped; within = omega arith; front = cc }
 
 -- what is found in a list of zeros is 0
 pub get_zero : (n i k : ℕ) → slice_get (replicate n 0) i ≡ Some k → k ≡ 0
@@ -48,10 +42,8 @@ get_zero (suc n) (suc i) k h = get_zero n i k h
 pub at_number : {A : Type 0} (f : ℕ → A) (n i : ℕ) (x : A) → slice_get (map f (range_with_len 0 n)) i ≡ Some x
     → (i < n) × (x ≡ f i)
 at_number f n i x at =
-    let many : length (map f (range_with_len 0 n)) ≡ n = length-map-range_with_len f 0 n in
-    let within : i < length (map f (range_with_len 0 n)) = slice_get_within _ i x at in
-    let less : i < n = omega arith in
-    (less, sym (get_or_from_slice_get _ i x x at) ∙ get_or-map-range_with_len f 0 n i i x less (omega arith))
+    let less : i < n = omega (arith, slice_get_within _ i x at, length-map-range_with_len f 0 n) in
+    (less, cc (get_or_from_slice_get _ i x x at, get_or-map-range_with_len f 0 n i i x less (omega arith)))
 
 -- what two looks at one place give is one thing
 pub same_item : {A : Type 0} (o : Option A) (x y : A) → o ≡ Some x → o ≡ Some y → x ≡ y
@@ -78,10 +70,15 @@ before_or_last (z ∷ xs) x y (suc k) h = elim (before_or_last xs x y k h) [ inl
 
 -- a shorter prefix isn't the whole list
 pub not_whole : {A : Type 0} (k : ℕ) (xs : List A) → k < length xs → take k xs ≡ xs → ⊥
-not_whole k xs less e =
-    let shorter : length (take k xs) ≡ k = length-take-le k xs (omega arith) in
-    let same : length (take k xs) ≡ length xs = ap length e in
-    omega arith
+not_whole k xs less e = omega (arith, length-take-le k xs (omega arith), ap length e)
+
+-- what holds of the item that is put at a place, and of those at the others, holds of each
+pub each_set : {A : Type 0} (xs : List A) (i : ℕ) (x y : A) (P : ℕ → A → Type 0) → slice_get xs i ≡ Some x → P i y
+    → ((j : ℕ) (z : A) → j ≢ i → slice_get xs j ≡ Some z → P j z) → (j : ℕ) (z : A) → slice_get (slice_set xs i y) j ≡ Some z → P j z
+each_set xs i x y P at here others j z there = elim (Places.same_number i j) [
+  | inl e ↦ (let same : z ≡ y = cc (Places.get_set_same xs i x y at, e, there) in rw (e, same) here)
+  | inr ne ↦ others j z ne (cc (Places.get_set_other xs i j y ne, there))
+]
 
 -- ---- sites
 
@@ -90,11 +87,7 @@ pub get_site : (s : Settings) (a : ℕ) (hs : List (List Entry)) (ks : List ℕ)
     → slice_get ks i ≡ Some k → slice_get (sites_after s a hs ks) i ≡ Some (site_after s (a + i) (take k h))
 get_site s a [] ks i k h p q = cc
 get_site s a (g ∷ hs) [] i k h p q = cc
-get_site s a (g ∷ hs) (n ∷ ks) zero k h p q =
-    let e : g ≡ h = cc in
-    let f : n ≡ k = cc in
-    let z : a + 0 ≡ a = omega arith in
-    rw (e, f, z)
+get_site s a (g ∷ hs) (n ∷ ks) zero k h p q = cc (add-zero a)
 get_site s a (g ∷ hs) (n ∷ ks) (suc i) k h p q =
     let z : a + suc i ≡ a + 1 + i = omega arith in rw z (get_site s (a + 1) hs ks i k h p q)
 
@@ -112,15 +105,9 @@ pub from_site : (s : Settings) (a : ℕ) (hs : List (List Entry)) (ks : List ℕ
     → slice_get (sites_after s a hs ks) i ≡ Some t → IsMadeOf hs ks i (site_after s (a + i)) t
 from_site s a [] ks i t p = cc
 from_site s a (g ∷ hs) [] i t p = cc
-from_site s a (g ∷ hs) (n ∷ ks) zero t p = record {
-  history = g;
-  taken = n;
-  there = refl;
-  at = refl;
-  is = let z : a + 0 ≡ a = omega arith in rw z cc;
-}
+from_site s a (g ∷ hs) (n ∷ ks) zero t p = record { history = g; taken = n; there = refl; at = refl; is = cc (add-zero a) }
 from_site s a (g ∷ hs) (n ∷ ks) (suc i) t p =
-    let r : IsMadeOf hs ks i (site_after s (a + 1 + i)) t = from_site s (a + 1) hs ks i t p in
+    let r = from_site s (a + 1) hs ks i t p in
     let z : a + suc i ≡ a + 1 + i = omega arith in
     record { history = r.history; taken = r.taken; there = r.there; at = r.at; is = rw z r.is }
 
@@ -128,13 +115,10 @@ from_site s a (g ∷ hs) (n ∷ ks) (suc i) t p =
 pub set_site : (s : Settings) (a : ℕ) (hs : List (List Entry)) (ks : List ℕ) (i n : ℕ) (h : List Entry) → slice_get hs i ≡ Some h
     → sites_after s a hs (slice_set ks i n) ≡ slice_set (sites_after s a hs ks) i (site_after s (a + i) (take n h))
 set_site s a [] ks i n h p = cc
-set_site s a (g ∷ hs) [] zero n h p = refl
-set_site s a (g ∷ hs) [] (suc i) n h p = refl
-set_site s a (g ∷ hs) (k ∷ ks) zero n h p =
-    let e : g ≡ h = cc in let z : a + 0 ≡ a = omega arith in rw (e, z)
+set_site s a (g ∷ hs) [] i n h p = refl
+set_site s a (g ∷ hs) (k ∷ ks) zero n h p = cc (add-zero a)
 set_site s a (g ∷ hs) (k ∷ ks) (suc i) n h p =
-    let z : a + suc i ≡ a + 1 + i = omega arith in
-    ap (λ ts. site_after s a (take k g) ∷ ts) (rw z (set_site s (a + 1) hs ks i n h p))
+    let z : a + suc i ≡ a + 1 + i = omega arith in cc (z, set_site s (a + 1) hs ks i n h p)
 
 -- with no entry taken, the sites are those from a on, each at its beginning
 pub first_sites : (s : Settings) (a : ℕ) (hs : List (List Entry))
@@ -149,8 +133,7 @@ pub get_front : (hs : List (List Entry)) (ks : List ℕ) (i k : ℕ) (h : List E
     → slice_get (fronts_of hs ks) i ≡ Some (take k h)
 get_front [] ks i k h p q = cc
 get_front (g ∷ hs) [] i k h p q = cc
-get_front (g ∷ hs) (n ∷ ks) zero k h p q =
-    let e : g ≡ h = cc in let f : n ≡ k = cc in rw (e, f)
+get_front (g ∷ hs) (n ∷ ks) zero k h p q = cc
 get_front (g ∷ hs) (n ∷ ks) (suc i) k h p q = get_front hs ks i k h p q
 
 -- a prefix that is found at a place comes from the history and the number of entries that are there
@@ -168,8 +151,7 @@ pub whole_fronts : (hs : List (List Entry)) (ks : List ℕ) → length ks ≡ le
     → ((i k : ℕ) (h : List Entry) → slice_get hs i ≡ Some h → slice_get ks i ≡ Some k → take k h ≡ h) → fronts_of hs ks ≡ hs
 whole_fronts [] ks n all = refl
 whole_fronts (h ∷ hs) [] n all = absurd (omega arith)
-whole_fronts (h ∷ hs) (k ∷ ks) n all =
-    ap (λ f. f ∷ fronts_of hs ks) (all 0 k h refl refl) ∙ ap (λ fs. h ∷ fs) (whole_fronts hs ks (omega arith) (λ i. all (suc i)))
+whole_fronts (h ∷ hs) (k ∷ ks) n all = cc (all 0 k h refl refl, whole_fronts hs ks (omega arith) (λ i. all (suc i)))
 
 -- the numbers after the prefixes
 pub next_numbers : (hs : List (List Entry)) (ks : List ℕ) → length ks ≡ length hs
@@ -179,8 +161,7 @@ next_numbers [] [] n all = refl
 next_numbers [] (k ∷ ks) n all = absurd (omega arith)
 next_numbers (h ∷ hs) [] n all = absurd (omega arith)
 next_numbers (h ∷ hs) (k ∷ ks) n all =
-    ap (λ m. (m + 1) ∷ map (λ (k : ℕ). k + 1) ks) (sym (length-take-le k h (all 0 k h refl refl)))
-    ∙ ap (λ ms. (length (take k h) + 1) ∷ ms) (next_numbers hs ks (omega arith) (λ i. all (suc i)))
+    cc (length-take-le k h (all 0 k h refl refl), next_numbers hs ks (omega arith) (λ i. all (suc i)))
 
 -- one entry fewer is left
 pub left_less : (hs : List (List Entry)) (ks : List ℕ) (i k : ℕ) (h : List Entry) → slice_get hs i ≡ Some h → slice_get ks i ≡ Some k

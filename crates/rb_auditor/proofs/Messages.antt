@@ -3,7 +3,7 @@ use Rattle.std.proofs.Common.{◌≡◌, ℕ, suc, ◌+◌, ◌<◌, List, [], �
 use Rattle.std.proofs.Common.{None, Option}
 use Rattle.std.specs.Prelude.{option_map, slice_get}
 use Rattle.std.proofs.lemmas.List.{append-nil, map-append, take_more}
-use Rattle.std.proofs.lemmas.Option.{slice_get-get_or}
+use Rattle.std.proofs.lemmas.Option.{slice_get-get_or, some_pair_parts}
 use Rattle.rb_money.specs.Settings.{Settings}
 use Rattle.rb_site.specs.declared.entry.Entry.{Entry}
 use Rattle.rb_site.specs.declared.event.Event.TheVariants.{Receive}
@@ -53,16 +53,8 @@ not_found ms k d m less before other among =
 
 -- ---- the row and the slot of a message, as the code reads them
 
--- a message's row and slot
-abbrev number : Message → ℕ × ℕ
-number m = (row_of_message m, slot_of m)
-
 -- the row and the slot that are read are those of the message
 pub number_at : (o : Option Message) (m : Message) (row slot : ℕ) → o ≡ Some m
     → option_map {U = ℕ × ℕ} (λ m. (row_of_message m, slot_of m)) o ≡ Some (row, slot)
     → (row_of_message m ≡ row) × (slot_of m ≡ slot)
-number_at None m row slot at is = cc
-number_at (Some n) m row slot at is =
-    let same : m ≡ n = cc in
-    let both : number n ≡ (row, slot) = cc in
-    rw same (ap (λ p. p.0) both, ap (λ p. p.1) both)
+number_at o m row slot found is = some_pair_parts _ _ _ _ (rw found at is)

@@ -1,5 +1,5 @@
 -- Histories that are read one after another.
-use Rattle.std.proofs.Common.{◌≡◌, ℕ, zero, suc, ◌+◌, ◌<◌, ◌≤◌, List, [], ◌∷◌}
+use Rattle.std.proofs.Common.{◌≡◌, ℕ, zero, suc, ◌+◌, ◌<◌, ◌≤◌, List, [], ◌∷◌, add-one}
 use Rattle.std.proofs.Common.{◌++◌, length, refl, ap, ◌∙◌, arith, Some, append_assoc}
 use Rattle.std.specs.Prelude.{replicate, slice_get, slice_set}
 use Rattle.std.proofs.lemmas.List.{append-nil}
@@ -20,19 +20,14 @@ none_more a i less =
 -- one entry more
 pub more_next : (a b c : Audited) (i : ℕ) (xs : List Entry) (x : Entry) → HasMore a b i xs → HasMore b c i (x ∷ [])
     → HasMore a c i (xs ++ x ∷ [])
-more_next a b c i xs x m n = record {
-  history = m.history;
-  there = m.there;
-  is =
-      n.is
-      ∙ ap (λ (o : Audited). record o { histories = slice_set o.histories i (n.history ++ x ∷ []) }) m.is
-      ∙ ap (λ hs. record a { histories = hs }) (Places.set_set a.histories i (m.history ++ xs) (n.history ++ x ∷ [])
-      ∙ ap (slice_set a.histories i) (ap (λ g. g ++ x ∷ []) same ∙ append_assoc m.history xs (x ∷ [])));
-}
-  where
-    same : n.history ≡ m.history ++ xs
-    same = let at : slice_get b.histories i ≡ Some (m.history ++ xs) =
-        rw m.is (Places.get_set_same a.histories i m.history (m.history ++ xs) m.there) in cc (at, n.there)
+more_next a b c i xs x m n =
+    let at = Places.get_set_same a.histories i m.history (m.history ++ xs) m.there in
+    let same : n.history ≡ m.history ++ xs = cc in
+    let is : c ≡ record a { histories = slice_set a.histories i (m.history ++ (xs ++ x ∷ [])) } = cc (
+      Places.set_set a.histories i (m.history ++ xs) (n.history ++ x ∷ []),
+      append_assoc m.history xs (x ∷ []),
+    ) in
+    record { history = m.history; there = m.there; is = is }
 
 -- ---- all histories
 
@@ -73,10 +68,4 @@ set_next (g ∷ hs) (suc k) h at = ap (λ gs. g ∷ gs) (set_next hs k h at)
 -- one history more was read
 pub filled_next : (a b : Audited) (hs : List (List Entry)) (k : ℕ) (h : List Entry) → a.histories ≡ filled hs k → slice_get hs k ≡ Some h
     → HasMore a b k h → b.histories ≡ filled hs (k + 1)
-filled_next a b hs k h e at m =
-    let none : m.history ≡ [] = cc (e, m.there, filled_at hs k h at) in
-    ap (λ (o : Audited). o.histories) m.is
-    ∙ ap (slice_set a.histories k) (ap (λ g. g ++ h) none)
-    ∙ ap (λ gs. slice_set gs k h) e
-    ∙ set_next hs k h at
-    ∙ ap (filled hs) (let q : suc k ≡ k + 1 = omega arith in q)
+filled_next a b hs k h e at m = cc (filled_at hs k h at, set_next hs k h at, add-one k)

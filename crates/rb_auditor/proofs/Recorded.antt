@@ -20,11 +20,7 @@ settings_kept x [] = refl
 settings_kept x (e ∷ es) = settings_kept (next_site x e) es ∙ Seen.settings-next x e
 
 me_next : (x : SeenSite) (e : Event) → (next_site x e).me ≡ x.me
-me_next x e = by (is_full x.settings (state_of x))
-  where
-    by : (b : Bool) → (cond b x (stepped x e)).me ≡ x.me
-    by true = refl
-    by false = refl
+me_next x e = elim (is_full x.settings (state_of x)) as (λ b. (cond b x (stepped x e)).me ≡ x.me) [ true ↦ refl | false ↦ refl ]
 
 me_kept : (x : SeenSite) (es : List Event) → (next_sites x es).me ≡ x.me
 me_kept x [] = refl
@@ -36,23 +32,18 @@ me_kept x (e ∷ es) = me_kept (next_site x e) es ∙ me_next x e
 pub step_on : (s : Settings) (i : ℕ) (xs ys : List Entry) (y : Entry) → IsReplay s i (xs ++ y ∷ ys)
     → next_site (seen_at s i xs) y.event ≡ seen_at s i (xs ++ y ∷ [])
 step_on s i xs ys y r =
-    ap (λ b. cond b (seen_at s i xs) (stepped (seen_at s i xs) y.event)) free
+    let here = seen_at s i xs in
+    let free : is_full s (state_of here) ≡ false =
+    Replaying.not_full s (state_of here) (length xs) (Replaying.length_after s i xs (Replaying.replay-front s i xs (y ∷ ys) r))
+    (omega (arith, r.room, length-append xs (y ∷ ys))) in
+    ap (λ b. cond b here (stepped here y.event)) free
     ∙ ap (λ z. seen_at s i (xs ++ entry y.event z ∷ [])) (sym (Replaying.replays-at s (first_site i) xs ys y r.replays))
-  where
-    front : IsReplay s i xs
-    front = Replaying.replay-front s i xs (y ∷ ys) r
-
-    free : is_full s (state_of (seen_at s i xs)) ≡ false
-    free = Replaying.not_full s (state_of (seen_at s i xs)) (length xs) (Replaying.length_after s i xs front)
-        (omega (arith, r.room, length-append xs (y ∷ ys)))
 
 recorded_on : (s : Settings) (i : ℕ) (xs ys : List Entry) → IsReplay s i (xs ++ ys)
     → next_sites (seen_at s i xs) (events_of ys) ≡ seen_at s i (xs ++ ys)
 recorded_on s i xs [] r = ap (seen_at s i) (sym (append-nil xs))
 recorded_on s i xs (y ∷ ys) r =
-    ap (λ x. next_sites x (events_of ys)) (step_on s i xs ys y r)
-    ∙ recorded_on s i (xs ++ y ∷ []) ys (subst (IsReplay s i) (sym (append_assoc xs (y ∷ []) ys)) r)
-    ∙ ap (seen_at s i) (append_assoc xs (y ∷ []) ys)
+    let rest = recorded_on s i (xs ++ y ∷ []) ys (rw append_assoc r) in cc (step_on s i xs ys y r, append_assoc xs (y ∷ []) ys)
 
 -- the run of the events of a history that the site records leaves that history
 pub recorded : (s : Settings) (i : ℕ) (h : List Entry) (x : SeenSite) (es : List Event) → es ≡ events_of h
@@ -64,14 +55,7 @@ recorded s i h x es events is r =
 pub records : (s : Settings) (i : ℕ) (h : List Entry) (x : SeenSite) (es : List Event) → x ≡ next_sites (first_seen s i) es
     → i < s.sites → Replays x.settings (first_site x.me) x.entries → length x.entries ≤ x.settings.limits.history → x.entries ≡ h
     → IsReplay s i h
-records s i h x es is within replays room same = rw (← same) (record {
-  within = within;
-  replays = rw (settings, me) at replays;
-  room = rw settings at room;
-})
-  where
-    settings : x.settings ≡ s
-    settings = ap (λ (z : SeenSite). z.settings) is ∙ settings_kept (first_seen s i) es
-
-    me : x.me ≡ i
-    me = ap (λ (z : SeenSite). z.me) is ∙ me_kept (first_seen s i) es
+records s i h x es is within replays room same =
+    let settings : x.settings ≡ s = cc (settings_kept (first_seen s i) es) in
+    let me : x.me ≡ i = cc (me_kept (first_seen s i) es) in
+    rw (← same) (record { within = within; replays = rw (settings, me) at replays; room = rw settings at room })

@@ -1,5 +1,8 @@
 -- The findings of an audit show that no world has the histories.
 use Rattle.std.proofs.Common.{◌≡◌, ℕ, ◌<◌, List, [], ◌∷◌, ◌++◌, length, refl, ap}
+use Rattle.rb_site.specs.declared.event.Event.{Event}
+use Rattle.rb_auditor.specs.Replays.{seen_at}
+use Rattle.rb_site.proofs.Public.Lists.{map_back}
 use Rattle.std.proofs.Common.{sym, subst, ◌∙◌, inl, inr, arith, Option, Some, None, false}
 use Rattle.std.specs.Prelude.{slice_get}
 use Rattle.std.specs.Option.{option_map}
@@ -39,39 +42,22 @@ abbrev AllAtTheirs : Settings → World → Type 0
 AllAtTheirs s w = (i : ℕ) (t : ModelSite) → slice_get w.sites i ≡ Some t → IsAtItsHistory s i t
 
 room_below : (s : Settings) (t : ModelSite) → is_full s t ≡ false → length (history_of s t) < s.limits.history
-room_below s t free = let same : length (history_of s t) ≡ length t.history = Seen.entries-length s (first_site t.me) t.history in
-    grind (arith, nat_tests)
+room_below s t free = grind (arith, nat_tests, Seen.entries-length s (first_site t.me) t.history)
 
-goes_on : (s : Settings) (i : ℕ) (t : ModelSite) (x : Entry) → is_full s t ≡ false → x.reply ≡ reply_to s t x.event → IsAtItsHistory s i t
-    → IsAtItsHistory s i (after_event s t x.event)
-goes_on s i t x free reply a = record {
-  run = SiteRuns.run_goes_on s t x.event a.run;
-  stands = ap (site_after s i) grown ∙ Replaying.after_more s (first_site i) (history_of s t) x
-      ∙ ap (λ u. after_event s u x.event) a.stands;
-  replays = rw (grown, ← noted) (Seen.replayed-stepped (record { settings = s; me = i; entries = history_of s t })
-      x.event (room_below s t free) a.replays);
-}
-  where
-    grown : history_of s (after_event s t x.event) ≡ history_of s t ++ x ∷ []
-    grown = Seen.history-noted s t x.event free a.run ∙ ap (λ r. history_of s t ++ entry x.event r ∷ []) (sym reply)
-
-    noted : entry x.event (reply_to s (site_after s i (history_of s t)) x.event) ≡ x
-    noted = ap (λ u. entry x.event (reply_to s u x.event)) a.stands ∙ ap (entry x.event) (sym reply)
+goes_on : (s : Settings) (i : ℕ) (t : ModelSite) (e : Event) → is_full s t ≡ false → IsAtItsHistory s i t
+    → IsAtItsHistory s i (after_event s t e)
+goes_on s i t e free a =
+    let grown = Seen.history-noted s t e free a.run in
+    record {
+      run = SiteRuns.run_goes_on s t e a.run;
+      stands = cc (grown, a.stands, Replaying.after_more s (first_site i) (history_of s t) (entry e (reply_to s t e)));
+      replays = rw grown (rw a.stands at
+          (Seen.replayed-stepped (seen_at s i (history_of s t)) e (room_below s t free) a.replays));
+    }
 
 recorded_at : (s : Settings) (w : World) (e : WorldEvent) → IsRecorded s w e → AllAtTheirs s w → AllAtTheirs s (world_after s w e)
-recorded_at s w e r all = subst (AllAtTheirs s) (sym r.is) each
-  where
-    t1 : ModelSite
-    t1 = after_event s r.site r.event
-
-    each : AllAtTheirs s (world_at s w (site_of e) (Some r.event) (Some r.site))
-    each j u at = elim (Places.same_number (site_of e) j) [
-      | inl q ↦
-          let k : u ≡ t1 = cc (Places.get_set_same w.sites (site_of e) r.site t1 r.at, q, at) in
-          rw k (goes_on s j r.site (record { event = r.event; reply = reply_to s r.site r.event }) r.room refl
-          (all j r.site (ap (slice_get w.sites) q ∙ r.at)))
-      | inr ne ↦ all j u (sym (Places.get_set_other w.sites (site_of e) j t1 ne) ∙ at)
-    ]
+recorded_at s w e r all = rw r.is (Lists.each_set w.sites (site_of e) r.site (after_event s r.site r.event) (IsAtItsHistory s) r.at
+    (goes_on s (site_of e) r.site r.event r.room (all (site_of e) r.site r.at)) (λ j t ne. all j t))
 
 run_at : (s : Settings) (es : List WorldEvent) (w : World) → AreOwn es → AllAtTheirs s w → AllAtTheirs s (world_after_all s w es)
 run_at s [] w own all = all
@@ -90,13 +76,9 @@ first_all s i t at =
 -- the histories of one world replay
 pub one_worlds_replay : (s : Settings) (hs : List (List Entry)) (i : ℕ) (h : List Entry) → AreOneWorlds s hs → slice_get hs i ≡ Some h →
     IsReplay s i h
-one_worlds_replay s hs i h one at = by (slice_get (world_of_run s one.events).sites i) refl
-    (sym (slice_get-map (history_of s) (world_of_run s one.events).sites i) ∙ ap (λ ks. slice_get ks i) one.gives ∙ at)
-  where
-    by : (o : Option ModelSite) → slice_get (world_of_run s one.events).sites i ≡ o → option_map (history_of s) o ≡ Some h → IsReplay s i h
-    by None e k = cc
-    by (Some t) e k = let is : history_of s t ≡ h = cc in subst (IsReplay s i) is
-        (run_at s one.events (first_world s) one.own (first_all s) i t e).replays
+one_worlds_replay s hs i h one at =
+    let (t, there, is) = map_back (history_of s) (world_of_run s one.events).sites i h (cc (one.gives)) in
+    rw is (run_at s one.events (first_world s) one.own (first_all s) i t there).replays
 
 -- an entry that its site doesn't record
 pub wrong_is_final : (s : Settings) (hs : List (List Entry)) (site event : ℕ) → IsFirstWrong s hs site event → ¬ AreOneWorlds s hs
@@ -113,8 +95,9 @@ one_worlds s hs order c = record { events = c.events; own = c.own; gives = c.giv
 
 -- and there is one history for each site
 pub one_for_each : (s : Settings) (hs : List (List Entry)) (order : List ℕ) → Certifies s hs order → length hs ≡ s.sites
-one_for_each s hs order c =
-    ap length (sym c.gives)
-    ∙ length-map (world_of_run s c.events).sites (history_of s)
-    ∙ Runs.same_sites s c.events (first_world s)
-    ∙ length-map-range_with_len first_site 0 s.sites
+one_for_each s hs order c = cc (
+  c.gives,
+  length-map (world_of_run s c.events).sites (history_of s),
+  Runs.same_sites s c.events (first_world s),
+  length-map-range_with_len first_site 0 s.sites,
+)

@@ -1,5 +1,6 @@
 -- Histories that replay, and their prefixes.
-use Rattle.std.proofs.Common.{◌≡◌, ℕ, suc, Bool, IsTrue, MatchBool, ◌↔◌, cond, ◌+◌, ◌<◌, ◌≤◌, true, false, List, [], ◌∷◌, ◌++◌}
+use Rattle.std.proofs.Common.{◌≡◌, ℕ, suc, Bool, IsTrue, MatchBool, ◌↔◌, cond, ◌+◌, ◌<◌, ◌≤◌, true, false, List, [], ◌∷◌, ◌++◌, add-zero}
+use Rattle.std.proofs.lemmas.Bool.{false≢true}
 use Rattle.std.proofs.Common.{length, take, drop, refl, ap, sym, subst, ◌∙◌, arith, Some, length-append}
 use Rattle.std.specs.Prelude.{map, slice_get, nat_le}
 use Rattle.std.proofs.lemmas.Bool.Decides.{nat_tests}
@@ -43,19 +44,15 @@ replay-take s i k h r = replay-front s i (take k h) (drop k h) (subst (IsReplay 
 
 -- the history of the site after a replay is what was replayed
 pub history_after : (s : Settings) (i : ℕ) (h : List Entry) → IsReplay s i h → history_of s (site_after s i h) ≡ h
-history_after s i h r = Seen.entries-state (record { settings = s; me = i; entries = h }) r
+history_after s i h r = Seen.entries-state (seen_at s i h) r
 
 -- the site's state is what the run of its own history leads to
 pub run_after : (s : Settings) (i : ℕ) (h : List Entry) → IsReplay s i h → Runs.IsRunOfItsHistory s (site_after s i h)
-run_after s i h r =
-    let x : SeenSite = record { settings = s; me = i; entries = h } in
-    ap (λ me. after_events s (first_site me) (site_after s i h).history) (Seen.me-state x)
-    ∙ ap (after_events s (first_site i)) (Seen.history-state x r)
+run_after s i h r = let x = seen_at s i h in cc (Seen.me-state x, Seen.history-state x r)
 
 -- its history has as many events
 pub length_after : (s : Settings) (i : ℕ) (h : List Entry) → IsReplay s i h → length (site_after s i h).history ≡ length h
-length_after s i h r = ap length (Seen.history-state (record { settings = s; me = i; entries = h }) r)
-    ∙ length-map h (λ (x : Entry). x.event)
+length_after s i h r = ap length (Seen.history-state (seen_at s i h) r) ∙ length-map h (λ (x : Entry). x.event)
 
 -- an entry of a history that replays
 pub record IsReplayedAt (s : Settings) (i : ℕ) (h : List Entry) (k : ℕ) (x : Entry) : Type 0 where
@@ -65,8 +62,7 @@ pub record IsReplayedAt (s : Settings) (i : ℕ) (h : List Entry) (k : ℕ) (x :
 -- a site after one entry more is the site before it, gone on by its event
 pub after_more : (s : Settings) (t : ModelSite) (xs : List Entry) (x : Entry) →
     after_events s t (events_of (xs ++ x ∷ [])) ≡ after_event s (after_events s t (events_of xs)) x.event
-after_more s t xs x = ap (after_events s t) (map-append (λ (y : Entry). y.event) xs (x ∷ []))
-    ∙ Runs.after_events-append s (events_of xs) (x.event ∷ []) t
+after_more s t xs x = cc (map-append (λ (y : Entry). y.event) xs (x ∷ []), Runs.after_events-append s (events_of xs) (x.event ∷ []) t)
 
 -- a history with fewer entries than the limit isn't full
 pub not_full : (s : Settings) (t : ModelSite) (k : ℕ) → length t.history ≡ k → k < s.limits.history → is_full s t ≡ false
@@ -76,13 +72,11 @@ not_full s t k e lt = grind (arith, nat_tests)
 pub replayed_at : (s : Settings) (i : ℕ) (h : List Entry) (k : ℕ) (x : Entry) → IsReplay s i h → slice_get h k ≡ Some x →
     IsReplayedAt s i h k x
 replayed_at s i h k x r at =
-    let sp : IsSplit h k x = split_at h k x at in
-    let replays : IsReplay s i (take k h) = replay-take s i k h r in
-    let room : length h ≤ s.limits.history = r.room in
-    let place : k < length h = sp.within in
+    let sp = split_at h k x at in
+    let fewer : length (site_after s i (take k h)).history ≡ k = cc (length_after s i (take k h) (replay-take s i k h r), sp.front) in
     record {
-      room = not_full s (site_after s i (take k h)) k (length_after s i (take k h) replays ∙ sp.front) (omega arith);
-      more = ap (site_after s i) sp.more ∙ after_more s (first_site i) (take k h) x;
+      room = not_full s (site_after s i (take k h)) k fewer (omega (arith, r.room, sp.within));
+      more = cc (sp.more, after_more s (first_site i) (take k h) x);
     }
 
 -- the histories of sites after prefixes are the prefixes
@@ -92,21 +86,21 @@ pub histories_after : (s : Settings) (a : ℕ) (hs : List (List Entry)) (ks : Li
 histories_after s a [] ks all = refl
 histories_after s a (h ∷ hs) [] all = refl
 histories_after s a (h ∷ hs) (k ∷ ks) all =
-    let here : a + 0 ≡ a = omega arith in
-    ap (λ f. f ∷ map (history_of s) (sites_after s (a + 1) hs ks)) (history_after s a (take k h)
-    (replay-take s a k h (rw here at (all 0 h refl))))
-    ∙ ap (λ fs. take k h ∷ fs) (histories_after s (a + 1) hs ks (λ i g at.
-    let q : a + 1 + i ≡ a + suc i = omega arith in rw q (all (suc i) g at)))
+    let rest = histories_after s (a + 1) hs ks (λ i g at. let q : a + 1 + i ≡ a + suc i = omega arith in rw q (all (suc i) g at)) in
+    cc (history_after s a (take k h) (replay-take s a k h (rw (← add-zero a) (all 0 h refl))))
 
 -- ---- one entry more
 
 -- if the history is full, one more is wrong
 pub full_is_wrong : (x : SeenSite) (y : Entry) → IsReplayed x → is_full x.settings (state_of x) ≡ true →
     ¬ IsReplayed (seen_at x.settings x.me (x.entries ++ y ∷ []))
-full_is_wrong x y old full new =
-    let test : nat_le x.settings.limits.history (length x.entries) ≡ true = Outcomes.is_full-state x old ∙ full in
-    let most : x.settings.limits.history ≤ length x.entries = grind (arith, nat_tests) in
-    omega (arith, length-append x.entries (y ∷ []), new.room)
+full_is_wrong x y old full new = grind (
+  arith,
+  nat_tests,
+  Outcomes.is_full-state x old,
+  length-append x.entries (y ∷ []),
+  new.room,
+)
 
 -- another reply than the site's is wrong
 other_is_wrong : (x : SeenSite) (y : Entry) → ¬ (reply_to x.settings (state_of x) y.event ≡ y.reply)
@@ -117,15 +111,14 @@ other_is_wrong x y other r = other (sym (replays-at x.settings (first_site x.me)
 noted : {x new : SeenSite} {y : Entry} {r : Reply} {before after : List Message} → IsReplayed x
     → is_full x.settings (state_of x) ≡ false → new ≡ next_site x y.event → r ≡ reply_to x.settings (state_of x) y.event
     → r ≡ y.reply → after ≡ before ++ sent_at x.settings (state_of x) y.event → RecordsEntry x new y before after
-noted {x} {new} {y} old free is reply same sends = record {
-  free = free;
-  is = step ∙ ap (λ z. record x { entries = x.entries ++ entry y.event z ∷ [] }) (sym reply ∙ same);
-  replays = rw step (Seen.replayed-stepped x y.event (Outcomes.room_left x old free) old);
-  sends = sends;
-}
-  where
-    step : new ≡ stepped x y.event
-    step = is ∙ ap (λ b. cond b x (stepped x y.event)) free
+noted {x} {new} {y} old free is reply same sends =
+    let step : new ≡ stepped x y.event = cc in
+    record {
+      free = free;
+      is = step ∙ ap (λ z. record x { entries = x.entries ++ entry y.event z ∷ [] }) (sym reply ∙ same);
+      replays = rw step (Seen.replayed-stepped x y.event (Outcomes.room_left x old free) old);
+      sends = sends;
+    }
 
 -- one of the two
 pub noted_or_not : (b : Bool) {x new : SeenSite} (y : Entry) {r : Reply} (before : List Message) {after : List Message}
@@ -134,5 +127,4 @@ pub noted_or_not : (b : Bool) {x new : SeenSite} (y : Entry) {r : Reply} (before
     → after ≡ before ++ sent_at x.settings (state_of x) y.event
     → MatchBool b (RecordsEntry x new y before after) (¬ IsReplayed (seen_at x.settings x.me (x.entries ++ y ∷ [])))
 noted_or_not true y before old free is reply test sends = noted old free is reply (test.0 refl) sends
-noted_or_not false {x} y before old free is reply test sends =
-    other_is_wrong x y (λ same. let wrong : IsTrue false = test.1 (reply ∙ same) in cc)
+noted_or_not false {x} y before old free is reply test sends = other_is_wrong x y (λ same. false≢true (test.1 (reply ∙ same)))

@@ -1,10 +1,11 @@
 -- The messages that entries receive and send.
 use Rattle.std.proofs.Common.{◌≡◌, ℕ, zero, suc, ◌+◌, ◌-◌, ◌<◌, ◌≤◌, ◌==◌, Bool, true, false, cond, not, ◌&&◌, nat_le, List, [], ◌∷◌, ◌++◌}
+use Rattle.rb_token.specs.declared.message.TokenMessage.{TokenMessage}
 use Rattle.std.proofs.Common.{length, take, drop, refl, ap, sym, subst, ◌∙◌, inl, inr, arith}
 use Rattle.std.proofs.Common.{Option, Some, None, length-append, length-drop}
 use Rattle.std.specs.Prelude.{slice_get}
 use Rattle.std.proofs.Math.Seq.{drop-append_seam}
-use Rattle.std.proofs.lemmas.List.{drop-append-le, take-append-le, take_all}
+use Rattle.std.proofs.lemmas.List.{drop-append-le, take-append-le, take_all, nil_from_length}
 use Rattle.std.proofs.lemmas.Option.{slice_get_within}
 use Rattle.rb_money.specs.Refusals.{unless}
 use Rattle.rb_money.specs.Settings.{Settings}
@@ -28,50 +29,28 @@ use Rattle.rb_auditor.specs.declared.step.Step.{Step}
 use Rattle.rb_auditor.specs.declared.step.Step.TheVariants.{Alone, Receives, Sends}
 use Rattle.rb_auditor.specs.Kept.{HaveSteps, IsPlaced, IsStep}
 use Rattle.rb_auditor.specs.Progress.{site_after}
-use Rattle.rb_auditor.proofs.Lists.{before_or_last}
+use Rattle.rb_auditor.proofs.Lists.{before_or_last, item_at}
 
 -- ---- receipts send nothing
 
-abbrev Quiet : Outcome → Type 0
-Quiet o = sent_by o ≡ []
-
-quiet_test : (b : Bool) (o p : Outcome) → Quiet o → Quiet p → Quiet (cond b o p)
-quiet_test true o p h k = h
-quiet_test false o p h k = k
-
-quiet_first : {E : Type 0} (refused : E → Refusal) (o : Option E) (next : Outcome) → Quiet next →
-    Quiet (unless (λ why. Refuses (refused why)) o next)
-quiet_first refused (Some why) next h = refl
-quiet_first refused None next h = h
-
-quiet_known : (v : Shadow) (o : Option Shadow) (next : Outcome) → Quiet next → Quiet (unless_known v o next)
-quiet_known v None next h = h
-quiet_known v (Some u) next h = quiet_test (same_shadow u v) (Answers (Already v.name)) (Refuses Conflict) refl refl
-
-quiet_receipt : (s : Settings) (t : ModelSite) (m : Message) → Quiet (outcome_of s t (Receive m))
+quiet_shadow : (s : Settings) (t : ModelSite) (v : Shadow) → sent_by (outcome_of s t (Receive (ShadowMessage v))) ≡ []
 unfolding outcome_of
-quiet_receipt s t (ShadowMessage v) =
-    quiet_first BadMessage (fault_of s v) _ (quiet_known v (find_in t.ops v.name) _
-    (quiet_test (v.home == t.me) (Refuses Conflict) _ refl (quiet_known v (find_in t.held v.name) _
-    (quiet_test (nat_le s.limits.inbox (length t.held) && not (is_eligible t.ops v)) (Refuses InboxFull) (Holds v) refl refl))))
-quiet_receipt s t (TokenOnItsWay m) = quiet_first (λ why. why) (refusal_of_token s.limits t.me m) _
-    (quiet_test (nat_le m.epoch t.token.epoch) (Answers (Stale m.epoch)) (Takes m) refl refl)
+quiet_shadow s t v = grind arith
+
+quiet_token : (s : Settings) (t : ModelSite) (m : TokenMessage) → sent_by (outcome_of s t (Receive (TokenOnItsWay m))) ≡ []
+unfolding outcome_of
+quiet_token s t m = grind arith
 
 -- a receipt sends nothing
 pub receipt_sends_nothing : (s : Settings) (t : ModelSite) (e : Event) (m : Message) → e ≡ Receive m → sent_at s t e ≡ []
-receipt_sends_nothing s t e m is = ap (sent_at s t) is ∙ by (is_full s t)
+receipt_sends_nothing s t e m is = rw is (by m (is_full s t))
   where
-    by : (b : Bool) → cond b [] (sent_by (outcome_of s t (Receive m))) ≡ []
-    by true = refl
-    by false = quiet_receipt s t m
+    by : (m : Message) (b : Bool) → cond b [] (sent_by (outcome_of s t (Receive m))) ≡ []
+    by m true = refl
+    by (ShadowMessage v) false = quiet_shadow s t v
+    by (TokenOnItsWay m) false = quiet_token s t m
 
 -- ---- one list
-
--- the items before what is added
-pub get_before : {A : Type 0} (xs ys : List A) (k : ℕ) → k < length xs → slice_get (xs ++ ys) k ≡ slice_get xs k
-get_before [] ys k less = absurd (omega arith)
-get_before (x ∷ xs) ys zero less = refl
-get_before (x ∷ xs) ys (suc k) less = get_before xs ys k (omega arith)
 
 -- a part of a list is the same part of a longer one
 part_more : {A : Type 0} (ms more : List A) (at count : ℕ) → at + count ≤ length ms
@@ -101,8 +80,8 @@ pub steps_longer : (s : Settings) (i : ℕ) (h rest : List Entry) (ms : List Mes
     → HaveSteps s i h ms steps → HaveSteps s i (h ++ rest) ms steps
 steps_longer s i h rest ms steps fits all k x step at is =
     let less : k < length steps = slice_get_within steps k step is in
-    let same : take k (h ++ rest) ≡ take k h = take-append-le k h rest (omega arith) in
-    rw same (all k x step (sym (get_before h rest k (omega arith)) ∙ at) is)
+    let (y, there) = item_at h k (omega arith) in
+    rw (take-append-le k h rest (omega arith)) (all k x step (cc (there, get_front h rest k y there)) is)
 
 -- one entry more with its step
 pub steps_next : (s : Settings) (i : ℕ) (h : List Entry) (ms : List Message) (steps : List Step) (x : Entry) (step : Step)
@@ -124,15 +103,12 @@ steps_next s i h ms steps x step many all new k y st at is = elim (before_or_las
 pub few_more : (s : Settings) (t : ModelSite) (e : Event) (before after : List Message) → after ≡ before ++ sent_at s t e
     → length after ≤ length before + MOST_REQUESTS
 few_more s t e before after grown =
-    let few : length (sent_at s t e) ≤ MOST_REQUESTS = Outcomes.sent_few s t e in
-    let longer : length after ≡ length before + length (sent_at s t e) = ap length grown ∙ length-append before (sent_at s t e) in
-    omega arith
+    omega (arith, Outcomes.sent_few s t e, ap length grown, length-append before (sent_at s t e))
 
 -- where what is sent comes into an empty list, and then behind the messages before
 pub sent_after : (before room none posted sent after : List Message) → room ≡ before → none ≡ [] → posted ≡ none ++ sent
     → after ≡ room ++ posted → after ≡ before ++ sent
-sent_after before room none posted sent after same empty sends grown =
-    grown ∙ ap (λ ms. ms ++ posted) same ∙ ap (λ ms. before ++ ms) (sends ∙ ap (λ ms. ms ++ sent) empty)
+sent_after before room none posted sent after same empty sends grown = cc
 
 -- where the messages that are sent are behind the others
 sent_behind : (before sent : List Message) (count : ℕ) → count ≡ length sent → sent ≡ take count (drop (length before) (before ++ sent))
@@ -147,8 +123,7 @@ receives s t before after e at grown (m, is, there) =
 -- how many messages there are once some are sent
 count_sent : (before sent after : List Message) (first all : ℕ) → after ≡ before ++ sent → first ≡ length before → all ≡ length after
     → all ≡ first + length sent
-count_sent before sent after first all grown at many =
-    many ∙ ap length grown ∙ length-append before sent ∙ ap (λ n. n + length sent) (sym at)
+count_sent before sent after first all grown at many = omega (arith, ap length grown, length-append before sent)
 
 -- there are no fewer than before
 pub no_fewer : (before sent after : List Message) (first all : ℕ) → after ≡ before ++ sent → first ≡ length before → all ≡ length after
@@ -156,15 +131,11 @@ pub no_fewer : (before sent after : List Message) (first all : ℕ) → after �
 no_fewer before sent after first all grown at many =
     let sum : all ≡ first + length sent = count_sent before sent after first all grown at many in omega arith
 
-none_sent : (sent : List Message) (first all : ℕ) → all ≡ first + length sent → all - first ≡ 0 → sent ≡ []
-none_sent [] first all sum none = refl
-none_sent (m ∷ sent) first all sum none = absurd (omega arith)
-
 -- the step of an entry that sends nothing and is no receipt
 pub alone : (before sent after : List Message) (e : Event) (first all : ℕ) → after ≡ before ++ sent → IsPlaced before e None
     → first ≡ length before → all ≡ length after → all - first ≡ 0 → IsStep after e sent Alone
 alone before sent after e first all grown own at many none =
-    (own, none_sent sent first all (count_sent before sent after first all grown at many) none)
+    (own, nil_from_length sent (omega (arith, count_sent before sent after first all grown at many)))
 
 -- the step of an entry that sends
 pub sends : (before sent after : List Message) (e : Event) (first all : ℕ) → after ≡ before ++ sent → IsPlaced before e None

@@ -1,6 +1,6 @@
 -- Entries taken one after another, as a world could have recorded them.
 use Rattle.std.proofs.Common.{◌≡◌, ℕ, ◌+◌, ◌<◌, ◌≤◌, List, [], ◌∷◌, ◌++◌, length, take, drop, refl, ap, sym, subst, ◌∙◌, inl, inr, arith}
-use Rattle.std.proofs.Common.{Some, Bool, true, false, MatchBool}
+use Rattle.std.proofs.Common.{Some, Bool, true, false, MatchBool, zero-add}
 use Rattle.std.specs.Prelude.{map, slice_get, slice_set}
 use Rattle.std.specs.List.{range_with_len}
 use Rattle.std.proofs.lemmas.List.{length-replicate, length-set, take-append-drop, take_all}
@@ -30,8 +30,7 @@ use Rattle.rb_auditor.proofs.Runs.{Brings}
 
 -- before any entry is taken the world is the first one, if there is a history for each site
 pub first_is : (s : Settings) (hs : List (List Entry)) → length hs ≡ s.sites → world_of (first_progress s hs) ≡ first_world s
-first_is s hs n = ap (λ ts. record { sites = ts; messages = [] })
-    (Lists.first_sites s 0 hs ∙ ap (λ k. map first_site (range_with_len 0 k)) n)
+first_is s hs n = cc (Lists.first_sites s 0 hs)
 
 -- before any entry is taken all is as a world could have it, if each site has a history and each replays
 pub first_taken : (s : Settings) (hs : List (List Entry)) → length hs ≡ s.sites →
@@ -40,9 +39,8 @@ first_taken s hs n replays = record {
   sites = n;
   counts = length-replicate (length hs) 0;
   replays = replays;
-  within = λ i k h there place. (let z : k ≡ 0 = Lists.get_zero (length hs) i k place in omega arith);
-  sent = λ i k h there place m among. elim (subst (λ j. IsAmong m (sends_of s (first_site i) (events_of (take j h))))
-      (Lists.get_zero (length hs) i k place) among) [ ];
+  within = λ i k h there place. omega (arith, Lists.get_zero (length hs) i k place);
+  sent = λ i k h there place m among. absurd (rw (Lists.get_zero (length hs) i k place) at among);
   reached = record { events = []; own = tt; sites = refl; recorded = tt; gives = sym (first_is s hs n) };
 }
 
@@ -52,41 +50,21 @@ pub first_as : {s : Settings} {hs : List (List Entry)} {order taken : List ℕ} 
     → IsTaking (first_progress s hs) → IsTaking (record { settings = s; histories = hs; order = order; taken = taken; messages = ms })
 first_as e f g v = rw (e, f, g) v
 
--- the same order and the same messages are those of the same progress
-pub same_as : {p q : Progress} {order : List ℕ} {ms : List Message} → p ≡ q → order ≡ p.order → ms ≡ p.messages
-    → record p { order = order; messages = ms } ≡ q
-same_as same e f = rw (e, f) same
-
--- all is still as a world could have it
-pub still_taking : {p : Progress} {order : List ℕ} {ms : List Message} → IsTaking p → order ≡ p.order → ms ≡ p.messages
-    → IsTaking (record p { order = order; messages = ms })
-still_taking v e f = rw (e, f) v
-
 -- ---- one entry more
-
-site_now : (s : Settings) (i k : ℕ) (h : List Entry) → site_after s (0 + i) (take k h) ≡ site_after s i (take k h)
-site_now s i k h = ap (λ j. site_after s j (take k h)) (let q : 0 + i ≡ i = omega arith in q)
 
 -- the state of the site that takes its next entry
 pub site_next : (p : Progress) (i k : ℕ) (h : List Entry) (x : Entry) → IsNextEntry p i k h x →
     slice_get (world_of p).sites i ≡ Some (site_after p.settings i (take k h))
-site_next p i k h x n = Lists.get_site p.settings 0 p.histories p.taken i k h n.there n.at ∙ ap Some (site_now p.settings i k h)
+site_next p i k h x n = cc (Lists.get_site p.settings 0 p.histories p.taken i k h n.there n.at, zero-add i)
 
 -- the world goes on by the entry
 pub world_next : (p : Progress) (i k : ℕ) (h : List Entry) (x : Entry) → IsTaking p → IsNextEntry p i k h x →
     world_of (taken_next p i k h x) ≡ world_at p.settings (world_of p) i (Some x.event) (Some (site_after p.settings i (take k h)))
-world_next p i k h x g n =
-    ap (λ ts. record { sites = ts; messages = p.messages ++ sent_at s (site_after s i (take k h)) x.event }) same
-  where
-    s : Settings
-    s = p.settings
-
-    same : sites_after s 0 p.histories (slice_set p.taken i (k + 1)) ≡
-        slice_set (sites_after s 0 p.histories p.taken) i (after_event s (site_after s i (take k h)) x.event)
-    same =
-        Lists.set_site s 0 p.histories p.taken i (k + 1) h n.there
-        ∙ ap (slice_set (sites_after s 0 p.histories p.taken) i) (site_now s i (k + 1) h
-        ∙ (Replaying.replayed_at s i h k x (g.replays i h n.there) n.next).more)
+world_next p i k h x g n = cc (
+  Lists.set_site p.settings 0 p.histories p.taken i (k + 1) h n.there,
+  zero-add i,
+  (Replaying.replayed_at p.settings i h k x (g.replays i h n.there) n.next).more,
+)
 
 taken_after : (p : Progress) (i k : ℕ) (h : List Entry) (x : Entry) → IsTaking p → IsNextEntry p i k h x → IsFrom p.messages x.event →
     IsTaking (taken_next p i k h x)
@@ -94,9 +72,15 @@ taken_after p i k h x g n come = record {
   sites = g.sites;
   counts = length-set p.taken i (k + 1) ∙ g.counts;
   replays = g.replays;
-  within = within;
-  sent = sent;
-  reached = subst (IsReached s (p.order ++ i ∷ [])) (sym (world_next p i k h x g n))
+  within = λ j l f there place. Lists.each_set p.taken i k (k + 1)
+      (λ j l. (f : List Entry) → slice_get p.histories j ≡ Some f → l ≤ length f) n.at
+      (λ f there. (let same : f ≡ h = cc (there, n.there) in omega (arith, ap length same, sp.within)))
+      (λ j l ne place f there. g.within j l f there place) j l place f there;
+  sent = λ j l f there place m among. Lists.each_set p.taken i k (k + 1) (λ j l. (f : List Entry) → slice_get p.histories j ≡ Some f
+      → IsAmong m (sends_of s (first_site j) (events_of (take l f))) → IsAmong m (p.messages ++ sends)) n.at
+      (λ f there. (let same : f ≡ h = cc (there, n.there) in rw same (here m)))
+      (λ j l ne place f there among. Stuck.among-left m p.messages sends (g.sent j l f there place m among)) j l place f there among;
+  reached = rw (world_next p i k h x g n)
       (Runs.reached_more s p.order (world_of p) i (site_after s i (take k h)) x.event g.reached brought);
 }
   where
@@ -112,40 +96,18 @@ taken_after p i k h x g n come = record {
     brought : Brings s (world_of p) i (site_after s i (take k h)) x.event
     brought = Runs.brings s (world_of p) i (site_after s i (take k h)) x.event come (site_next p i k h x n) at.room
 
-    here : slice_get (slice_set p.taken i (k + 1)) i ≡ Some (k + 1)
-    here = Places.get_set_same p.taken i k (k + 1) n.at
-
-    within : (j l : ℕ) (f : List Entry) → slice_get p.histories j ≡ Some f → slice_get (slice_set p.taken i (k + 1)) j ≡ Some l →
-        l ≤ length f
-    within j l f there place = elim (same_number i j) [
-      | inl e ↦
-          let q : l ≡ k + 1 = cc (here, e, place) in
-          let r : length f ≡ length h = cc (n.there, e, there) in
-          let b : k < length h = sp.within in
-          omega arith
-      | inr ne ↦ g.within j l f there (sym (Places.get_set_other p.taken i j (k + 1) ne) ∙ place)
-    ]
-
     sends : List Message
     sends = sent_at s (site_after s i (take k h)) x.event
 
-    sent : (j l : ℕ) (f : List Entry) → slice_get p.histories j ≡ Some f → slice_get (slice_set p.taken i (k + 1)) j ≡ Some l →
-        (m : Message) → IsAmong m (sends_of s (first_site j) (events_of (take l f))) → IsAmong m (p.messages ++ sends)
-    sent j l f there place m among = elim (same_number i j) [
-      | inl e ↦
-          let q : l ≡ k + 1 = cc (here, e, place) in
-          let r : f ≡ h = cc (n.there, e, there) in
-          let a : IsAmong m (sends_of s (first_site i) (events_of (take (k + 1) h))) = rw (e, q, r) at among in
-          let b : IsAmong m (sends_of s (first_site i) (events_of (take k h)) ++ sends) =
-          subst (IsAmong m) (ap (λ z. sends_of s (first_site i) (events_of z)) sp.more
-          ∙ Messages.sends_more s (first_site i) (take k h) x) a in
-          elim (Stuck.among-cases m (sends_of s (first_site i) (events_of (take k h))) sends b) [
-            | inl c ↦ Stuck.among-left m p.messages sends (g.sent i k h n.there n.at m c)
-            | inr c ↦ Stuck.among-right m p.messages sends c
-          ]
-      | inr ne ↦ Stuck.among-left m p.messages sends (g.sent j l f there (sym (Places.get_set_other p.taken i j (k + 1) ne)
-          ∙ place) m among)
-    ]
+    before : List Message
+    before = sends_of s (first_site i) (events_of (take k h))
+
+    here : (m : Message) → IsAmong m (sends_of s (first_site i) (events_of (take (k + 1) h))) → IsAmong m (p.messages ++ sends)
+    here m among = elim (Stuck.among-cases m before sends
+        (rw (Messages.sends_more s (first_site i) (take k h) x) at (rw sp.more at among))) [
+          | inl c ↦ Stuck.among-left m p.messages sends (g.sent i k h n.there n.at m c)
+          | inr c ↦ Stuck.among-right m p.messages sends c
+        ]
 
 -- after one entry more they still are
 pub took_one : (p q : Progress) (i : ℕ) → IsTaking p → Took p q i → IsTaking q
@@ -161,17 +123,13 @@ certified p g = record {
   sites = g.reached.sites;
   recorded = g.reached.recorded;
   gives = ap (histories_of p.settings) g.reached.gives ∙ Replaying.histories_after p.settings 0 p.histories p.taken
-      (λ i h at. subst (λ j. IsReplay p.settings j h) (let q : i ≡ 0 + i = omega arith in q) (g.replays i h at));
+      (λ i h at. rw (zero-add i) (g.replays i h at));
 }
-
--- if all entries were taken, what was taken of the histories is the whole of them
-pub whole : (p : Progress) → IsTaking p → IsDone p → fronts_of p.histories p.taken ≡ p.histories
-whole p g done = Lists.whole_fronts p.histories p.taken g.counts (λ i k h there place. take_all k h (let e : k
-    ≡ length h = done i k h there place in omega arith))
 
 -- if all entries were taken, their order certifies the histories
 pub all_certified : (p : Progress) → IsTaking p → IsDone p → Certifies p.settings p.histories p.order
-all_certified p g done = subst (λ hs. Certifies p.settings hs p.order) (whole p g done) (certified p g)
+all_certified p g done = rw (Lists.whole_fronts p.histories p.taken g.counts (λ i k h there place.
+    take_all k h (omega (arith, done i k h there place)))) at (certified p g)
 
 -- if an entry is left and every history rests, the audit is stuck at the entries after those taken
 pub stuck : (p : Progress) → IsTaking p → ((i : ℕ) (h : List Entry) → slice_get p.histories i ≡ Some h → Rests p i) → IsLeft p →
@@ -187,9 +145,8 @@ stuck p g rests left = record {
     site = left.site;
     history = left.history;
     at = left.there;
-    left = λ e. Lists.not_whole left.taken left.history left.less (Lists.same_item (slice_get (fronts_of p.histories p.taken) left.site)
-        (take left.taken left.history) left.history (Lists.get_front p.histories p.taken left.site left.taken left.history left.there
-        left.at) e);
+    left = λ e. Lists.not_whole left.taken left.history left.less
+        (cc (e, Lists.get_front p.histories p.taken left.site left.taken left.history left.there left.at));
   };
 }
   where
@@ -198,8 +155,7 @@ stuck p g rests left = record {
 
     unsent : (m : Message) → ¬ IsAmong m p.messages → IsUnsent s (fronts_of p.histories p.taken) m
     unsent m not j f at among =
-        let o : IsMadeOf p.histories p.taken j (λ f. f) f = Lists.from_front p.histories p.taken j f at in
-        not (g.sent j o.taken o.history o.there o.at m (subst (λ z. IsAmong m (sends_of s (first_site j) (events_of z))) o.is among))
+        let o = Lists.from_front p.histories p.taken j f at in not (g.sent j o.taken o.history o.there o.at m (rw o.is at among))
 
     blocked : (xs : List Entry) → IsHeldUp p.messages xs → IsBlocked s (fronts_of p.histories p.taken) xs
     blocked [] h = tt
@@ -207,35 +163,28 @@ stuck p g rests left = record {
 
     cut : (i : ℕ) (h : List Entry) → slice_get p.histories i ≡ Some h → IsCut s (fronts_of p.histories p.taken) i h
     cut i h at =
-        let r : Rests p i = rests i h at in
+        let r = rests i h at in
         let same : r.history ≡ h = cc (r.there, at) in
         record {
           front = take r.taken h;
           there = Lists.get_front p.histories p.taken i r.taken h at r.at;
           rest = drop r.taken h;
           goes_on = sym (take-append-drop r.taken h);
-          blocked = blocked (drop r.taken h) (subst (λ z. IsHeldUp p.messages (drop r.taken z)) same r.held);
+          blocked = blocked (drop r.taken h) (rw same at r.held);
         }
 
 -- ---- how far it is
 
 -- with the next entry of a history taken, the progress is further
 pub took_further : (p q : Progress) (i : ℕ) → Took p q i → IsFurther p q
-took_further p q i t = record {
-  settings = ap (λ (r : Progress). r.settings) t.is;
-  histories = ap (λ (r : Progress). r.histories) t.is;
-  less = rw t.is (Lists.left_less p.histories p.taken i t.taken t.history t.next.there t.next.at
-      (slice_get_within t.history t.taken t.entry t.next.next));
-}
+took_further p q i t =
+    let within = slice_get_within t.history t.taken t.entry t.next.next in
+    let less = Lists.left_less p.histories p.taken i t.taken t.history t.next.there t.next.at within in
+    record { settings = cc; histories = cc; less = rw t.is less }
 
 -- what is further than q is further than p, if q is further than p or the same
 pub further_more : (b : Bool) (p q r : Progress) → MatchBool b (IsFurther p q) (q ≡ p) → IsFurther q r → IsFurther p r
-further_more true p q r f g = record {
-  settings = g.settings ∙ f.settings;
-  histories = g.histories ∙ f.histories;
-  less = let a : left_of q.histories q.taken < left_of p.histories p.taken = f.less in
-      let b : left_of r.histories r.taken < left_of q.histories q.taken = g.less in omega arith;
-}
+further_more true p q r f g = record { settings = cc; histories = cc; less = omega arith }
 further_more false p q r e g = rw (← e) g
 
 -- ---- what is said of the histories

@@ -38,21 +38,13 @@ pub along_first : (s : Settings) (hs : List (List Entry)) (xs : List SeenSite) �
     → length hs ≡ s.sites → AreAlong s hs xs
 along_first s hs xs is n = record {
   sites = ap length is ∙ length-map-range_with_len (first_seen s) 0 s.sites ∙ sym n;
-  each = λ i h x there at.
-      (let e : x ≡ first_seen s i = (Lists.at_number (first_seen s) s.sites i x (rw is at at)).1 in
-      let none : length x.entries ≡ 0 = ap recorded e in
-      e ∙ ap (λ k. seen_at s i (take k h)) (sym none));
+  each = λ i h x there at. cc ((Lists.at_number (first_seen s) s.sites i x (rw is at at)).1);
 }
 
 -- and nothing is taken
 pub nothing_taken : (s : Settings) (hs : List (List Entry)) (xs : List SeenSite) (ms : List Message)
     → xs ≡ map (first_seen s) (range_with_len 0 s.sites) → length hs ≡ s.sites → ms ≡ [] → progress_of s hs [] xs ms ≡ first_progress s hs
-nothing_taken s hs xs ms is n none =
-    ap (λ ks. with_parts ks ms) (ap (map recorded) is ∙ none_recorded s 0 s.sites ∙ ap (λ k. replicate k 0) (sym n))
-    ∙ ap (with_parts (replicate (length hs) 0)) none
-  where
-    with_parts : List ℕ → List Message → Progress
-    with_parts ks ns = record { settings = s; histories = hs; order = []; taken = ks; messages = ns }
+nothing_taken s hs xs ms is n none = cc (none_recorded s 0 s.sites)
 
 -- ---- a site's next entry
 
@@ -67,16 +59,16 @@ pub room_left : (x : SeenSite) (h : List Entry) → IsAlong x h → IsReplay x.s
 room_left x h along r less =
     let front : IsReplay x.settings x.me x.entries = subst (IsReplay x.settings x.me) (sym along)
     (Replaying.replay-take x.settings x.me (length x.entries) h r) in
-    let room : length h ≤ x.settings.limits.history = r.room in
-    Replaying.not_full x.settings (state_of x) (length x.entries) (Replaying.length_after x.settings x.me x.entries front) (omega arith)
+    Replaying.not_full x.settings (state_of x) (length x.entries) (Replaying.length_after x.settings x.me x.entries front)
+    (omega (arith, r.room))
 
 -- with its next entry the site is still along
 pub next_along : (x : SeenSite) (h : List Entry) (y : Entry) → IsAlong x h → IsReplay x.settings x.me h
     → slice_get h (length x.entries) ≡ Some y → next_site x y.event ≡ seen_at x.settings x.me (take (length x.entries + 1) h)
 next_along x h y along r at =
-    let sp : IsSplit h (length x.entries) y = Lists.split_at h (length x.entries) y at in
+    let sp = Lists.split_at h (length x.entries) y at in
     ap (λ xs. next_site (seen_at x.settings x.me xs) y.event) along
-    ∙ Recorded.step_on x.settings x.me (take (length x.entries) h) sp.rest y (subst (IsReplay x.settings x.me) sp.whole r)
+    ∙ Recorded.step_on x.settings x.me (take (length x.entries) h) sp.rest y (rw sp.whole at r)
     ∙ ap (seen_at x.settings x.me) (sym sp.more)
 
 -- ---- one entry more
@@ -92,31 +84,24 @@ at_site {s} {hs} {xs} i {h} {f} {x} along replays there at same =
 longer : (x y : SeenSite) (h : List Entry) (before after : List Message) → TakesNext x y h before after
     → length y.entries ≡ length x.entries + 1
 longer x y h before after t =
-    let within : length x.entries < length h = slice_get_within h (length x.entries) t.entry t.next in
-    ap recorded t.is ∙ length-take-le (length x.entries + 1) h (omega arith)
+    ap recorded t.is ∙ length-take-le (length x.entries + 1) h (omega (arith, slice_get_within h (length x.entries) t.entry t.next))
 
 -- what the site takes is taken
 pub took : {s : Settings} {hs : List (List Entry)} {order : List ℕ} {xs : List SeenSite} {ms after : List Message}
     {i : ℕ} {h : List Entry} {x y : SeenSite} → AreAlong s hs xs → slice_get hs i ≡ Some h → slice_get xs i ≡ Some x
     → TakesNext x y h ms after
     → Took (progress_of s hs order xs ms) (progress_of s hs (order ++ i ∷ []) (slice_set xs i y) after) i
-took {s} {hs} {order} {xs} {ms} {after} {i} {h} {x} {y} along there at t = record {
-  taken = length x.entries;
-  history = h;
-  entry = t.entry;
-  next = record { there = there; at = map_at recorded xs i x at; next = t.next };
-  source = t.source;
-  is = ap (λ ks. with_parts ks after) counts ∙ ap (with_parts (slice_set (map recorded xs) i (length x.entries + 1))) sent;
-}
-  where
-    with_parts : List ℕ → List Message → Progress
-    with_parts ks ns = record { settings = s; histories = hs; order = order ++ i ∷ []; taken = ks; messages = ns }
-
-    counts : map recorded (slice_set xs i y) ≡ slice_set (map recorded xs) i (length x.entries + 1)
-    counts = map-set recorded xs i y ∙ ap (slice_set (map recorded xs) i) (longer x y h ms after t)
-
-    sent : after ≡ ms ++ sent_at s (state_of (seen_at s i (take (length x.entries) h))) t.entry.event
-    sent = t.sends ∙ ap (λ (z : SeenSite). ms ++ sent_at z.settings (state_of z) t.entry.event) (along.each i h x there at)
+took {s} {hs} {order} {xs} {ms} {after} {i} {h} {x} {y} along there at t =
+    let sent : after ≡ ms ++ sent_at s (state_of (seen_at s i (take (length x.entries) h))) t.entry.event =
+    t.sends ∙ ap (λ (z : SeenSite). ms ++ sent_at z.settings (state_of z) t.entry.event) (along.each i h x there at) in
+    record {
+      taken = length x.entries;
+      history = h;
+      entry = t.entry;
+      next = record { there = there; at = map_at recorded xs i x at; next = t.next };
+      source = t.source;
+      is = cc (sent, map-set recorded xs i y, longer x y h ms after t);
+    }
 
 -- and each site is along then
 pub along_next : {s : Settings} {hs : List (List Entry)} {xs : List SeenSite} {ms after : List Message} (i : ℕ)
@@ -124,19 +109,11 @@ pub along_next : {s : Settings} {hs : List (List Entry)} {xs : List SeenSite} {m
     → TakesNext x y h ms after → AreAlong s hs (slice_set xs i y)
 along_next {s} {hs} {xs} {ms} {after} i {h} {x} {y} along there at t = record {
   sites = length-set xs i y ∙ along.sites;
-  each = λ j g z here found. elim (same_number i j) [
-    | inl e ↦ (let is : z ≡ y = cc (Places.get_set_same xs i x y at, e, found) in
-        let same : g ≡ h = cc (there, e, here) in
-        rw (is, same, e) mine)
-    | inr ne ↦ along.each j g z here (sym (Places.get_set_other xs i j y ne) ∙ found)
-  ];
+  each = λ j g z here found. Lists.each_set xs i x y (λ j z. (g : List Entry) → slice_get hs j ≡ Some g
+      → z ≡ seen_at s j (take (length z.entries) g)) at
+      (λ g here. cc (t.is, along.each i h x there at, longer x y h ms after t, there, here))
+      (λ j z ne found g here. along.each j g z here found) j z found g here;
 }
-  where
-    mine : y ≡ seen_at s i (take (length y.entries) h)
-    mine =
-        t.is
-        ∙ ap (λ (z : SeenSite). seen_at z.settings z.me (take (length x.entries + 1) h)) (along.each i h x there at)
-        ∙ ap (λ k. seen_at s i (take k h)) (sym (longer x y h ms after t))
 
 -- a site that takes nothing rests
 pub rests : {s : Settings} {hs : List (List Entry)} {order : List ℕ} (xs : List SeenSite) {ms : List Message} {i : ℕ}
@@ -152,9 +129,7 @@ pub done : (s : Settings) (hs : List (List Entry)) (order : List ℕ) (xs : List
     → IsTaking (progress_of s hs order xs ms) → AreAtEnd hs xs → IsDone (progress_of s hs order xs ms)
 done s hs order xs ms taking end i k h there at =
     let (x, found, is) = map_back recorded xs i k at in
-    let within : k ≤ length h = taking.within i k h there at in
-    let past : length h ≤ length x.entries = end i h x there found in
-    omega arith
+    omega (arith, taking.within i k h there at, end i h x there found)
 
 -- and else an entry is left
 pub left : (s : Settings) (hs : List (List Entry)) (order : List ℕ) (xs : List SeenSite) (ms : List Message) → IsBeforeEnd hs xs

@@ -1,5 +1,5 @@
 -- The position that is listed for the number is the only one to look at.
-use Rattle.std.proofs.Common.{◌≡◌, ◌∙◌, ap, sym, slice_get, Some, length, refl}
+use Rattle.std.proofs.Common.{◌≡◌, ◌∙◌, ap, sym, slice_get, length, refl}
 use Rattle.std.proofs.lemmas.Option.{slice_get_past, slice_get_read}
 use Rattle.rb_site.proofs.Public.Recorded
 use Rattle.rb_auditor.proofs.Listed
@@ -11,22 +11,14 @@ returns-in-Some-get-clause-known c = λ m here yes. Recorded.at_place c.args.pos
 
 pub returns-in-Some-get-clause-found : goal.returns-in-Some-get-clause-found
 returns-in-Some-get-clause-found c = λ m positions position here there at known.
-    let row : positions ≡ c.in-Some.positions.now.items = cc (
-      there,
-      Listed.row_at c.args.rows.now c.args.row
-          c.in-Some.positions.now c.in-Some.ensures.lookup.3.0 c.in-Some.ensures.lookup.1,
-    ) in
-    let listed : slice_get c.deref.result.now c.args.slot ≡ Some c.in-Some-get.position.now =
-    slice_get_read c.deref.result.now (length c.deref.result.now) c.args.slot c.in-Some-get.position.now refl
+    let row = Listed.row_at c.args.rows.now c.args.row c.in-Some.positions.now c.in-Some.ensures.lookup.3.0 c.in-Some.ensures.lookup.1 in
+    let listed = slice_get_read c.deref.result.now (length c.deref.result.now) c.args.slot c.in-Some-get.position.now refl
     c.in-Some-get.ensures.lookup.3.0 c.in-Some-get.ensures.lookup.1 in
-    let same : position ≡ c.in-Some-get.position.now = cc (at, row, c.deref.ensures.value, listed) in
+    let same : position ≡ c.in-Some-get.position.now = cc (at, there, row, c.deref.ensures.value, listed) in
     (c.is_at.ensures m here).1 (ap (slice_get c.args.posted.now.items) (sym same) ∙ known)
 
 pub returns-in-None-get-clause-found : goal.returns-in-None-get-clause-found
 returns-in-None-get-clause-found c = λ m positions position here there at known.
-    let row : positions ≡ c.in-Some.positions.now.items = cc (
-      there,
-      Listed.row_at c.args.rows.now c.args.row
-          c.in-Some.positions.now c.in-Some.ensures.lookup.3.0 c.in-Some.ensures.lookup.1,
-    ) in
-    cc (at, row, c.deref.ensures.value, slice_get_past c.deref.result.now c.args.slot c.in-None-get.ensures.lookup.3)
+    let row = Listed.row_at c.args.rows.now c.args.row c.in-Some.positions.now c.in-Some.ensures.lookup.3.0 c.in-Some.ensures.lookup.1 in
+    let past = slice_get_past c.deref.result.now c.args.slot c.in-None-get.ensures.lookup.3 in
+    cc (at, there, row, c.deref.ensures.value)

@@ -19,12 +19,14 @@ loop-site-init c =
     )
 
 pub read-requires : goal.read-requires
-read-requires c =
-    let count : length (lists_of c.args.histories.now) ≡ c.args.config.now.sites =
-    Listed.length_lists c.args.histories.now ∙ c.requires in
-    let same : length c.loop-site.auditor.histories ≡ length (lists_of c.args.histories.now) =
-    ap length c.loop-site.invariant.1 ∙ Read.filled_length (lists_of c.args.histories.now) c.loop-site.site in
-    omega (arith, c.sites-site-end.ensures.same, c.loop-site-test.true)
+read-requires c = omega (
+  arith,
+  Listed.length_lists c.args.histories.now,
+  ap length c.loop-site.invariant.1,
+  Read.filled_length (lists_of c.args.histories.now) c.loop-site.site,
+  c.sites-site-end.ensures.same,
+  c.loop-site-test.true,
+)
 
 pub loop-site-preserved : goal.loop-site-preserved
 loop-site-preserved c =
@@ -42,8 +44,5 @@ loop-site-preserved c =
 
 pub returns-clause-histories : goal.returns-clause-histories
 returns-clause-histories c =
-    let count : length (lists_of c.args.histories.now) ≡ c.args.config.now.sites =
-    Listed.length_lists c.args.histories.now ∙ c.requires in
-    c.loop-site.invariant.1
-    ∙ Read.filled_all (lists_of c.args.histories.now) c.loop-site.site
-    (omega (arith, c.sites-site-end.ensures.same, c.loop-site-test.false))
+    c.loop-site.invariant.1 ∙ Read.filled_all (lists_of c.args.histories.now) c.loop-site.site
+    (omega (arith, Listed.length_lists c.args.histories.now, c.requires, c.sites-site-end.ensures.same, c.loop-site-test.false))

@@ -2,7 +2,7 @@
 use Rattle.std.proofs.Common.{◌≡◌, ◌∙◌, ◌+◌, ◌<◌, ◌∷◌, [], Some, sym}
 use Rattle.std.proofs.Common.{subst, length, get_or, take, drop, arith}
 use Rattle.std.specs.Prelude.{slice_get}
-use Rattle.std.proofs.lemmas.List.{drop_all, take_all, take_more}
+use Rattle.std.proofs.lemmas.List.{drop_all, take_all, take_more, drop_more}
 use Rattle.std.proofs.lemmas.Option.{slice_get_read}
 use Rattle.rb_auditor.specs.Certificates.{Certifies}
 use Rattle.rb_auditor.specs.Findings.{lists_of}
@@ -35,8 +35,7 @@ rest : (c : After-sites) → Certifies c.args.config.now (lists_of c.args.histor
     c.loop-place.sites.items c.loop-place.sent.messages.items)
     (get_or c.args.order.now c.loop-place.place-index 0 ∷ drop (c.loop-place.place-index + 1) c.args.order.now)
 rest c cert =
-    let split = Following.rest_of c.args.order.now c.loop-place.place-index c.loop-place-test.true in
-    rw split at (c.loop-place.invariant.2 cert)
+    rw (drop_more c.args.order.now c.loop-place.place-index 0 c.loop-place-test.true) at (c.loop-place.invariant.2 cert)
 
 pub returns-then-place-sites : goal.returns-then-place-sites
 returns-then-place-sites c =

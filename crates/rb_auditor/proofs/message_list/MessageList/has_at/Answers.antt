@@ -3,7 +3,6 @@ use Rattle.std.proofs.Common.{◌≡◌, ◌∙◌, Some, ap, refl, sym}
 use Rattle.std.specs.Prelude.{option_map, slice_get}
 use Rattle.std.proofs.lemmas.Option.{slice_get_past, slice_get_read}
 use Rattle.rb_site.specs.declared.message.Message.TheVariants.{Shadow as ShadowMessage}
-use Rattle.rb_auditor.specs.MessageLists.{message_kept_at}
 use Rattle.rb_auditor.proofs.Positions
 use Rattle.rb_auditor.proofs.Results.{denied}
 use Rattle.rb_auditor.proofs.message_list.MessageList.has_at.Goals.{In-Compact, After-deref-in-Other}
@@ -14,19 +13,14 @@ compact : (c : In-Compact) → slice_get c.args.self.now.items c.args.index
     ≡ option_map (λ u. ShadowMessage u) (slice_get c.self.inside.compact.items c.in-Compact.at)
 compact c =
     Positions.at_position c.self.inside.compact.items c.self.inside.others.items c.self.view_is c.self.invariant.each
-    c.deref.ensures.value
-    c.in-Some.ensures.lookup.3.0 c.in-Some.ensures.lookup.1
-    ∙ ap (message_kept_at c.self.inside.compact.items c.self.inside.others.items) c.in-Compact.is
+    c.deref.ensures.value c.in-Some.ensures.lookup.3.0 c.in-Some.ensures.lookup.1 c.in-Compact.is
 
 -- and if it is kept whole
 other : (c : After-deref-in-Other)
     → slice_get c.args.self.now.items c.args.index ≡ slice_get c.deref-in-Other.result.now c.in-Other.at
 other c =
-    Positions.at_position c.self.inside.compact.items c.self.inside.others.items c.self.view_is c.self.invariant.each
-    c.deref.ensures.value
-    c.in-Some.ensures.lookup.3.0 c.in-Some.ensures.lookup.1
-    ∙ ap (message_kept_at c.self.inside.compact.items c.self.inside.others.items) c.in-Other.is
-    ∙ ap (λ os. slice_get os c.in-Other.at) (sym c.deref-in-Other.ensures.value)
+    rw c.deref-in-Other.ensures.value (Positions.at_position c.self.inside.compact.items c.self.inside.others.items c.self.view_is
+    c.self.invariant.each c.deref.ensures.value c.in-Some.ensures.lookup.3.0 c.in-Some.ensures.lookup.1 c.in-Other.is)
 
 pub returns-in-Some-get : goal.returns-in-Some-get
 returns-in-Some-get c =

@@ -111,20 +111,15 @@ pub bounds-self-inside-site : goal.bounds-self-inside-site
 bounds-self-inside-site c = Judged.has_notes c.self.inside.notes.now c.self.view_is refl c.requires
 
 pub invariant_of-self : goal.invariant_of-self
-invariant_of-self c = (
-  Takings.still_taking c.self.invariant.0 c.in_err-reserve.ensures.items refl,
-  c.self.invariant.1,
-  c.self.invariant.2,
-  c.self.invariant.3,
-)
+invariant_of-self c =
+    (rw c.in_err-reserve.ensures.items c.self.invariant.0, c.self.invariant.1, c.self.invariant.2, c.self.invariant.3)
 
 pub returns-in_err-reserve-clause-err : goal.returns-in_err-reserve-clause-err
-returns-in_err-reserve-clause-err c =
-    still c.from_residual.result _ (Takings.same_as c.self.view_is c.in_err-reserve.ensures.items refl)
+returns-in_err-reserve-clause-err c = still c.from_residual.result _ (rw c.in_err-reserve.ensures.items c.self.view_is)
 
 pub invariant_of-self-in_err-add_all : goal.invariant_of-self-in_err-add_all
 invariant_of-self-in_err-add_all c = (
-  Takings.still_taking c.self.invariant.0 c.in_ok-reserve.ensures.items c.in_err-add_all.ensures.err,
+  rw (c.in_ok-reserve.ensures.items, c.in_err-add_all.ensures.err) c.self.invariant.0,
   rw c.add_all.ensures.all c.self.invariant.1,
   c.self.invariant.2,
   c.self.invariant.3,
@@ -132,7 +127,7 @@ invariant_of-self-in_err-add_all c = (
 
 pub returns-in_err-add_all-clause-err : goal.returns-in_err-add_all-clause-err
 returns-in_err-add_all-clause-err c = still c.from_residual-in_err-add_all.result _
-    (Takings.same_as c.self.view_is c.in_ok-reserve.ensures.items c.in_err-add_all.ensures.err)
+    (rw (c.in_ok-reserve.ensures.items, c.in_err-add_all.ensures.err) c.self.view_is)
 
 pub index_mut-requires : goal.index_mut-requires
 index_mut-requires c = Judged.has_taken c.self.inside.notes.now c.self.invariant.0 refl c.self.inside.taken.ok.0
