@@ -1,8 +1,9 @@
 -- Turns one after another, and lines that are taken off what waits.
-use Rattle.std.proofs.Common.{◌≡◌, ◌<◌, ◌≤◌, ◌+◌, ◌-◌, ◌⊎◌, ◌&&◌, ℕ, Bool, true, false, cond, not, rules}
+use Rattle.std.proofs.Common.{◌≡◌, ◌<◌, ◌≤◌, ◌+◌, ◌-◌, ◌⊎◌, ℕ, Bool, true, false, cond, not, rules}
 use Rattle.std.proofs.Common.{List, [], ◌∷◌, ◌++◌, length, take, drop, inl, inr, refl, sym}
 use Rattle.std.proofs.Common.{ap, ◌∙◌, arith, subst, append_assoc, append-nil, length-append}
 use Rattle.std.proofs.Math.Seq.{take-append_seam}
+use Rattle.std.proofs.lemmas.Bool.{and_left, and_right}
 use Rattle.std.proofs.lemmas.List.{append_cancel_left, map-append}
 use Rattle.std.proofs.lemmas.List.Concat.{flat_map-append}
 use Rattle.std.specs.List.{concat}
@@ -31,34 +32,26 @@ state_then s now new (x ∷ xs) ys a b = state_then x.after now new xs ys a b
 pub added_then : {S : Type 0} (lines now new : List (List ℕ)) (xs ys : List (Turn S)) → now ≡ lines ++ lines_added xs
     → new ≡ now ++ lines_added ys
     → new ≡ lines ++ lines_added (xs ++ ys)
-added_then {S} lines now new xs ys a b =
-    b ∙ ap (λ ls. ls ++ lines_added ys) a ∙ append_assoc lines (lines_added xs) (lines_added ys)
-    ∙ ap (λ ls. lines ++ ls) (sym (flat_map-append (λ (t : Turn S). t.added) xs ys))
+added_then lines now new xs ys a b = rw (b, a, append_assoc, flat_map-append)
 
 -- the text of turns, behind that of others
 pub texts_then : {S : Type 0} (text now new : List ℕ) (xs ys : List (Turn S)) → now ≡ text ++ texts xs → new ≡ now ++ texts ys
     → new ≡ text ++ texts (xs ++ ys)
-texts_then {S} text now new xs ys a b =
-    b ∙ ap (λ l. l ++ texts ys) a ∙ append_assoc text (texts xs) (texts ys)
-    ∙ ap (λ l. text ++ l) (sym (flat_map-append (λ (t : Turn S). t.text) xs ys))
+texts_then text now new xs ys a b = rw (b, a, append_assoc, flat_map-append)
 
 -- a line that isn't blank is answered
 pub some_answered : (l : List ℕ) → is_blank l ≡ false → is_skipped l ≡ false
-some_answered l some = ap (λ b. b && not (is_long l)) some
-
-neither : (b : Bool) → (b && false) ≡ false
-neither true = refl
-neither false = refl
+some_answered l some = and_left (is_blank l) (not (is_long l)) some
 
 -- and so is one that is too long
 pub long_answered : (l : List ℕ) → is_long l ≡ true → is_skipped l ≡ false
-long_answered l long = ap (λ b. is_blank l && not b) long ∙ neither (is_blank l)
+long_answered l long = and_right (is_blank l) (not (is_long l)) (ap not long)
 
 -- another is skipped
 pub blank_skipped : (l : List ℕ) → is_blank l ≡ true → length l ≤ LINE_LIMIT → is_skipped l ≡ true
 blank_skipped l blank short =
     let fits : is_long l ≡ false = search rules in
-    ap (λ b. b && not (is_long l)) blank ∙ ap (λ b. not b) fits
+    rw (blank, fits)
 
 onto : (b : Bool) (x : ℕ × List ℕ) (xs ys : List (ℕ × List ℕ)) → cond b (xs ++ ys) (x ∷ (xs ++ ys)) ≡ cond b xs (x ∷ xs) ++ ys
 onto true x xs ys = refl
@@ -75,9 +68,7 @@ to_answer_then n m (x ∷ xs) ys is =
 pub answered_then : {S : Type 0} (n m : ℕ) (xs ys : List (Turn S)) (before behind : List (List ℕ)) → m ≡ n + length before
     → lines_answered xs ≡ to_answer n before → lines_answered ys ≡ to_answer m behind
     → lines_answered (xs ++ ys) ≡ to_answer n (before ++ behind)
-answered_then {S} n m xs ys before behind is a b =
-    map-append (λ (t : Turn S). (t.number, t.line)) xs ys ∙ ap (λ ls. ls ++ lines_answered ys) a ∙ ap (λ ls. to_answer n before ++ ls) b
-    ∙ sym (to_answer_then n m before behind is)
+answered_then n m xs ys before behind is a b = rw (map-append, a, b, to_answer_then n m before behind is)
 
 -- ---- lines that are taken
 
@@ -86,9 +77,8 @@ nothing_taken p e = record { lines = λ rest end. refl; whole = λ going tail. r
 
 taken_then : (p q r : List ℕ) (e : Bool) (xs ys : List (List ℕ)) → IsTaken p e xs q → IsTaken q e ys r → IsTaken p e (xs ++ ys) r
 taken_then p q r e xs ys a b = record {
-  lines = λ rest end. a.lines rest end ∙ ap (λ ls. xs ++ ls) (b.lines rest end) ∙ sym (append_assoc xs ys (lines_of (r ++ rest)));
-  whole = λ going tail. a.whole going tail ∙ ap (λ ls. xs ++ ls) (b.whole going tail)
-      ∙ sym (append_assoc xs ys (whole_lines (r ++ tail)));
+  lines = λ rest end. rw (a.lines rest end, b.lines rest end, append_assoc);
+  whole = λ going tail. rw (a.whole going tail, b.whole going tail, append_assoc);
 }
 
 -- a line of n bytes is at the front, with its line feed or at the end
@@ -115,78 +105,71 @@ one_taken p e n len fits at_front = record {
 
 -- ---- steps
 
--- no step: no line was taken and none was answered
-pub no_step : {S : Type 0} (answers : Answers S) (e : Bool) (p : Point S) → Advances answers e p p
-no_step answers e p = record {
-  turns = [];
-  taken = [];
-  are = tt;
-  state_is = refl;
-  lines_are = sym (append-nil p.lines);
-  text_is = sym (append-nil p.text);
-  count_is = omega arith;
-  number_is = omega arith;
-  answered = refl;
-  taken_is = nothing_taken p.pending e;
-}
+module _ {S : Type 0} {answers : Answers S} {e : Bool} where
+  -- no step: no line was taken and none was answered
+  pub no_step : (p : Point S) → Advances answers e p p
+  no_step p = record {
+    turns = [];
+    taken = [];
+    are = tt;
+    state_is = refl;
+    lines_are = sym (append-nil p.lines);
+    text_is = sym (append-nil p.text);
+    count_is = omega arith;
+    number_is = omega arith;
+    answered = refl;
+    taken_is = nothing_taken p.pending e;
+  }
 
--- some steps, and then others
-pub steps_then : {S : Type 0} (answers : Answers S) (e : Bool) (p q r : Point S) → Advances answers e p q → Advances answers e q r
-    → Advances answers e p r
-steps_then answers e p q r a b = record {
-  turns = a.turns ++ b.turns;
-  taken = a.taken ++ b.taken;
-  are = turns_then answers p.state a.turns b.turns a.are (subst (λ s. AreTurns answers s b.turns) a.state_is b.are);
-  state_is = state_then p.state q.state r.state a.turns b.turns a.state_is b.state_is;
-  lines_are = added_then p.lines q.lines r.lines a.turns b.turns a.lines_are b.lines_are;
-  text_is = texts_then p.text q.text r.text a.turns b.turns a.text_is b.text_is;
-  count_is = omega (arith, a.count_is, b.count_is, length-append a.turns b.turns);
-  number_is = omega (arith, a.number_is, b.number_is, length-append a.taken b.taken);
-  answered = answered_then p.number q.number a.turns b.turns a.taken b.taken a.number_is a.answered b.answered;
-  taken_is = taken_then p.pending q.pending r.pending e a.taken b.taken a.taken_is b.taken_is;
-}
+  -- some steps, and then others
+  pub steps_then : {p q r : Point S} → Advances answers e p q → Advances answers e q r → Advances answers e p r
+  steps_then {p} {q} {r} a b = record {
+    turns = a.turns ++ b.turns;
+    taken = a.taken ++ b.taken;
+    are = turns_then answers p.state a.turns b.turns a.are (rw a.state_is at b.are);
+    state_is = state_then p.state q.state r.state a.turns b.turns a.state_is b.state_is;
+    lines_are = added_then p.lines q.lines r.lines a.turns b.turns a.lines_are b.lines_are;
+    text_is = texts_then p.text q.text r.text a.turns b.turns a.text_is b.text_is;
+    count_is = omega (arith, a.count_is, b.count_is, length-append a.turns b.turns);
+    number_is = omega (arith, a.number_is, b.number_is, length-append a.taken b.taken);
+    answered = answered_then p.number q.number a.turns b.turns a.taken b.taken a.number_is a.answered b.answered;
+    taken_is = taken_then p.pending q.pending r.pending e a.taken b.taken a.taken_is b.taken_is;
+  }
 
--- a blank line is skipped
-pub skips : {S : Type 0} (answers : Answers S) (e : Bool) (p q : Point S) (n : ℕ) → n ≡ line_len p.pending → n ≤ length p.pending
-    → IsFirst p.pending e n
-    → is_skipped (take n p.pending) ≡ true
-    → q.state ≡ p.state → q.lines ≡ p.lines → q.text ≡ p.text → q.pending ≡ drop (n + 1) p.pending → q.number ≡ p.number + 1
-    → q.count ≡ p.count
-    → Advances answers e p q
-skips answers e p q n len fits at_front skipped state lines text left number count = record {
-  turns = [];
-  taken = take n p.pending ∷ [];
-  are = tt;
-  state_is = state;
-  lines_are = lines ∙ sym (append-nil p.lines);
-  text_is = text ∙ sym (append-nil p.text);
-  count_is = omega (arith, count);
-  number_is = omega (arith, number);
-  answered = sym (ap (λ b. cond b [] ((p.number, take n p.pending) ∷ [])) skipped);
-  taken_is = subst (λ l. IsTaken p.pending e (take n p.pending ∷ []) l) (sym left) (one_taken p.pending e n len fits at_front);
-}
+  module _ {p q : Point S} (n : ℕ) (len : n ≡ line_len p.pending) (fits : n ≤ length p.pending) (at_front : IsFirst p.pending e n) where
+    -- a blank line is skipped
+    pub skips : is_skipped (take n p.pending) ≡ true → q.state ≡ p.state → q.lines ≡ p.lines → q.text ≡ p.text
+        → q.pending ≡ drop (n + 1) p.pending → q.number ≡ p.number + 1 → q.count ≡ p.count → Advances answers e p q
+    skips skipped state lines text left number count = record {
+      turns = [];
+      taken = take n p.pending ∷ [];
+      are = tt;
+      state_is = state;
+      lines_are = lines ∙ sym (append-nil p.lines);
+      text_is = text ∙ sym (append-nil p.text);
+      count_is = omega (arith, count);
+      number_is = omega (arith, number);
+      answered = sym (ap (λ b. cond b [] ((p.number, take n p.pending) ∷ [])) skipped);
+      taken_is = rw left (one_taken p.pending e n len fits at_front);
+    }
 
--- a line is answered
-pub answers_one : {S : Type 0} (answers : Answers S) (e : Bool) (p q : Point S) (n : ℕ) (new : S)
-    (lines_new batch batch_new : List (List ℕ))
-    (text_new : List ℕ)
-    → n ≡ line_len p.pending → n ≤ length p.pending → IsFirst p.pending e n → is_skipped (take n p.pending) ≡ false
-    → IsTurn answers p.state new p.lines lines_new batch batch_new p.number (take n p.pending) p.text text_new
-    → q.state ≡ new → q.lines ≡ lines_new → q.text ≡ text_new → q.pending ≡ drop (n + 1) p.pending → q.number ≡ p.number + 1
-    → q.count ≡ p.count + 1
-    → Advances answers e p q
-answers_one answers e p q n new lines_new batch batch_new text_new len fits at_front some turn state lines text left number count = record {
-  turns = record { number = p.number; line = take n p.pending; added = turn.added; text = turn.words; after = new } ∷ [];
-  taken = take n p.pending ∷ [];
-  are = (turn.answered, tt);
-  state_is = state;
-  lines_are = lines ∙ turn.lines_are ∙ ap (λ ls. p.lines ++ ls) (sym (append-nil turn.added));
-  text_is = text ∙ turn.text_is ∙ ap (λ l. p.text ++ l) (sym (append-nil turn.words));
-  count_is = omega (arith, count);
-  number_is = omega (arith, number);
-  answered = sym (ap (λ b. cond b [] ((p.number, take n p.pending) ∷ [])) some);
-  taken_is = subst (λ l. IsTaken p.pending e (take n p.pending ∷ []) l) (sym left) (one_taken p.pending e n len fits at_front);
-}
+    -- a line is answered
+    pub answers_one : {new : S} {lines_new batch batch_new : List (List ℕ)} {text_new : List ℕ} → is_skipped (take n p.pending) ≡ false
+        → IsTurn answers p.state new p.lines lines_new batch batch_new p.number (take n p.pending) p.text text_new
+        → q.state ≡ new → q.lines ≡ lines_new → q.text ≡ text_new → q.pending ≡ drop (n + 1) p.pending → q.number ≡ p.number + 1
+        → q.count ≡ p.count + 1 → Advances answers e p q
+    answers_one {new} some turn state lines text left number count = record {
+      turns = record { number = p.number; line = take n p.pending; added = turn.added; text = turn.words; after = new } ∷ [];
+      taken = take n p.pending ∷ [];
+      are = (turn.answered, tt);
+      state_is = state;
+      lines_are = lines ∙ turn.lines_are ∙ ap (λ ls. p.lines ++ ls) (sym (append-nil turn.added));
+      text_is = text ∙ turn.text_is ∙ ap (λ l. p.text ++ l) (sym (append-nil turn.words));
+      count_is = omega (arith, count);
+      number_is = omega (arith, number);
+      answered = sym (ap (λ b. cond b [] ((p.number, take n p.pending) ∷ [])) some);
+      taken_is = rw left (one_taken p.pending e n len fits at_front);
+    }
 
 -- ---- one batch
 
@@ -207,26 +190,21 @@ pub alone : {S : Type 0} (turns : List (Turn S)) → length turns ≤ 1 → IsOn
 alone turns short = one_more [] turns (omega arith, omega arith) (omega arith, omega arith) short
 
 -- before the first line
-pub none_yet : {S : Type 0} (answers : Answers S) (e : Bool) (p : Point S) → AdvancesByBatch answers e p p
+pub none_yet : {S : Type 0} {answers : Answers S} {e : Bool} (p : Point S) → AdvancesByBatch answers e p p
 unfolding no_step
-none_yet answers e p = (no_step answers e p, (omega arith, omega arith))
+none_yet p = (no_step p, (omega arith, omega arith))
 
--- if the bytes that wait are few, the turns that they come from are
-pub few_so_far : {S : Type 0} (answers : Answers S) (e : Bool) (p q : Point S) (batch : List ℕ) (a : Advances answers e p q)
-    → q.lines ≡ p.lines ++ recovered batch → IsBatch batch → p.text ≡ [] → length batch ≤ MOST_BATCHED
-    → length q.text ≤ MOST_BATCHED
-    → AreFew a.turns
-few_so_far answers e p q batch a lines whole none few short =
-    let same : lines_added a.turns ≡ recovered batch = append_cancel_left p.lines _ _ (sym a.lines_are ∙ lines) in
-    let text : q.text ≡ texts a.turns = a.text_is ∙ ap (λ (l : List ℕ). l ++ texts a.turns) none in (
-      subst (λ (l : List ℕ). length l ≤ MOST_BATCHED) (sym (ap concat same ∙ whole)) few,
-      subst (λ (l : List ℕ). length l ≤ MOST_BATCHED) text short,
-    )
+module _ {S : Type 0} {answers : Answers S} {e : Bool} {p q : Point S} where
+  -- if the bytes that wait are few, the turns that they come from are
+  pub few_so_far : (batch : List ℕ) (a : Advances answers e p q) → q.lines ≡ p.lines ++ recovered batch → IsBatch batch → p.text ≡ []
+      → length batch ≤ MOST_BATCHED → length q.text ≤ MOST_BATCHED → AreFew a.turns
+  few_so_far batch a lines whole none few short =
+      let same : lines_added a.turns ≡ recovered batch = append_cancel_left p.lines _ _ (sym a.lines_are ∙ lines) in
+      let text : q.text ≡ texts a.turns = rw none at a.text_is in
+      (rw (same, whole) few, rw text at short)
 
--- a batch, and then one line
-pub batch_then : {S : Type 0} (answers : Answers S) (e : Bool) (p q r : Point S) (a : AdvancesByBatch answers e p q)
-    → Advances answers e q r → AreFew a.0.turns → r.count ≤ q.count + 1
-    → AdvancesByBatch answers e p r
-unfolding steps_then
-batch_then answers e p q r a b few one =
-    (steps_then answers e p q r a.0 b, one_more a.0.turns b.turns a.1 few (omega (arith, b.count_is, one)))
+  -- a batch, and then one line
+  pub batch_then : {r : Point S} (a : AdvancesByBatch answers e p q) → Advances answers e q r → AreFew a.0.turns → r.count ≤ q.count + 1
+      → AdvancesByBatch answers e p r
+  unfolding steps_then
+  batch_then a b few one = (steps_then a.0 b, one_more a.0.turns b.turns a.1 few (omega (arith, b.count_is, one)))

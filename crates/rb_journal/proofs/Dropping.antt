@@ -1,5 +1,5 @@
 -- A line that is too long, and is dropped as it comes.
-use Rattle.std.proofs.Common.{◌≡◌, ◌<◌, ◌≤◌, ◌+◌, ◌==◌, ◌⊎◌, ℕ, Bool, true, false, List, [], ◌∷◌, ◌++◌, length, take, drop}
+use Rattle.std.proofs.Common.{◌≡◌, ◌<◌, ◌≤◌, ◌+◌, ◌==◌, ⊎_elim, ℕ, Bool, true, false, List, [], ◌∷◌, ◌++◌, length, take, drop}
 use Rattle.std.proofs.Common.{Option, inl, inr, refl, sym, ap, ◌∙◌, arith, append_assoc, append-nil, length-append, rules}
 use Rattle.std.proofs.KnownBytes.{Consumes-kept, Consumes-nil, Consumes-trans}
 use Rattle.std.proofs.Math.Seq.{drop-append-add}
@@ -46,15 +46,6 @@ longer (b ∷ xs) ys = longer_step (b == 10) b xs ys refl (longer xs ys)
 pub no_shorter : (xs ys : List ℕ) → line_len xs ≤ line_len (xs ++ ys)
 no_shorter xs ys = omega (arith, longer xs ys, len_is xs, len_is (xs ++ ys))
 
-first_either : (p : List ℕ) (e : Bool) → (line_len p < length p) ⊎ ((line_len p ≡ length p) × (e ≡ true)) → 0 < line_len p
-    → IsFirst p e (line_len p)
-first_either p e (inl more) some = inl more
-first_either p e (inr last) some = inr (last.0, some, last.1)
-
-fits_either : (p : List ℕ) (e : Bool) → (line_len p < length p) ⊎ ((line_len p ≡ length p) × (e ≡ true)) → line_len p ≤ length p
-fits_either p e (inl more) = omega (arith, more)
-fits_either p e (inr last) = omega (arith, last.0)
-
 -- ---- what was dropped so far
 
 -- of what waited and what was read behind it, the bytes that are gone have no line feed, and these wait now
@@ -68,40 +59,36 @@ pub record Dropped (old now : List ℕ) (had has : Option (List ℕ)) : Type 0 w
 pub none_dropped : (p : List ℕ) (had : Option (List ℕ)) → (d : Dropped p p had had) × (length d.gone ≡ 0) × (d.more ≡ [])
 none_dropped p had = (record { more = []; gone = []; read = Consumes-nil had; all = append-nil p; one = refl }, refl, refl)
 
--- what waits has no line feed: it is dropped, and more is read
-pub dropped_more : (old p p' : List ℕ) (had mid has : Option (List ℕ)) → (d : Dropped old p had mid) → line_len p ≡ length p
-    → Reads [] p' mid has → (e : Dropped old p' had has) × (length e.gone ≡ length d.gone + length p)
-dropped_more old p p' had mid has d none (m, is, read) = (
-  record {
-    more = d.more ++ m;
-    gone = d.gone ++ p;
-    read = Consumes-trans had mid has d.more m d.read read;
-    all = sym (append_assoc old d.more m) ∙ ap (λ l. l ++ m) d.all ∙ ap (λ l. (d.gone ++ p) ++ l) (sym is);
-    one = line_behind d.gone p d.one ∙ ap (λ n. length d.gone + n) none ∙ sym (length-append d.gone p);
-  },
-  length-append d.gone p,
-)
+module _ {old p : List ℕ} {had mid : Option (List ℕ)} (d : Dropped old p had mid) where
+  -- the length of the first line of all that was dropped and that waits
+  pub all_length : (line_len (old ++ d.more) ≡ length d.gone + line_len p) × (length (old ++ d.more) ≡ length d.gone + length p)
+  all_length = (ap line_len d.all ∙ line_behind d.gone p d.one, ap length d.all ∙ length-append d.gone p)
 
--- the length of the first line of all that was dropped and that waits
-pub all_length : (old p : List ℕ) (had has : Option (List ℕ)) → (d : Dropped old p had has)
-    → (line_len (old ++ d.more) ≡ length d.gone + line_len p) × (length (old ++ d.more) ≡ length d.gone + length p)
-all_length old p had has d =
-    (ap line_len d.all ∙ line_behind d.gone p d.one, ap length d.all ∙ length-append d.gone p)
+  -- what is behind that line
+  pub behind_all : drop (line_len p + 1) p ≡ drop (line_len (old ++ d.more) + 1) (old ++ d.more)
+  behind_all =
+      let at : line_len (old ++ d.more) + 1 ≡ length d.gone + (line_len p + 1) = omega (arith, all_length.0) in
+      sym (rw (at, d.all) (drop-append-add d.gone p (line_len p + 1)))
 
--- what is behind that line
-pub behind_all : (old p : List ℕ) (had has : Option (List ℕ)) → (d : Dropped old p had has)
-    → drop (line_len p + 1) p ≡ drop (line_len (old ++ d.more) + 1) (old ++ d.more)
-behind_all old p had has d =
-    let at : line_len (old ++ d.more) + 1 ≡ length d.gone + (line_len p + 1) = omega (arith, (all_length old p had has d).0) in
-    sym (ap (λ l. drop (line_len (old ++ d.more) + 1) l) d.all ∙ ap (λ n. drop n (d.gone ++ p)) at
-    ∙ drop-append-add d.gone p (line_len p + 1))
+  module _ (none : line_len p ≡ length p) where
+    -- what waits has no line feed: it is dropped, and more is read
+    pub dropped_more : (p' : List ℕ) (has : Option (List ℕ)) → Reads [] p' mid has
+        → (e : Dropped old p' had has) × (length e.gone ≡ length d.gone + length p)
+    dropped_more p' has (m, is, read) = (
+      record {
+        more = d.more ++ m;
+        gone = d.gone ++ p;
+        read = Consumes-trans had mid has d.more m d.read read;
+        all = sym (append_assoc old d.more m) ∙ ap (λ l. l ++ m) d.all ∙ ap (λ l. (d.gone ++ p) ++ l) (sym is);
+        one = line_behind d.gone p d.one ∙ ap (λ n. length d.gone + n) none ∙ sym (length-append d.gone p);
+      },
+      length-append d.gone p,
+    )
 
--- the read failed: all that came is the front of one line
-pub stopped_in_line : (old p : List ℕ) (had mid has : Option (List ℕ)) → (d : Dropped old p had mid) → line_len p ≡ length p
-    → Keeps mid has → Consumes had has d.more × (line_len (old ++ d.more) ≡ length (old ++ d.more))
-stopped_in_line old p had mid has d none kept =
-    let lengths = all_length old p had mid d in
-    (Consumes-kept had mid has d.more d.read kept, lengths.0 ∙ ap (λ n. length d.gone + n) none ∙ sym lengths.1)
+    -- the read failed: all that came is the front of one line
+    pub stopped_in_line : (has : Option (List ℕ)) → Keeps mid has
+        → Consumes had has d.more × (line_len (old ++ d.more) ≡ length (old ++ d.more))
+    stopped_in_line has kept = (Consumes-kept had mid has d.more d.read kept, omega (arith, all_length.0, all_length.1, none))
 
 -- a read that failed, and not for want of memory, has changed nothing
 pub read_failed : (old new : Buffers) (had has : Option (List ℕ)) (failed : Bool) (calls : ℕ) (why : NoLine) → (why ≡ OutOfMemory → ⊥)
@@ -113,21 +100,22 @@ read_failed old new had has failed calls Write some is = absurd is
 
 -- ---- the line that was dropped
 
--- it is at the front of what waited and was read, with its line feed, or at the end
-pub dropped_first : (old new : Buffers) (had has : Option (List ℕ)) → (d : DropsLine old new had has) → LINE_LIMIT < line_len old.pending
-    → IsFirst (old.pending ++ d.more) new.ended (line_len (old.pending ++ d.more))
-dropped_first old new had has d long = first_either (old.pending ++ d.more) new.ended d.whole
-    (omega (arith, long, no_shorter old.pending d.more))
+module _ {old new : Buffers} {had has : Option (List ℕ)} (d : DropsLine old new had has) where
+  -- the line and what is behind it
+  abbrev all : List ℕ
+  all = old.pending ++ d.more
 
-pub dropped_fits : (old new : Buffers) (had has : Option (List ℕ)) → (d : DropsLine old new had has)
-    → line_len (old.pending ++ d.more) ≤ length (old.pending ++ d.more)
-dropped_fits old new had has d = fits_either (old.pending ++ d.more) new.ended d.whole
+  pub dropped_fits : line_len all ≤ length all
+  dropped_fits = ⊎_elim (λ more. omega (arith, more)) (λ last. omega (arith, last.0)) d.whole
 
--- it is too long
-pub dropped_long : (old new : Buffers) (had has : Option (List ℕ)) → (d : DropsLine old new had has) → LINE_LIMIT < line_len old.pending
-    → is_long (take (line_len (old.pending ++ d.more)) (old.pending ++ d.more)) ≡ true
-dropped_long old new had has d long =
-    let all = old.pending ++ d.more in
-    let longer : LINE_LIMIT < length (take (line_len all) all) =
-    omega (arith, long, no_shorter old.pending d.more, dropped_fits old new had has d, length-take (line_len all) all) in
-    search rules
+  module _ (long : LINE_LIMIT < line_len old.pending) where
+    -- it is at the front of what waited and was read, with its line feed, or at the end
+    pub dropped_first : IsFirst all new.ended (line_len all)
+    dropped_first = ⊎_elim inl (λ last. inr (last.0, omega (arith, long, no_shorter old.pending d.more), last.1)) d.whole
+
+    -- it is too long
+    pub dropped_long : is_long (take (line_len all) all) ≡ true
+    dropped_long =
+        let longer : LINE_LIMIT < length (take (line_len all) all) =
+        omega (arith, long, no_shorter old.pending d.more, dropped_fits, length-take (line_len all) all) in
+        search rules

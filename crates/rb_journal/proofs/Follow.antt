@@ -42,25 +42,23 @@ was_going false is still going = refl
 taken_more : (p q more : List ℕ) (e e' : Bool) (taken : List (List ℕ)) → IsTaken p e taken q
     → (e ≡ true → (more ≡ []) × (e' ≡ true)) → IsTaken (p ++ more) e' taken (q ++ more)
 taken_more p q more e e' taken is still = record {
-  lines = λ rest end. ap lines_of (append_assoc p more rest)
-      ∙ is.lines (more ++ rest) (λ ended. ap (λ l. l ++ rest) (still ended).0 ∙ end (still ended).1)
-      ∙ ap (λ l. taken ++ lines_of l) (sym (append_assoc q more rest));
-  whole = λ going tail. ap whole_lines (append_assoc p more tail) ∙ is.whole (was_going e e' still going) (more ++ tail)
-      ∙ ap (λ l. taken ++ whole_lines l) (sym (append_assoc q more tail));
+  lines = λ rest end. rw (append_assoc p, append_assoc q)
+      (is.lines (more ++ rest) (λ ended. ap (λ l. l ++ rest) (still ended).0 ∙ end (still ended).1));
+  whole = λ going tail. rw (append_assoc p, append_assoc q) (is.whole (was_going e e' still going) (more ++ tail));
 }
 
 -- bytes were read, and no line is taken yet
 pub only_read : {S : Type 0} (answers : Answers S) (e e' : Bool) (p : Point S) (more : List ℕ) (had has : Option (List ℕ))
     → Consumes had has more → (e ≡ true → (more ≡ []) × (e' ≡ true)) → Goes answers e e' p (longer p more) had has
 only_read answers e e' p more had has read still =
-    record { more = more; read = read; still = still; steps = no_step answers e' (longer p more) }
+    record { more = more; read = read; still = still; steps = no_step (longer p more) }
 
 module _ {S : Type 0} {answers : Answers S} {was e : Bool} {p q : Point S} {had mid : Option (List ℕ)}
     (a : Goes answers was e p q had mid) where
   -- lines more were taken
   pub more_taken : {r : Point S} {e' : Bool} → Advances answers e q r → e' ≡ e → Goes answers was e' p r had mid
   more_taken {r} next same = subst (λ b. Goes answers was b p r had mid) (sym same)
-      (record { more = a.more; read = a.read; still = a.still; steps = steps_then answers e (longer p a.more) q r a.steps next })
+      (record { more = a.more; read = a.read; still = a.still; steps = steps_then a.steps next })
 
   -- and one part of a run after another
   pub goes_then : {r : Point S} {e' : Bool} {has : Option (List ℕ)} → Goes answers e e' q r mid has → Goes answers was e' p r had has
@@ -84,7 +82,7 @@ module _ {S : Type 0} {answers : Answers S} {was e : Bool} {p q : Point S} {had 
         more = more;
         read = Consumes-trans had mid has a.more b.more a.read b.read;
         still = λ ended. (ap (λ l. l ++ b.more) (a.still ended).0 ∙ (b.still (a.still ended).1).0, (b.still (a.still ended).1).1);
-        steps = steps_then answers e' (longer p more) (longer q b.more) r before b.steps;
+        steps = steps_then before b.steps;
       }
 
   -- bytes more were read
@@ -99,21 +97,16 @@ prefix_on : {S : Type 0} (output now d : List ℕ) (xs ys : List (Turn S)) → n
     → AddsPrefix output (texts (xs ++ ys)) d
 prefix_on {S} output now d xs ys is some = (
   length (texts xs) + some.0,
-  some.1 ∙ ap (λ l. l ++ take some.0 (texts ys)) is ∙ append_assoc output (texts xs) (take some.0 (texts ys))
-      ∙ ap (λ l. output ++ l) (sym (take-append-add (texts xs) (texts ys) some.0))
-      ∙ ap (λ l. output ++ take (length (texts xs) + some.0) l) (sym (flat_map-append (λ (t : Turn S). t.text) xs ys)),
+  some.1 ∙ rw (is, append_assoc, flat_map-append, take-append-add),
 )
 
 -- if lines were taken, the turns that answer them come first, and then those of the lines behind them
 pub first_then : {S : Type 0} (n m : ℕ) (xs ys : List (Turn S)) (p q rest : List ℕ) (e : Bool) (taken : List (List ℕ))
     → IsTaken p e taken q → (e ≡ true → rest ≡ []) → m ≡ n + length taken → lines_answered xs ≡ to_answer n taken
     → AreFirst m ys (q ++ rest) → AreFirst n (xs ++ ys) (p ++ rest)
-first_then {S} n m xs ys p q rest e taken is end number answered (later, are) = (
+first_then n m xs ys p q rest e taken is end number answered (later, are) = (
   later,
-  ap (to_answer n) (is.lines rest end) ∙ to_answer_then n m taken (lines_of (q ++ rest)) number
-      ∙ ap (λ ls. ls ++ to_answer m (lines_of (q ++ rest))) (sym answered) ∙ ap (λ ls. lines_answered xs ++ ls) are
-      ∙ sym (append_assoc (lines_answered xs) (lines_answered ys) later)
-      ∙ ap (λ ls. ls ++ later) (sym (map-append (λ (t : Turn S). (t.number, t.line)) xs ys)),
+  rw (is.lines rest end, to_answer_then n m taken (lines_of (q ++ rest)) number, are, ← answered, map-append, append_assoc),
 )
 
 first_on : {S : Type 0} {answers : Answers S} {was e : Bool} {p q : Point S} (had has : Option (List ℕ))
@@ -132,10 +125,9 @@ first_none S first None = tt
 first_none S first (Some all) = (to_answer first (lines_of all), refl)
 
 -- before the first turn
-pub run_start : {S : Type 0} (answers : Answers S) (first : ℕ) (input : Option (List ℕ)) (begin : S) (lines : List (List ℕ))
-    (output c d : List ℕ)
-    → recovered c ≡ lines → d ≡ output → IsRunOfBatches answers first input begin lines output c d
-run_start {S} answers first input begin lines output c d are was = record {
+pub run_start : {S : Type 0} {answers : Answers S} {first : ℕ} {input : Option (List ℕ)} {begin : S} {lines : List (List ℕ)}
+    {output c d : List ℕ} → recovered c ≡ lines → d ≡ output → IsRunOfBatches answers first input begin lines output c d
+run_start {S} {first = first} {input = input} {lines = lines} {output = output} are was = record {
   done = [];
   batch = [];
   are = tt;
@@ -166,16 +158,13 @@ module _ {S : Type 0} {answers : Answers S} {was e : Bool} {p q : Point S} {had 
   run_on c d run =
       let turns = g.steps.turns in
       let more = run.done ++ run.batch in
-      let same : turns ++ more ≡ (turns ++ run.done) ++ run.batch = sym (append_assoc turns run.done run.batch) in
       record {
         done = turns ++ run.done;
         batch = run.batch;
-        are = subst (λ ts. AreTurns answers p.state ts) same
-            (turns_then answers p.state turns more g.steps.are (subst (λ s. AreTurns answers s more) g.steps.state_is run.are));
-        in_order = subst (λ ts. IfSome (served_input p.pending had) (AreFirst p.number ts)) same (first_on had has g end more run.in_order);
-        lines_are = added_then p.lines q.lines _ turns more g.steps.lines_are run.lines_are ∙ ap (λ ts. p.lines ++ lines_added ts) same;
-        output_is = subst (λ (l : List ℕ). AddsPrefix l (texts run.batch) d)
-            (texts_then p.text q.text (q.text ++ texts run.done) turns run.done g.steps.text_is refl) run.output_is;
+        are = rw append_assoc (turns_then answers p.state turns more g.steps.are (rw g.steps.state_is at run.are));
+        in_order = rw append_assoc (first_on had has g end more run.in_order);
+        lines_are = rw append_assoc (added_then p.lines q.lines _ turns more g.steps.lines_are run.lines_are);
+        output_is = rw (← texts_then p.text q.text (q.text ++ texts run.done) turns run.done g.steps.text_is refl) run.output_is;
         one_batch = run.one_batch;
       }
 
@@ -194,9 +183,7 @@ module _ {S : Type 0} {answers : Answers S} {was e : Bool} {p q : Point S} {had 
       let turns = g.steps.turns in
       inr (record {
         turns = turns ++ full.turns;
-        are = turns_then answers p.state turns full.turns g.steps.are
-            (subst (λ s. AreTurns answers s full.turns) g.steps.state_is full.are);
+        are = turns_then answers p.state turns full.turns g.steps.are (rw g.steps.state_is at full.are);
         in_order = first_on had has g end full.turns full.in_order;
-        long = subst (λ ls. 2 ^ 60 ≤ length (concat ls))
-            (added_then p.lines q.lines (q.lines ++ lines_added full.turns) turns full.turns g.steps.lines_are refl) full.long;
+        long = rw (← added_then p.lines q.lines (q.lines ++ lines_added full.turns) turns full.turns g.steps.lines_are refl) full.long;
       })

@@ -32,42 +32,32 @@ first_of_taken first turns p q e taken (Some r) is end answered =
           ∙ ap (λ ls. ls ++ left) (sym answered),
     )
 
--- at each moment of a commit there are the turns before it, or those of the batch too
-pub durable_is_run : {S : Type 0} (answers : Answers S) (e : Bool) (p q : Point S) (rest : Option (List ℕ))
-    (batch output reply c d : List ℕ) (a : AdvancesByBatch answers e p q)
-    → (e ≡ true → IsAtEnd rest) → q.lines ≡ p.lines ++ recovered batch → reply ≡ texts a.0.turns
-    → IsDurable p.lines (recovered batch) output reply c d
-    → IsRunOfBatches answers p.number (served_input p.pending rest) p.state p.lines output c d
-durable_is_run answers e p q rest batch output reply c d (a, one) end lines text (inl at) =
-    run_start answers p.number _ p.state p.lines output c d at.0 at.1
-durable_is_run answers e p q rest batch output reply c d (a, one) end lines text (inr at) = record {
-  done = [];
-  batch = a.turns;
-  are = a.are;
-  in_order = first_of_taken p.number a.turns p.pending q.pending e a.taken rest a.taken_is end a.answered;
-  lines_are = at.0 ∙ sym lines ∙ a.lines_are;
-  output_is = (at.1.0, at.1.1 ∙ rw (text, append-nil output) refl);
-  one_batch = one;
-}
+module _ {S : Type 0} {answers : Answers S} {e : Bool} {p q : Point S} (rest : Option (List ℕ)) (batch : List ℕ)
+    (end : e ≡ true → IsAtEnd rest) (lines : q.lines ≡ p.lines ++ recovered batch) where
+  -- at each moment of a commit there are the turns before it, or those of the batch too
+  pub durable_is_run : {output reply c d : List ℕ} (a : AdvancesByBatch answers e p q) → reply ≡ texts a.0.turns
+      → IsDurable p.lines (recovered batch) output reply c d
+      → IsRunOfBatches answers p.number (served_input p.pending rest) p.state p.lines output c d
+  durable_is_run (a, one) text (inl at) = run_start at.0 at.1
+  durable_is_run {output} (a, one) text (inr at) = record {
+    done = [];
+    batch = a.turns;
+    are = a.are;
+    in_order = first_of_taken p.number a.turns p.pending q.pending e a.taken rest a.taken_is end a.answered;
+    lines_are = at.0 ∙ sym lines ∙ a.lines_are;
+    output_is = (at.1.0, at.1.1 ∙ rw (text, append-nil output) refl);
+    one_batch = one;
+  }
 
--- a batch that finds no place below 2^60 bytes
-pub is_full : {S : Type 0} (answers : Answers S) (e : Bool) (p q : Point S) (rest : Option (List ℕ)) (batch : List ℕ) (end : ℕ)
-    → Advances answers e p q
-    → (e ≡ true → IsAtEnd rest) → q.lines ≡ p.lines ++ recovered batch → IsBatch batch → end ≡ length (concat p.lines)
-    → 2 ^ 60 ≤ end + length batch
-    → IsFull answers p.number (served_input p.pending rest) p.state p.lines
-is_full answers e p q rest batch end a over lines whole at long = record {
-  turns = a.turns;
-  are = a.are;
-  in_order = first_of_taken p.number a.turns p.pending q.pending e a.taken rest a.taken_is over a.answered;
-  long =
-      let same : p.lines ++ recovered batch ≡ p.lines ++ lines_added a.turns = sym lines ∙ a.lines_are in
-      let all : length (concat (p.lines ++ recovered batch)) ≡ end + length batch =
-      ap length (concat-append p.lines (recovered batch) ∙ ap (λ l. concat p.lines ++ l) whole)
-      ∙ length-append (concat p.lines) batch ∙ ap (λ n. n + length batch) (sym at) in
-      let kept : 2 ^ 60 ≤ length (concat (p.lines ++ recovered batch)) = omega (arith, all, long) in
-      subst (λ ls. 2 ^ 60 ≤ length (concat ls)) same kept;
-}
+  -- a batch that finds no place below 2^60 bytes
+  pub is_full : Advances answers e p q → IsBatch batch → {end : ℕ} → end ≡ length (concat p.lines) → 2 ^ 60 ≤ end + length batch
+      → IsFull answers p.number (served_input p.pending rest) p.state p.lines
+  is_full a whole at long = record {
+    turns = a.turns;
+    are = a.are;
+    in_order = first_of_taken p.number a.turns p.pending q.pending e a.taken rest a.taken_is end a.answered;
+    long = rw (← a.lines_are, lines, concat-append, whole) (omega (arith, at, long, length-append (concat p.lines) batch));
+  }
 
 -- the file failed, or is full
 pub journal_cause : (error : HostError) → fault_of_host error ≡ Journal → (error ≡ DiskFailed) ⊎ (error ≡ Full)

@@ -27,92 +27,47 @@ open-true line lines is = take_while-cons is_open line lines ∙ cond-true (is_o
 pub open-false : (line : List ℕ) (lines : List (List ℕ)) → is_open line ≡ false → take_while is_open (line ∷ lines) ≡ []
 open-false line lines is = take_while-cons is_open line lines ∙ cond-false (is_open line) (line ∷ take_while is_open lines) [] is
 
-append_step : (b : ℕ) (xs ys : List ℕ) (lines : List (List ℕ)) → lines_in xs ≡ lines → concat (joined b lines) ≡ b ∷ xs
-    → (concat (lines_in xs) ≡ xs → lines_in (xs ++ ys) ≡ lines_in xs ++ lines_in ys) →
-    joined b (lines_in (xs ++ ys)) ≡ joined b lines ++ lines_in ys
-append_step b xs ys [] is all so_far = cc
-append_step b xs ys (line ∷ lines) is all so_far =
-    let rest : line ++ concat lines ≡ xs = cc in
-    let whole : concat (lines_in xs) ≡ xs = ap concat is ∙ rest in
-    ap (λ (ls : List (List ℕ)). joined b ls) (so_far whole ∙ ap (λ (ls : List (List ℕ)). ls ++ lines_in ys) is)
+-- behind the lines that are read of some, more are read as they are alone
+open_then : (lines more : List (List ℕ))
+    → take_while is_open (take_while is_open lines ++ more) ≡ take_while is_open lines ++ take_while is_open more
+open_then [] more = refl
+open_then (line ∷ lines) more = elim (cases_Bool (is_open line)) [
+  | inl is ↦ rw (open-true line lines is) (open-true line (take_while is_open lines ++ more) is
+      ∙ ap (λ (ls : List (List ℕ)). line ∷ ls) (open_then lines more))
+  | inr is ↦ rw (open-false line lines is) refl
+]
 
--- whole lines, and then the lines of what is behind them
-pub whole-append : (xs ys : List ℕ) → concat (lines_in xs) ≡ xs → lines_in (xs ++ ys) ≡ lines_in xs ++ lines_in ys
-whole-append [] ys all = refl
-whole-append (b ∷ xs) ys all = elim (cases_eq b 10) [
+-- the lines are a front of the bytes, with this end behind it, and other bytes behind them are split as they are alone
+abbrev AreFront : List (List ℕ) → List ℕ → List ℕ → Type 0
+AreFront lines bytes rest =
+    (end : List ℕ) × (bytes ≡ concat lines ++ end) × (lines_in (concat lines ++ rest) ≡ lines ++ lines_in rest)
+
+behind_byte : (b n : ℕ) (bytes rest : List ℕ) (lines : List (List ℕ)) → (b ≡ 10 → ⊥) → AreFront (take (suc n) lines) bytes rest
+    → AreFront (take (suc n) (joined b lines)) (b ∷ bytes) rest
+behind_byte b n bytes rest [] other front = (b ∷ bytes, refl, refl)
+behind_byte b n bytes rest (line ∷ lines) other front =
+    let behind : List ℕ = (line ++ concat (take n lines)) ++ rest in
+    (front.0, ap (λ (l : List ℕ). b ∷ l) front.1, whole-other b behind other ∙ ap (λ (ls : List (List ℕ)). joined b ls) front.2)
+
+-- so are the first lines of the bytes
+first_lines : (n : ℕ) (bytes rest : List ℕ) → AreFront (take n (lines_in bytes)) bytes rest
+first_lines zero bytes rest = (bytes, refl, refl)
+first_lines (suc n) [] rest = ([], refl, refl)
+first_lines (suc n) (b ∷ bytes) rest = elim (cases_eq b 10) [
   | inl is ↦
-      let both : 10 ∷ concat (lines_in xs) ≡ b ∷ xs = ap concat (sym (whole-lf b xs is)) ∙ all in
-      let rest : concat (lines_in xs) ≡ xs = cc (both) in
-      whole-lf b (xs ++ ys) is ∙ ap (λ (ls : List (List ℕ)). (10 ∷ []) ∷ ls) (whole-append xs ys rest)
-      ∙ ap (λ (ls : List (List ℕ)). ls ++ lines_in ys) (sym (whole-lf b xs is))
+      let front = first_lines n bytes rest in
+      subst (λ ls. AreFront (take (suc n) ls) (b ∷ bytes) rest) (sym (whole-lf b bytes is))
+      (front.0, (λ i. is i ∷ front.1 i), ap (λ (ls : List (List ℕ)). (10 ∷ []) ∷ ls) front.2)
   | inr other ↦
-      let both : concat (joined b (lines_in xs)) ≡ b ∷ xs = ap concat (sym (whole-other b xs other)) ∙ all in
-      whole-other b (xs ++ ys) other ∙ append_step b xs ys (lines_in xs) refl both (λ rest. whole-append xs ys rest)
-      ∙ ap (λ (ls : List (List ℕ)). ls ++ lines_in ys) (sym (whole-other b xs other))
+      subst (λ ls. AreFront (take (suc n) ls) (b ∷ bytes) rest) (sym (whole-other b bytes other))
+      (behind_byte b n bytes rest (lines_in bytes) other (first_lines (suc n) bytes rest))
 ]
-
--- each of them is one whole line
-abbrev pub EachWhole : List (List ℕ) → Type 0
-EachWhole [] = Unit {0}
-EachWhole (line ∷ lines) = (lines_in line ≡ line ∷ []) × EachWhole lines
-
--- and begins with `{`
-abbrev pub EachOpen : List (List ℕ) → Type 0
-EachOpen [] = Unit {0}
-EachOpen (line ∷ lines) = (lines_in line ≡ line ∷ []) × (is_open line ≡ true) × EachOpen lines
-
-each_joined : (b : ℕ) → (b ≡ 10 → ⊥) → (lines : List (List ℕ)) → EachWhole lines → EachWhole (joined b lines)
-each_joined b other [] each = tt
-each_joined b other (line ∷ lines) each = (whole-other b line other ∙ ap (λ (ls : List (List ℕ)). joined b ls) each.0, each.1)
-
-each_whole : (bytes : List ℕ) → EachWhole (lines_in bytes)
-each_whole [] = tt
-each_whole (b ∷ bytes) = elim (cases_eq b 10) [
-  | inl is ↦ subst EachWhole (sym (whole-lf b bytes is)) (refl, each_whole bytes)
-  | inr other ↦ subst EachWhole (sym (whole-other b bytes other)) (each_joined b other (lines_in bytes) (each_whole bytes))
-]
-
-each_open : (lines : List (List ℕ)) → EachWhole lines → EachOpen (take_while is_open lines)
-each_open [] each = tt
-each_open (line ∷ lines) each = elim (cases_Bool (is_open line)) [
-  | inl is ↦ subst EachOpen (sym (open-true line lines is)) (each.0, is, each_open lines each.1)
-  | inr is ↦ subst EachOpen (sym (open-false line lines is)) tt
-]
-
-open_append : (lines : List (List ℕ)) (rest : List ℕ) → EachOpen lines → recovered (concat lines ++ rest) ≡ lines ++ recovered rest
-open_append [] rest each = refl
-open_append (line ∷ lines) rest each =
-    let one : concat (lines_in line) ≡ line = ap concat each.0 ∙ append-nil line in
-    let whole : lines_in (line ++ (concat lines ++ rest)) ≡ line ∷ lines_in (concat lines ++ rest) =
-    whole-append line (concat lines ++ rest) one ∙ ap (λ (ls : List (List ℕ)). ls ++ lines_in (concat lines ++ rest)) each.0 in
-    ap recovered (append_assoc line (concat lines) rest) ∙ ap (λ (ls : List (List ℕ)). take_while is_open ls) whole
-    ∙ open-true line (lines_in (concat lines ++ rest)) each.1
-    ∙ ap (λ (ls : List (List ℕ)). line ∷ ls) (open_append lines rest each.2)
 
 -- what is behind the lines of a file is read after them
 pub recovered-append : (file rest : List ℕ) → recovered (concat (recovered file) ++ rest) ≡ recovered file ++ recovered rest
-recovered-append file rest = open_append (recovered file) rest (each_open (lines_in file) (each_whole file))
-
-front_step : (b : ℕ) (bytes : List ℕ) (lines : List (List ℕ)) → (end : List ℕ) × (bytes ≡ concat lines ++ end) →
-    (end : List ℕ) × (b ∷ bytes ≡ concat (joined b lines) ++ end)
-front_step b bytes [] so_far = (b ∷ bytes, refl)
-front_step b bytes (line ∷ lines) so_far = (so_far.0, ap (λ (l : List ℕ). b ∷ l) so_far.1)
-
-whole_front : (bytes : List ℕ) → (end : List ℕ) × (bytes ≡ concat (lines_in bytes) ++ end)
-whole_front [] = ([], refl)
-whole_front (b ∷ bytes) = elim (cases_eq b 10) [
-  | inl is ↦
-      let more : b ∷ bytes ≡ (10 ∷ concat (lines_in bytes)) ++ (whole_front bytes).0 = (λ i. is i ∷ (whole_front bytes).1 i) in
-      ((whole_front bytes).0, more ∙ ap (λ (ls : List (List ℕ)). concat ls ++ (whole_front bytes).0) (sym (whole-lf b bytes is)))
-  | inr other ↦
-      let more = front_step b bytes (lines_in bytes) (whole_front bytes) in
-      (more.0, more.1 ∙ ap (λ (ls : List (List ℕ)). concat ls ++ more.0) (sym (whole-other b bytes other)))
-]
-
-open_front : (lines : List (List ℕ)) → (end : List ℕ) × (concat lines ≡ concat (take_while is_open lines) ++ end)
-open_front lines =
-    let n = prefix_len is_open lines in
-    (concat (drop n lines), ap concat (sym (take-append-drop n lines)) ∙ concat-append (take n lines) (drop n lines))
+recovered-append file rest =
+    ap (λ (ls : List (List ℕ)). take_while is_open ls) (first_lines (prefix_len is_open (lines_in file)) file rest).2
+    ∙ open_then (lines_in file) (lines_in rest)
 
 -- a file is its lines, and an end that is read as nothing
 pub record Parts (file : List ℕ) : Type 0 where
@@ -123,14 +78,10 @@ pub record Parts (file : List ℕ) : Type 0 where
 -- every file is made up of such parts
 pub parts : (file : List ℕ) → Parts file
 parts file =
-    let whole = whole_front file in
-    let front = open_front (lines_in file) in
-    let end : List ℕ = front.0 ++ whole.0 in
-    let split : file ≡ concat (recovered file) ++ end = whole.1 ∙ ap (λ (l : List ℕ). l ++ whole.0) front.1
-    ∙ append_assoc (concat (recovered file)) front.0 whole.0 in
-    let twice : recovered file ++ [] ≡ recovered file ++ recovered end =
-    append-nil (recovered file) ∙ ap recovered split ∙ recovered-append file end in
-    record { end = end; split = split; nothing = sym (append_cancel_left (recovered file) [] (recovered end) twice) }
+    let front = first_lines (prefix_len is_open (lines_in file)) file [] in
+    let twice : recovered file ++ [] ≡ recovered file ++ recovered front.0 =
+    append-nil (recovered file) ∙ ap recovered front.1 ∙ recovered-append file front.0 in
+    record { end = front.0; split = front.1; nothing = sym (append_cancel_left (recovered file) [] (recovered front.0) twice) }
 
 closed_joined : (b : ℕ) (lines : List (List ℕ)) → (b ≡ 123 → ⊥) → take_while is_open (joined b lines) ≡ []
 closed_joined b [] shut = refl

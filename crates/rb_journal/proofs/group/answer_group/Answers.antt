@@ -38,8 +38,7 @@ run : (g : Over) (c : After-commit_and_put_out g) (rest : Option (List ℕ)) →
 run g c rest end =
     let advances = steps g (goal.at.After-commit_and_put_out g c).After-answer_waiting-answered in
     weaker g.H.Host.moment g.H.Host.left_since _ _ _ _ c.commit_and_put_out.ensures.any_moment
-    (λ f d kept. durable_is_run g.R.JournaledResponder.answers _ _ _ rest c.answer_waiting-answered.new.work.batch.bytes.items _
-    c.deref.result.now f d advances end refl
+    (λ f d kept. durable_is_run rest c.answer_waiting-answered.new.work.batch.bytes.items end refl advances
     (c.deref.ensures.value ∙ advances.0.text_is ∙ ap (λ l. l ++ texts advances.0.turns) c.requires.buffered) kept)
 
 pub returns-in_err-commit_and_put_out-clause-any_moment : goal.returns-in_err-commit_and_put_out-clause-any_moment
@@ -62,6 +61,6 @@ returns-in_err-commit_and_put_out-clause-journal g c = λ is.
     let advances = steps g (goal.at.returns-in_err-commit_and_put_out-clause-journal g c).After-answer_waiting-answered in
     let batch = c.answer_waiting-answered.new.work.batch in
     ⊎_elim (λ (disk : error ≡ DiskFailed). inl (why.failed (ap Err disk)))
-    (λ (full : error ≡ Full). inr (λ rest end. is_full g.R.JournaledResponder.answers _ _ _ rest batch.bytes.items
-    c.args.journal.now.end advances.0 end refl batch.whole c.requires.settled.end (why.full (ap Err full))))
+    (λ (full : error ≡ Full). inr (λ rest end. is_full rest batch.bytes.items end refl advances.0 batch.whole c.requires.settled.end
+    (why.full (ap Err full))))
     (journal_cause error journal)

@@ -27,7 +27,7 @@ turn : (g : Over) (c : After-commit_and_put_out g) → IsTurn g.R.JournaledRespo
     (g.R.JournaledResponder.lines (g.R.JournaledResponder.state c.answer_long.new.self))
     [] [] c.args.work.now.number (line g c) c.drop_line.new.buffers.buffered.items c.answer_long.new.text.items
 turn g c = c.in_ok-answer_long.ensures.answered (line g c)
-    (dropped_long _ _ _ _ c.in_ok-drop_line.ensures.dropped c.requires.long)
+    (dropped_long c.in_ok-drop_line.ensures.dropped c.requires.long)
 
 -- before and after it
 abbrev before : (g : Over) (c : After-commit_and_put_out g) → Point g.R.JournaledResponder.State
@@ -53,10 +53,8 @@ step g c =
     let lines = recovered (g.H.Host.content c.args.journal.now.host) in
     let output = g.H.Host.output c.args.journal.now.host in
     let words : c.answer_long.new.text.items ≡ t.words = t.text_is ∙ ap (λ l. l ++ t.words) c.drop_line.ensures.buffered in
-    answers_one g.R.JournaledResponder.answers c.drop_line.new.buffers.ended (longer (before g c) dropped.more) (after g c)
-    (line_len (c.args.buffers.now.pending ++ dropped.more)) (g.R.JournaledResponder.state c.answer_long.new.self) lines [] []
-    (output ++ c.answer_long.new.text.items) refl (dropped_fits _ _ _ _ dropped) (dropped_first _ _ _ _ dropped c.requires.long)
-    (long_answered (line g c) (dropped_long _ _ _ _ dropped c.requires.long))
+    answers_one (line_len (c.args.buffers.now.pending ++ dropped.more)) refl (dropped_fits dropped)
+    (dropped_first dropped c.requires.long) {batch = []} (long_answered (line g c) (dropped_long dropped c.requires.long))
     (record {
       added = t.added;
       words = t.words;
@@ -110,8 +108,7 @@ moments g c =
     let s = step g c in
     weaker g.H.Host.moment g.H.Host.left_since _ _ _ _ c.commit_and_put_out.ensures.any_moment
     (λ f d kept. run_on (only_read g.R.JournaledResponder.answers _ _ (before g c) dropped.more _ _ dropped.read dropped.still) end f d
-    (durable_is_run g.R.JournaledResponder.answers c.drop_line.new.buffers.ended _ (after g c) _
-    c.args.work.now.batch.bytes.items _ c.deref.result.now f d (s, alone s.turns (omega (arith, s.count_is))) end (sym (none g c))
+    (durable_is_run _ c.args.work.now.batch.bytes.items end (sym (none g c)) (s, alone s.turns (omega (arith, s.count_is)))
     (c.deref.ensures.value ∙ append_cancel_left (g.H.Host.output c.args.journal.now.host) _ _ s.text_is) kept))
 
 pub returns-in_err-commit_and_put_out-clause-any_moment : goal.returns-in_err-commit_and_put_out-clause-any_moment
@@ -130,8 +127,7 @@ at_start g c =
     let host = g.H.Host in
     let was = c.args.journal.now.host in
     started host.moment host.left_since was _ (λ f d left. let now = g.met.H.Host.only_now was f d left in
-    run_start g.R.JournaledResponder.answers c.args.work.now.number _ (g.R.JournaledResponder.state c.args.responder.now)
-    (recovered (host.content was)) (host.output was) f d (ap recovered (c.requires.settled.durable f now.1)) now.2)
+    run_start (ap recovered (c.requires.settled.durable f now.1)) now.2)
 
 pub returns-in_err-drop_line-clause-any_moment : goal.returns-in_err-drop_line-clause-any_moment
 returns-in_err-drop_line-clause-any_moment g c = at_start g (goal.at.returns-in_err-drop_line-clause-any_moment g c).After-drop_line

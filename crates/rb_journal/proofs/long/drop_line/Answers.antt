@@ -1,12 +1,9 @@
 -- The line is dropped, or more of it.
-use Rattle.std.proofs.Common.{rules, arith, ◌≡◌, ◌∙◌, ◌+◌, ◌*◌, [], false, length, drop, ap, inl, inr}
-use Rattle.std.proofs.Common.{subst, Err}
+use Rattle.std.proofs.Common.{rules, arith, ◌≡◌, ◌∙◌, ◌+◌, ◌*◌, [], false, length, drop, ap, inl, inr, Err}
 use Rattle.std.proofs.lemmas.List.{length-drop}
 use Rattle.std.proofs.Math.ListN.{drop_of_length-le}
-use Rattle.rb_lines.specs.Buffers.{Reads}
 use Rattle.rb_lines.specs.Lines.{line_len}
 use Rattle.rb_lines.specs.declared.limits.TheConstants.{READ_SIZE}
-use Rattle.rb_journal.specs.declared.fault.ServeFault.TheVariants.{Read}
 use Rattle.rb_journal.proofs.Dropping.{all_length, behind_all, dropped_more, no_shorter, none_dropped, read_failed, stopped_in_line}
 use Rattle.std.proofs.KnownBytes.{Keeps-refl}
 use Rattle.rb_journal.proofs.Follow.{was_going}
@@ -27,12 +24,8 @@ reads-init g c =
 
 pub returns-then-whole-clause-dropped : goal.returns-then-whole-clause-dropped
 returns-then-whole-clause-dropped g c =
-    let old = c.args.buffers.now.pending in
     let p = c.reads.buffers.pending in
-    let had = g.I.Input.remaining c.args.reader.now in
-    let has = g.I.Input.remaining c.reads.reader in
     let d = c.reads.invariant.dropped.0 in
-    let lengths = all_length old p had has d in
     let n : c.first_line-n.result ≡ line_len p = c.first_line-n.ensures.length in
     let len : length c.as_slice.result.now ≡ length p = ap length (c.as_slice.ensures ∙ c.first_line-n.ensures.same) in
     let now : c.skip_line.new.self.pending ≡ drop (c.first_line-n.result + 1) p = search rules in
@@ -42,28 +35,28 @@ returns-then-whole-clause-dropped g c =
       read = d.read;
       still = λ ended. ((c.reads.invariant.dropped.2 ended).0, same ∙ (c.reads.invariant.dropped.2 ended).1);
       whole = elim c.then-whole.branch [
-        | then-whole-via-then-whole w ↦ inl (omega (arith, lengths.0, lengths.1, n, len, w.if-whole.true))
-        | then-whole-via-else-whole+then-buffers w ↦
-            inr (omega (arith, lengths.0, lengths.1, n, len, c.first_line-n.ensures.within, w.if-whole.false), w.if-buffers.true)
+        | then-whole-via-then-whole w ↦ inl (omega (arith, (all_length d).0, (all_length d).1, n, len, w.if-whole.true))
+        | then-whole-via-else-whole+then-buffers w ↦ inr (
+            omega (arith, (all_length d).0, (all_length d).1, n, len, c.first_line-n.ensures.within, w.if-whole.false),
+            w.if-buffers.true,
+          )
       ];
-      left = now ∙ ap (λ k. drop (k + 1) p) n ∙ behind_all old p had has d;
+      left = now ∙ ap (λ k. drop (k + 1) p) n ∙ behind_all d;
     }
 
 pub returns-then-whole-clause-left : goal.returns-then-whole-clause-left
 returns-then-whole-clause-left g c =
-    let old = c.args.buffers.now.pending in
     let p = c.reads.buffers.pending in
     let d = c.reads.invariant.dropped.0 in
-    let lengths = all_length old p (g.I.Input.remaining c.args.reader.now) (g.I.Input.remaining c.reads.reader) d in
     let now : c.skip_line.new.self.pending ≡ drop (c.first_line-n.result + 1) p = search rules in
     let reads : c.skip_line.new.self.reads ≡ c.reads.buffers.reads = search rules in
     omega (
       arith,
-      lengths.0,
-      no_shorter old d.more,
+      (all_length d).0,
+      no_shorter c.args.buffers.now.pending d.more,
       c.first_line-n.ensures.length,
       c.first_line-n.ensures.within,
-      ap (λ l. length l) now,
+      ap length now,
       length-drop (c.first_line-n.result + 1) p,
       ap (λ k. READ_SIZE * k) reads,
       c.reads.invariant.dropped.1,
@@ -71,20 +64,16 @@ returns-then-whole-clause-left g c =
 
 pub reads-preserved : goal.reads-preserved
 reads-preserved g c =
-    let old = c.args.buffers.now.pending in
     let p = c.reads.buffers.pending in
     let inv = c.reads.invariant in
-    let had = g.I.Input.remaining c.args.reader.now in
-    let mid = g.I.Input.remaining c.reads.reader in
-    let has = g.I.Input.remaining c.read_more.new.self in
     let read = c.in-Ok.ensures in
     let all : line_len p ≡ length p = omega (arith, ap length (c.as_slice.ensures ∙ c.first_line-n.ensures.same)) in
     let now : c.skip_line.new.self.pending ≡ drop (c.first_line-n.result + 1) p = search rules in
     let reads : c.skip_line.new.self.reads ≡ c.reads.buffers.reads = search rules in
     let going : c.reads.buffers.ended ≡ false = search rules in
     let none : c.skip_line.new.self.pending ≡ [] = now ∙ drop_of_length-le p (omega (arith, c.first_line-n.ensures.length, all)) in
-    let more = dropped_more old p c.read_more.new.buffers.pending had mid has inv.dropped.0 all
-    (subst (λ l. Reads l c.read_more.new.buffers.pending mid has) none read.read) in
+    let more = dropped_more inv.dropped.0 all c.read_more.new.buffers.pending (g.I.Input.remaining c.read_more.new.self)
+    (rw none at read.read) in
     record {
       counted = c.read_more.ensures.counted;
       buffered = search rules;
@@ -100,28 +89,21 @@ reads-preserved g c =
 
 pub returns-in-Err-clause-stopped : goal.returns-in-Err-clause-stopped
 returns-in-Err-clause-stopped g c = λ is.
-    let old = c.args.buffers.now.pending in
     let p = c.reads.buffers.pending in
-    let inv = c.reads.invariant in
-    let had = g.I.Input.remaining c.args.reader.now in
-    let mid = g.I.Input.remaining c.reads.reader in
-    let has = g.I.Input.remaining c.read_more.new.self in
+    let d = c.reads.invariant.dropped.0 in
     let all : line_len p ≡ length p = omega (arith, ap length (c.as_slice.ensures ∙ c.first_line-n.ensures.same)) in
-    let same : c.fault_of_read.result ≡ Read = cc (is) in
-    let stop = read_failed c.skip_line.new.self c.read_more.new.buffers _ _ _ _ c.in-Err.no_line (c.fault_of_read.ensures.read same)
+    let stop = read_failed c.skip_line.new.self c.read_more.new.buffers _ _ _ _ c.in-Err.no_line (c.fault_of_read.ensures.read (cc (is)))
     c.in-Err.ensures.read in
-    let line = stopped_in_line old p had mid has inv.dropped.0 all stop.2 in
-    record { more = inv.dropped.0.more; read = line.0; one = line.1; going = stop.1; why = stop.3 }
+    let line = stopped_in_line d all (g.I.Input.remaining c.read_more.new.self) stop.2 in
+    record { more = d.more; read = line.0; one = line.1; going = stop.1; why = stop.3 }
 
 -- what came is the front of the line
 pub read_more-requires-clause-order : goal.read_more-requires-clause-order
 read_more-requires-clause-order g c =
-    let old = c.args.buffers.now.pending in
     let p = c.reads.buffers.pending in
     let inv = c.reads.invariant in
-    let had = g.I.Input.remaining c.args.reader.now in
     let mid = g.I.Input.remaining c.reads.reader in
     let said = g.H.Host.output c.args.host.now in
     let all : line_len p ≡ length p = omega (arith, ap length (c.as_slice.ensures ∙ c.first_line-n.ensures.same)) in
-    let line = stopped_in_line old p had mid mid inv.dropped.0 all (Keeps-refl mid) in
+    let line = stopped_in_line inv.dropped.0 all mid (Keeps-refl mid) in
     inv.order mid said (c.requires.order inv.dropped.0.more mid line.0 (was_going _ _ inv.dropped.2 (search rules)) line.1)

@@ -41,8 +41,7 @@ batches-init g c =
           (subst (λ l. Goes answers ended ended first (waits first l) had had) (append-nil pending) none);
       any_moment = started host.moment host.left_since was (IsRunFrom answers first had)
           (λ f d left. let now = g.met.H.Host.only_now was f d left in
-          run_start answers c.args.number _ first.state first.lines first.text f d
-          (ap recovered (c.requires.settled.durable f now.1)) now.2);
+          run_start (ap recovered (c.requires.settled.durable f now.1)) now.2);
       intact = started host.moment host.left_since was (λ f d. IsIntact f)
           (λ f d left. let now = g.met.H.Host.only_now was f d left in
           subst IsIntact (sym (c.requires.settled.durable f now.1 ∙ c.requires.settled.file)) (at_rest_intact (host.content was)));

@@ -3,7 +3,6 @@ use Rattle.std.proofs.Common.{rules, arith, ◌≡◌, ◌≤◌, ◌∙◌, tru
 use Rattle.std.proofs.lemmas.List.{length-take}
 use Rattle.rb_lines.specs.Lines.{is_blank}
 use Rattle.rb_lines.specs.declared.limits.TheConstants.{LINE_LIMIT}
-use Rattle.rb_journal.specs.Steps.{point_in}
 use Rattle.rb_journal.proofs.Advance.{answers_one, blank_skipped, skips, some_answered}
 use Rattle.rb_journal.proofs.waiting.answer_next.Goals.{then-not-is_blank+in_ok-answer_line, else-not-is_blank}
 use Rattle.rb_journal.proofs.waiting.answer_next.Goals as goal
@@ -14,21 +13,17 @@ returns-clause-answered g c =
     let n = c.args.n in
     let state = g.R.JournaledResponder.state in
     let lines = g.R.JournaledResponder.lines in
-    let was = state c.args.responder.now in
     let waits = c.args.buffers.now.pending in
-    let p = point_in was (lines was) c.args.buffers.now c.args.work.now in
     let here : c.as_slice.result.now ≡ waits = c.as_slice.ensures in
     elim c.if-not-is_blank.branch [
       | then-not-is_blank+in_ok-answer_line w ↦
           let some : is_blank (take n waits) ≡ false = ap (λ l. is_blank (take n l)) (sym here) ∙ sym w.if-not-is_blank.ensures in
           let turn = rw here at w.in_ok-answer_line.ensures.answered in
-          answers_one g.R.JournaledResponder.answers c.args.buffers.now.ended p _ n _ _ _ _ _ line.0 line.2 line.3
-          (some_answered (take n waits) some) turn
+          answers_one n line.0 line.2 line.3 (some_answered (take n waits) some) turn
           (ap state w.responder-is) (ap lines (ap state w.responder-is)) (search rules) (search rules) (search rules) (search rules)
       | else-not-is_blank w ↦
           let blank : is_blank (take n waits) ≡ true = ap (λ l. is_blank (take n l)) (sym here) ∙ sym w.if-not-is_blank.ensures in
           let short : length (take n waits) ≤ LINE_LIMIT = omega (arith, line.1, line.2, length-take n waits) in
-          skips g.R.JournaledResponder.answers c.args.buffers.now.ended p _ n line.0 line.2 line.3
-          (blank_skipped (take n waits) blank short)
+          skips n line.0 line.2 line.3 (blank_skipped (take n waits) blank short)
           (ap state w.responder-is) (ap lines (ap state w.responder-is)) (search rules) (search rules) (search rules) (search rules)
     ]

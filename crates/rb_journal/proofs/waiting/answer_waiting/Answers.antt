@@ -13,8 +13,7 @@ lines-init g c =
     let state = g.R.JournaledResponder.state c.args.responder.now in
     let lines = g.R.JournaledResponder.lines state in
     record {
-      answered = none_yet g.R.JournaledResponder.answers c.args.buffers.now.ended
-          (point_in state lines c.args.buffers.now c.args.work.now);
+      answered = none_yet (point_in state lines c.args.buffers.now c.args.work.now);
       batch = sym (append-nil lines) ∙ ap (λ l. lines ++ recovered l) (sym c.requires.batch);
       reads = search rules;
       ended = search rules;
@@ -33,19 +32,18 @@ lines-preserved g c =
     let first = state c.args.responder.now in
     let now = state c.lines.responder in
     let new = state c.answer_next.new.responder in
-    let start = point_in first (lines first) c.args.buffers.now c.args.work.now in
     let mid = point_in now (lines now) c.lines.buffers c.lines.work in
     let end = point_in new (lines new) c.answer_next.new.buffers c.answer_next.new.work in
     let next : Advances g.R.JournaledResponder.answers c.args.buffers.now.ended mid end =
     subst (λ e. Advances g.R.JournaledResponder.answers e mid end) inv.ended
     (subst (λ (b : Buffers). Advances g.R.JournaledResponder.answers b.ended (point_in now (lines now) b c.lines.work) end) same
     step.answered) in
-    let few = few_so_far g.R.JournaledResponder.answers c.args.buffers.now.ended start mid c.lines.work.batch.bytes.items inv.answered.0
-    inv.batch c.lines.work.batch.whole c.requires.buffered (search rules) (search rules) in
+    let few = few_so_far c.lines.work.batch.bytes.items inv.answered.0 inv.batch c.lines.work.batch.whole c.requires.buffered
+    (search rules) (search rules) in
     let fewer : length c.answer_next.new.buffers.pending < length c.args.buffers.now.pending =
     omega (arith, step.number.1, ap (λ (b : Buffers). length b.pending) same, inv.shorter) in
     record {
-      answered = batch_then g.R.JournaledResponder.answers c.args.buffers.now.ended start mid end inv.answered next few step.one;
+      answered = batch_then inv.answered next few step.one;
       batch = step.batch (lines first) inv.batch;
       reads = step.reads ∙ ap (λ (b : Buffers). b.reads) same ∙ inv.reads;
       ended = step.ended ∙ ap (λ (b : Buffers). b.ended) same ∙ inv.ended;
