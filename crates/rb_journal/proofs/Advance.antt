@@ -6,8 +6,7 @@ use Rattle.std.proofs.Math.Seq.{take-append_seam}
 use Rattle.std.proofs.lemmas.Bool.{and_left, and_right}
 use Rattle.std.proofs.lemmas.List.{append_cancel_left, map-append}
 use Rattle.std.proofs.lemmas.List.Concat.{flat_map-append}
-use Rattle.std.specs.List.{concat}
-use Rattle.rb_lines.specs.Lines.{is_blank, is_long, line_len, lines_of, whole_lines}
+use Rattle.rb_lines.specs.Lines.{is_blank, is_long, line_len, whole_lines}
 use Rattle.rb_lines.proofs.Public.LongLines.{len_is, first}
 use Rattle.rb_lines.proofs.Public.Walks.{Walks, after_line}
 use Rattle.rb_lines.specs.declared.limits.TheConstants.{LINE_LIMIT, MOST_BATCHED}

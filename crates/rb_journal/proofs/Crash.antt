@@ -1,5 +1,5 @@
 -- The files that a crash leaves in each step of an append and of a repair, for a file's lines.
-use Rattle.std.proofs.Common.{◌≡◌, ◌⊎◌, inl, inr, ℕ, ◌+◌, ◌-◌, ◌<◌, ◌≤◌, List, [], ◌∷◌, ◌++◌, length, take, drop, refl, sym, ◌∙◌}
+use Rattle.std.proofs.Common.{◌≡◌, ◌⊎◌, inl, inr, ℕ, ◌+◌, ◌-◌, ◌≤◌, List, [], ◌∷◌, ◌++◌, length, take, drop, refl, sym, ◌∙◌}
 use Rattle.std.proofs.Common.{ap, arith, append_assoc, length-append, length-drop, subst, take-append-drop, ⊎_elim}
 use Rattle.std.specs.List.{concat}
 use Rattle.std.proofs.Math.Seq.{take-append-add}
@@ -13,8 +13,7 @@ use Rattle.rb_journal.proofs.Public.Lines.{begins, recovered-append, parts, fron
 -- bytes that are written where a file ends are added to it
 pub written_at_end : (old : List ℕ) (at : ℕ) (bytes new : List ℕ) → at ≡ length old → IsWritten old at bytes new → new ≡ old ++ bytes
 written_at_end old at bytes new is holds =
-    holds ∙ ap (λ (l : List ℕ). l ++ bytes ++ drop (at + length bytes) old) (take_all at old (omega (arith, is)))
-    ∙ ap (λ (l : List ℕ). old ++ bytes ++ l) (drop_all (at + length bytes) old (omega (arith, is))) ∙ append-nil (old ++ bytes)
+    holds ∙ rw (take_all at old (omega (arith, is)), drop_all (at + length bytes) old (omega (arith, is)), append-nil)
 
 -- of a write that a crash cuts short nothing may be there
 pub torn_not : (at : ℕ) (bytes c : List ℕ) → Torn at bytes c c

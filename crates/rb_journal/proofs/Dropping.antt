@@ -7,7 +7,7 @@ use Rattle.std.proofs.lemmas.List.{length-take}
 use Rattle.std.specs.Io.KnownBytes.{Consumes, Keeps}
 use Rattle.rb_lines.specs.Buffers.{HasRead, Reads}
 use Rattle.rb_lines.specs.declared.no_line.NoLine.{NoLine}
-use Rattle.rb_lines.specs.declared.no_line.NoLine.TheVariants.{Read, OutOfMemory, TooLong, Write}
+use Rattle.rb_lines.specs.declared.no_line.NoLine.TheVariants.{Read, OutOfMemory}
 use Rattle.rb_lines.specs.Lines.{is_long, line_len}
 use Rattle.rb_lines.specs.declared.limits.TheConstants.{LINE_LIMIT}
 use Rattle.rb_lines.specs.declared.buffers.Buffers.{Buffers}
@@ -95,8 +95,7 @@ pub read_failed : (old new : Buffers) (had has : Option (List ℕ)) (failed : Bo
     → HasRead old new had has failed calls why → HasRead old new had has failed calls Read
 read_failed old new had has failed calls Read some is = is
 read_failed old new had has failed calls OutOfMemory some is = absurd (some refl)
-read_failed old new had has failed calls TooLong some is = absurd is
-read_failed old new had has failed calls Write some is = absurd is
+read_failed old new had has failed calls why some is = absurd is
 
 -- ---- the line that was dropped
 

@@ -10,14 +10,12 @@ use Rattle.rb_journal.specs.Run.{served_input}
 use Rattle.rb_journal.specs.Steps.{Goes, Point}
 use Rattle.rb_journal.specs.Turns.{Answers, to_answer}
 use Rattle.rb_journal.specs.declared.fault.ServeFault.{ServeFault}
-use Rattle.rb_journal.specs.declared.fault.ServeFault.TheVariants.{Read, Write, Journal, OutOfMemory}
+use Rattle.rb_journal.specs.declared.fault.ServeFault.TheVariants.{Read}
 
 -- of the faults only that of a read leaves the journal at rest
 pub rest_is_read : (T : Type 0) (fault : ServeFault) → EndsAtRest {T = T} (Err fault) → fault ≡ Read
 rest_is_read T Read h = refl
-rest_is_read T Write h = absurd h
-rest_is_read T Journal h = absurd h
-rest_is_read T OutOfMemory h = absurd h
+rest_is_read T fault h = absurd h
 
 module _ {S : Type 0} {answers : Answers S} {was e : Bool} {p q : Point S} where
   -- all that the turns come to was put out

@@ -1,24 +1,23 @@
 -- How far a run has come, and what a crash leaves of a run that goes on from there.
-use Rattle.std.proofs.Common.{◌≡◌, ◌<◌, ◌≤◌, ◌+◌, ◌^◌, ◌⊎◌, inl, inr, ℕ, Bool, true, false, List, [], ◌++◌, length, take}
+use Rattle.std.proofs.Common.{◌≡◌, ◌<◌, ◌≤◌, ◌+◌, ◌⊎◌, inl, inr, ℕ, Bool, true, false, List, [], ◌++◌, length}
 use Rattle.std.proofs.Common.{Option, Some, None, refl, sym, ap, ◌∙◌, arith, subst, append_assoc, append-nil}
 use Rattle.std.specs.Prelude.{IfSome}
 use Rattle.std.proofs.KnownBytes.{Consumes-trans}
 use Rattle.std.proofs.Math.Seq.{take-append-add}
 use Rattle.std.proofs.lemmas.List.{map-append}
 use Rattle.std.proofs.lemmas.List.Concat.{flat_map-append}
-use Rattle.std.specs.List.{concat}
 use Rattle.std.specs.Io.KnownBytes.{Consumes, IsAtEnd}
 use Rattle.rb_journal.specs.Host.{AddsPrefix, LeavesOnly}
 use Rattle.rb_journal.specs.Lines.{recovered}
 use Rattle.rb_lines.specs.Buffers.{Reads}
-use Rattle.rb_lines.specs.Lines.{lines_of, whole_lines}
+use Rattle.rb_lines.specs.Lines.{lines_of}
 use Rattle.rb_journal.specs.Ends.{IsFull}
 use Rattle.rb_journal.specs.Run.{AreFirst, IsRunOfBatches, IsRunOfTurns, served_input}
 use Rattle.rb_journal.specs.Steps.{Advances, Goes, IsRunFrom, IsTaken, Point, longer, waits}
 use Rattle.rb_journal.specs.declared.host.Host.{Ghosts as Hosts}
 use Rattle.rb_journal.specs.declared.journal.Journal.{Journal}
 use Rattle.rb_journal.specs.declared.responder.JournaledResponder.{Ghosts as Responders}
-use Rattle.rb_journal.specs.Turns.{Answers, AreTurns, Turn, lines_added, lines_answered, texts, to_answer}
+use Rattle.rb_journal.specs.Turns.{Answers, Turn, lines_added, lines_answered, texts, to_answer}
 use Rattle.rb_journal.proofs.Advance.{added_then, no_step, steps_then, texts_then, to_answer_then, turns_then}
 use Rattle.rb_journal.proofs.Public.Moments.{runs_on, weaker}
 
@@ -57,8 +56,7 @@ module _ {S : Type 0} {answers : Answers S} {was e : Bool} {p q : Point S} {had 
     (a : Goes answers was e p q had mid) where
   -- lines more were taken
   pub more_taken : {r : Point S} {e' : Bool} → Advances answers e q r → e' ≡ e → Goes answers was e' p r had mid
-  more_taken {r} next same = subst (λ b. Goes answers was b p r had mid) (sym same)
-      (record { more = a.more; read = a.read; still = a.still; steps = steps_then a.steps next })
+  more_taken next same = rw same (record { more = a.more; read = a.read; still = a.still; steps = steps_then a.steps next })
 
   -- and one part of a run after another
   pub goes_then : {r : Point S} {e' : Bool} {has : Option (List ℕ)} → Goes answers e e' q r mid has → Goes answers was e' p r had has

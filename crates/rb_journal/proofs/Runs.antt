@@ -1,6 +1,6 @@
 -- The runs that a commit of turns may leave, and the meaning of a full file.
-use Rattle.std.proofs.Common.{◌≡◌, ◌≤◌, ◌+◌, ◌^◌, ◌⊎◌, ℕ, Bool, true, List, [], ◌++◌, length, take, Option, Some, None, inl, inr, refl, sym}
-use Rattle.std.proofs.Common.{ap, ◌∙◌, arith, subst, append-nil, length-append}
+use Rattle.std.proofs.Common.{◌≡◌, ◌≤◌, ◌+◌, ◌^◌, ◌⊎◌, ℕ, Bool, true, List, [], ◌++◌, length, Option, Some, None, inl, inr, refl, sym}
+use Rattle.std.proofs.Common.{ap, ◌∙◌, arith, append-nil, length-append}
 use Rattle.std.specs.Prelude.{IfSome}
 use Rattle.std.proofs.lemmas.List.Folds.{concat-append}
 use Rattle.std.specs.List.{concat}
@@ -8,13 +8,13 @@ use Rattle.std.specs.Io.KnownBytes.{IsAtEnd}
 use Rattle.rb_journal.specs.Journal.{IsDurable}
 use Rattle.rb_journal.specs.Lines.{IsBatch, recovered}
 use Rattle.rb_journal.specs.declared.host.HostError.{HostError}
-use Rattle.rb_journal.specs.declared.host.HostError.TheVariants.{Memory, DiskFailed, OutputFailed, Full}
+use Rattle.rb_journal.specs.declared.host.HostError.TheVariants.{DiskFailed, Full}
 use Rattle.rb_lines.specs.Lines.{lines_of}
 use Rattle.rb_journal.specs.Ends.{IsFull}
 use Rattle.rb_journal.specs.Faults.{fault_of_host}
 use Rattle.rb_journal.specs.Run.{AreFirst, IsRunOfBatches, served_input}
 use Rattle.rb_journal.specs.Steps.{Advances, AdvancesByBatch, IsTaken, Point}
-use Rattle.rb_journal.specs.Turns.{Answers, Turn, lines_added, lines_answered, texts, to_answer}
+use Rattle.rb_journal.specs.Turns.{Answers, Turn, lines_answered, texts, to_answer}
 use Rattle.rb_journal.specs.declared.fault.ServeFault.TheVariants.{Journal}
 use Rattle.rb_journal.proofs.Advance.{to_answer_then}
 use Rattle.rb_journal.proofs.Follow.{run_start}
@@ -61,7 +61,6 @@ module _ {S : Type 0} {answers : Answers S} {e : Bool} {p q : Point S} (rest : O
 
 -- the file failed, or is full
 pub journal_cause : (error : HostError) → fault_of_host error ≡ Journal → (error ≡ DiskFailed) ⊎ (error ≡ Full)
-journal_cause Memory is = absurd (cc)
 journal_cause DiskFailed is = inl refl
-journal_cause OutputFailed is = absurd (cc)
 journal_cause Full is = inr refl
+journal_cause error is = absurd (cc)

@@ -1,5 +1,4 @@
 use Rattle.std.proofs.Common.{◌≡◌, ℕ, List, [], ◌∷◌, ◌++◌, length, take, inl, sym, ◌∙◌, ap, subst, arith, rules}
-use Rattle.std.specs.Prelude.{Err}
 use Rattle.std.specs.List.{concat}
 use Rattle.std.proofs.lemmas.Result.{on_ok_weaker}
 use Rattle.rb_journal.specs.Host.{Cut}
@@ -45,15 +44,11 @@ write_synced-requires-clause-place g c =
 
 pub returns-in_err-write_again-clause-quiet : goal.returns-in_err-write_again-clause-quiet
 returns-in_err-write_again-clause-quiet g c =
-    let at = goal.at.returns-in_err-write_again-clause-quiet g c in
-    let passed : c.from_residual.result ≡ Err c.in_err-write_again.field-0.0 = search rules in
-    stopped (again g at.After-write_again) c.in_err-write_again.was passed
+    stopped (again g (goal.at.returns-in_err-write_again-clause-quiet g c).After-write_again) c.in_err-write_again.was (search rules)
 
 pub returns-in_err-cut_off-clause-quiet : goal.returns-in_err-cut_off-clause-quiet
 returns-in_err-cut_off-clause-quiet g c =
-    let at = goal.at.returns-in_err-cut_off-clause-quiet g c in
-    let passed : c.from_residual-in_err-cut_off.result ≡ Err c.in_err-cut_off.field-0.0 = search rules in
-    stopped (cut g at.After-cut_off) c.in_err-cut_off.was passed
+    stopped (cut g (goal.at.returns-in_err-cut_off-clause-quiet g c).After-cut_off) c.in_err-cut_off.was (search rules)
 
 pub returns-clause-quiet : goal.returns-clause-quiet
 returns-clause-quiet g c =

@@ -70,17 +70,13 @@ same_lines : (g : Over) (c : After-commit_and_put_out g)
     → g.R.JournaledResponder.lines (g.R.JournaledResponder.state c.answer_long.new.self)
     ≡ recovered (g.H.Host.content c.args.journal.now.host)
 same_lines g c =
-    let t = turn g c in
-    let lines = recovered (g.H.Host.content c.args.journal.now.host) in
-    t.lines_are ∙ ap (λ ls. ls ++ t.added) c.requires.same ∙ ap (λ ls. lines ++ ls) (sym t.batch_is) ∙ append-nil lines
+    let t = turn g c in t.lines_are ∙ rw (c.requires.same, ← t.batch_is, append-nil)
 
 -- no line is committed with it
 none : (g : Over) (c : After-commit_and_put_out g)
     → recovered (g.H.Host.content c.args.journal.now.host) ++ recovered c.args.work.now.batch.bytes.items
     ≡ recovered (g.H.Host.content c.args.journal.now.host)
-none g c =
-    let lines = recovered (g.H.Host.content c.args.journal.now.host) in
-    ap (λ l. lines ++ recovered l) c.requires.batch ∙ append-nil lines
+none g c = rw (c.requires.batch, append-nil)
 
 pub returns-clause-same : goal.returns-clause-same
 returns-clause-same g c = λ _.

@@ -1,5 +1,5 @@
 -- The line is dropped, or more of it.
-use Rattle.std.proofs.Common.{rules, arith, ◌≡◌, ◌∙◌, ◌+◌, ◌*◌, [], false, length, drop, ap, inl, inr, Err}
+use Rattle.std.proofs.Common.{rules, arith, ◌≡◌, ◌∙◌, ◌+◌, ◌*◌, [], false, length, drop, ap, inl, inr}
 use Rattle.std.proofs.lemmas.List.{length-drop}
 use Rattle.std.proofs.Math.ListN.{drop_of_length-le}
 use Rattle.rb_lines.specs.Lines.{line_len}
@@ -37,9 +37,9 @@ returns-then-whole-clause-dropped g c =
       whole = elim c.then-whole.branch [
         | then-whole-via-then-whole w ↦ inl (omega (arith, (all_length d).0, (all_length d).1, n, len, w.if-whole.true))
         | then-whole-via-else-whole+then-buffers w ↦ inr (
-            omega (arith, (all_length d).0, (all_length d).1, n, len, c.first_line-n.ensures.within, w.if-whole.false),
-            w.if-buffers.true,
-          )
+          omega (arith, (all_length d).0, (all_length d).1, n, len, c.first_line-n.ensures.within, w.if-whole.false),
+          w.if-buffers.true,
+        )
       ];
       left = now ∙ ap (λ k. drop (k + 1) p) n ∙ behind_all d;
     }
