@@ -75,17 +75,8 @@ pub index_noted : (x new : SeenSite) (e : Event) (index after : List SentEntry) 
     → end ≡ length (state_of new).ops → posted ≡ sent_at x.settings (state_of x) e → after ≡ index ++ noted_of before first end posted
     → after ≡ index_of new
 index_noted x new e index after before first end posted is same number low high sent more =
-    more ∙ ap (λ l. l ++ noted_of before first end posted) is
-    ∙ ap (λ n. index_of x ++ noted_of n first end posted) number
-    ∙ ap (λ n. index_of x ++ noted_of (length x.entries) n end posted) low
-    ∙ ap (λ n. index_of x ++ noted_of (length x.entries) (length (state_of x).ops) n posted)
-    (high ∙ ap (λ (y : SeenSite). length (state_of y).ops) same)
-    ∙ ap (λ ms. index_of x ++ noted_of (length x.entries) (length (state_of x).ops) (length (state_of (next_site x e)).ops) ms) sent
-    ∙ sym (index_next x e) ∙ ap index_of (sym same)
+    rw (more, is, number, low, high, sent, same) (sym (index_next x e))
 
 -- an event that changes nothing sends nothing, so it has no note
 pub index_unchanging : (x : SeenSite) (e : Event) → changes_site x.settings (state_of x) e ≡ false → index_of (next_site x e) ≡ index_of x
-index_unchanging x e h =
-    index_next x e
-    ∙ ap (λ ms. index_of x ++ noted_of (length x.entries) (length (state_of x).ops) (length (state_of (next_site x e)).ops) ms)
-    (sent_at_nothing x.settings (state_of x) e h) ∙ append-nil (index_of x)
+index_unchanging x e h = index_next x e ∙ rw (sent_at_nothing x.settings (state_of x) e h, append-nil)

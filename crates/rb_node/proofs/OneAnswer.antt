@@ -7,24 +7,22 @@ use Rattle.rb_money.specs.Settings.{Settings}
 use Rattle.rb_shadow.specs.Operations.{clock_of}
 use Rattle.rb_shadow.specs.declared.op_name.OpName.{OpName}
 use Rattle.rb_inbox.proofs.Public.{first_is_one}
-use Rattle.rb_site.specs.declared.entry.Entry.{Entry}
 use Rattle.rb_site.specs.declared.event.Event.TheVariants.{Apply}
-use Rattle.rb_site.specs.Events.{ModelSite, after_event, after_events, is_full, replies_to_events, sent_at}
+use Rattle.rb_site.specs.Events.{ModelSite, after_event, after_events, is_full}
 use Rattle.rb_site.specs.Ready.{IsNextName}
-use Rattle.rb_site.specs.Seen.{SeenSite, next_sites, state_of}
+use Rattle.rb_site.specs.Seen.{SeenSite, state_of}
 use Rattle.rb_history.specs.declared.question.Question.{Question}
-use Rattle.rb_history.specs.Banks.{event_to, is_of_other, question_to}
+use Rattle.rb_history.specs.Banks.{is_of_other, question_to}
 use Rattle.rb_history.proofs.Public.Banks.{question_none_to, nothing_asked}
 use Rattle.rb_history.specs.Ids.{AskedEvent}
 use Rattle.rb_node.specs.Answers.{AreReadyInTurn, IsAllApplied, IsKnownAnswer, IsOtherBankAnswer, IsSiteAnswer}
-use Rattle.rb_node.specs.Answers.{again_json, asked_answer_json, asked_event_on, entry_lines, kept_events, line_of}
-use Rattle.rb_node.specs.Answers.{other_bank_on, other_request_json, reply_kept}
-use Rattle.rb_node.specs.Asked.{Known, SeenAsked, known_of, without_ids, with_id, with_more}
+use Rattle.rb_node.specs.Answers.{asked_event_on, other_bank_on}
+use Rattle.rb_node.specs.Asked.{Known, SeenAsked, known_of, without_ids}
 use Rattle.rb_node.specs.Laws.{AnswersAreOne, OtherBanksAreRefused}
-use Rattle.rb_node.specs.LineAnswers.{IsLineAnswer, IsQuestionAnswer, question_on, question_text}
+use Rattle.rb_node.specs.LineAnswers.{IsLineAnswer, IsQuestionAnswer, question_on}
 use Rattle.rb_node.proofs.Recorded.{more-alone, which}
 use Rattle.rb_node.proofs.Replayed.{event_is}
-use Rattle.rb_node.proofs.Spelled.{some_is}
+use Rattle.rb_node.proofs.Spelled.{some_is, where_kept}
 
 -- if all is applied, nothing is next
 no_more : (s : Settings) (t : ModelSite) (x : OpName) → is_full s t ≡ false → IsNextName t x → IsAllApplied s t → ⊥
@@ -45,55 +43,22 @@ same_names s t (x ∷ xs) (y ∷ ys) a b c d =
     ap (λ n. n ∷ xs) same ∙ ap (λ ns. y ∷ ns) rest
 
 -- two answers to an event of an id that isn't known are one
-one_event : (all : Bool) (old new other : SeenAsked) (line text words entries rows : List ℕ)
+one_event : {all : Bool} {old new other : SeenAsked} {line text words entries rows : List ℕ}
     → IsSiteAnswer all old new line text entries → IsSiteAnswer all old other line words rows
     → (text ≡ words) × (entries ≡ rows) × (new ≡ other)
-one_event all old new other line text words entries rows a b = (
-  a.text_is ∙ ap (λ q. text_of q a.mid a.applied) asked ∙ ap (λ y. text_of b.asked y a.applied) mid ∙ ap (text_of b.asked b.mid) names
-      ∙ sym b.text_is,
-  a.entries_are ∙ ap (λ x. lines_of x a.recorded) asked ∙ ap (lines_of b.asked) recorded ∙ sym b.entries_are,
-  a.recorded_are ∙ ap (λ x. after_of x a.recorded) asked ∙ ap (after_of b.asked) recorded ∙ sym b.recorded_are,
-)
-  where
-    s : Settings
-    s = old.settings
-
-    x : SeenSite
-    x = without_ids old
-
-    asked : a.asked ≡ b.asked
-    asked = some_is a.asked b.asked (sym a.is_event ∙ b.is_event)
-
-    mid_of : AskedEvent → SeenSite
-    mid_of q = next_sites x (kept_events all x q.event)
-
-    mid : a.mid ≡ b.mid
-    mid = a.mid_is ∙ ap mid_of asked ∙ sym b.mid_is
-
-    names : a.applied ≡ b.applied
-    names =
-        let P : SeenSite → Type 0 = λ y. AreReadyInTurn s (state_of y) b.applied in
-        let Q : SeenSite → Type 0 = λ y. IsAllApplied s (after_events s (state_of y) (map Apply b.applied)) in
-        same_names s (state_of a.mid) a.applied b.applied a.in_turn (subst P (sym mid) b.in_turn) a.all_applied
-        (subst Q (sym mid) b.all_applied)
-
-    text_of : AskedEvent → SeenSite → List OpName → List ℕ
-    text_of q y xs = line_of (asked_answer_json s old.bank q.id (reply_kept all x q.event) (sent_at s (state_of x) q.event)
-        (replies_to_events s (state_of y) (map Apply xs)))
-
-    lines_of : AskedEvent → List Entry → List ℕ
-    lines_of q xs = entry_lines s old.me (map (with_id q.id) xs)
-
-    after_of : AskedEvent → List Entry → SeenAsked
-    after_of q xs = with_more old (map (with_id q.id) xs)
-
-    site : without_ids new ≡ without_ids other
-    site = a.after ∙ ap (λ y. next_sites y (map Apply a.applied)) mid ∙ ap (λ xs. next_sites b.mid (map Apply xs)) names ∙ sym b.after
-
-    recorded : a.recorded ≡ b.recorded
-    recorded = which old new a.asked.id a.recorded b.recorded a.recorded_are
-        (ap (λ (y : SeenSite). y.entries) site ∙ ap (λ (y : SeenAsked). (without_ids y).entries) b.recorded_are
-        ∙ more-alone old b.asked.id b.recorded)
+one_event {old = old} {new = new} {other = other} a b =
+    let asked : a.asked ≡ b.asked = some_is a.asked b.asked (sym a.is_event ∙ b.is_event) in
+    let mid : a.mid ≡ b.mid = a.mid_is ∙ rw asked (sym b.mid_is) in
+    let names : a.applied ≡ b.applied =
+    same_names old.settings (state_of a.mid) a.applied b.applied a.in_turn (rw mid b.in_turn) a.all_applied (rw mid b.all_applied) in
+    let site : without_ids new ≡ without_ids other = a.after ∙ rw (mid, names) (sym b.after) in
+    let recorded : a.recorded ≡ b.recorded = which old new a.asked.id a.recorded b.recorded a.recorded_are
+    (ap (λ (y : SeenSite). y.entries) site ∙ ap (λ (y : SeenAsked). (without_ids y).entries) b.recorded_are
+    ∙ more-alone old b.asked.id b.recorded) in (
+      a.text_is ∙ rw (asked, mid, names) (sym b.text_is),
+      a.entries_are ∙ rw (asked, recorded) (sym b.entries_are),
+      a.recorded_are ∙ rw (asked, recorded) (sym b.recorded_are),
+    )
 
 -- texts that can't differ are equal
 same_text : (xs ys : List ℕ) → ¬ (xs ≢ ys) → xs ≡ ys
@@ -104,33 +69,18 @@ same_text xs ys h = by (bytes_eq xs ys) refl
     by false q = absurd (h (λ e. let f : bytes_eq xs ys ≡ true = (bytes_eq-Decides xs ys).1 e in cc))
 
 -- two answers to a request of a known id are one
-one_known : (old new other : SeenAsked) (line text words entries rows : List ℕ)
+one_known : {old new other : SeenAsked} {line text words entries rows : List ℕ}
     → IsKnownAnswer old new line text entries → IsKnownAnswer old other line words rows
     → (text ≡ words) × (entries ≡ rows) × (new ≡ other)
-one_known old new other line text words entries rows a b = (
-  same_text text words (λ differ. differ (a.other (λ e. differ (a.again e ∙ again ∙ sym (b.again (event e))))
-      ∙ ap (λ (q : AskedEvent). line_of (other_request_json q.id)) asked
-      ∙ sym (b.other (λ f. differ (a.again (back f) ∙ again ∙ sym (b.again f)))))),
-  a.entries_are ∙ sym b.entries_are,
-  a.after ∙ sym b.after,
-)
-  where
-    asked : a.asked ≡ b.asked
-    asked = some_is a.asked b.asked (sym a.is_event ∙ b.is_event)
-
-    known : a.known ≡ b.known
-    known = some_is a.known b.known
-        (sym a.is_known ∙ ap (λ (q : AskedEvent). known_of old q.id) asked ∙ b.is_known)
-
-    again : line_of (again_json old.settings old.bank a.asked.id a.known) ≡ line_of (again_json old.settings old.bank b.asked.id b.known)
-    again = ap (λ (q : AskedEvent). line_of (again_json old.settings old.bank q.id a.known)) asked
-        ∙ ap (λ (k : Known). line_of (again_json old.settings old.bank b.asked.id k)) known
-
-    event : a.known.event ≡ a.asked.event → b.known.event ≡ b.asked.event
-    event e = sym (ap (λ (k : Known). k.event) known) ∙ e ∙ ap (λ (q : AskedEvent). q.event) asked
-
-    back : b.known.event ≡ b.asked.event → a.known.event ≡ a.asked.event
-    back f = ap (λ (k : Known). k.event) known ∙ f ∙ sym (ap (λ (q : AskedEvent). q.event) asked)
+one_known {old = old} {text = text} {words = words} a b =
+    let asked : a.asked ≡ b.asked = some_is a.asked b.asked (sym a.is_event ∙ b.is_event) in
+    let known : a.known ≡ b.known = some_is a.known b.known (sym a.is_known ∙ rw asked b.is_known) in (
+      same_text text words (λ differ. differ (a.other (λ e. differ (a.again e ∙ rw (asked, known)
+          (sym (b.again (rw (← asked, ← known) e)))))
+          ∙ rw asked (sym (b.other (λ f. differ (a.again (rw (asked, known) f) ∙ rw (asked, known) (sym (b.again f)))))))),
+      a.entries_are ∙ sym b.entries_are,
+      a.after ∙ sym b.after,
+    )
 
 -- an id isn't both known and not
 pub known_or_new : (old : SeenAsked) (line : List ℕ) (x y : AskedEvent) (k : Known) → asked_event_on old.settings old.bank line ≡ Some x
@@ -145,19 +95,13 @@ known_or_new old line x y k is same none some =
 -- what is on a line, the line is
 question_is : (bank l : List ℕ) (q : Question) → question_on bank l ≡ Some q → question_to bank l ≡ Some q
 unfolding question_on
-question_is bank l q is = at (is_utf8 l) is
-  where
-    at : (b : Bool) → cond b (question_to bank l) None ≡ Some q → question_to bank l ≡ Some q
-    at true h = h
-    at false h = absurd (cc)
+question_is bank l q is = where_kept (is_utf8 l) (question_to bank l) q is
 
 -- a line isn't both a question and an event
 pub not_both : (s : Settings) (bank l : List ℕ) (x : AskedEvent) (q : Question)
     → asked_event_on s bank l ≡ Some x → question_on bank l ≡ Some q → ⊥
 not_both s bank l x q event question =
-    let none : event_to s bank l ≡ None = question_none_to s bank l q (question_is bank l q question) in
-    let some : event_to s bank l ≡ Some x = event_is s bank l x event in
-    absurd (cc)
+    absurd (cc (question_none_to s bank l q (question_is bank l q question), event_is s bank l x event))
 
 other_is : (s : Settings) (bank l : List ℕ) → other_bank_on s bank l ≡ true → is_of_other s bank l ≡ true
 unfolding other_bank_on
@@ -171,35 +115,27 @@ other_is s bank l is = at (is_utf8 l) is
 pub not_other : (s : Settings) (bank l : List ℕ) (x : AskedEvent) → asked_event_on s bank l ≡ Some x
     → other_bank_on s bank l ≡ true → ⊥
 not_other s bank l x event other =
-    let none : event_to s bank l ≡ None = (nothing_asked s bank l (other_is s bank l other)).0 in
-    let some : event_to s bank l ≡ Some x = event_is s bank l x event in
-    absurd (cc)
+    absurd (cc ((nothing_asked s bank l (other_is s bank l other)).0, event_is s bank l x event))
 
 -- and no question
 pub asks_nothing : (s : Settings) (bank l : List ℕ) (q : Question) → question_on bank l ≡ Some q
     → other_bank_on s bank l ≡ true → ⊥
 asks_nothing s bank l q question other =
-    let none : question_to bank l ≡ None = (nothing_asked s bank l (other_is s bank l other)).1 in
-    let some : question_to bank l ≡ Some q = question_is bank l q question in
-    absurd (cc)
+    absurd (cc ((nothing_asked s bank l (other_is s bank l other)).1, question_is bank l q question))
 
 -- two answers to a question are one
-one_question : (old new other : SeenAsked) (line text words entries rows : List ℕ)
+one_question : {old new other : SeenAsked} {line text words entries rows : List ℕ}
     → IsQuestionAnswer old new line text entries → IsQuestionAnswer old other line words rows
     → (text ≡ words) × (entries ≡ rows) × (new ≡ other)
-one_question old new other line text words entries rows a b = (
-  a.text_is ∙ ap (question_text old.bank (without_ids old)) (some_is a.question b.question (sym a.is_question
-      ∙ b.is_question)) ∙ sym b.text_is,
-  a.entries_are ∙ sym b.entries_are,
-  a.after ∙ sym b.after,
-)
+one_question a b =
+    let same : a.question ≡ b.question = some_is a.question b.question (sym a.is_question ∙ b.is_question) in
+    (a.text_is ∙ rw same (sym b.text_is), a.entries_are ∙ sym b.entries_are, a.after ∙ sym b.after)
 
 -- two answers to a line of another bank are one
-one_other : (old new other : SeenAsked) (line text words entries rows : List ℕ)
+one_other : {old new other : SeenAsked} {line text words entries rows : List ℕ}
     → IsOtherBankAnswer old new line text entries → IsOtherBankAnswer old other line words rows
     → (text ≡ words) × (entries ≡ rows) × (new ≡ other)
-one_other old new other line text words entries rows a b =
-    (a.text_is ∙ sym b.text_is, a.entries_are ∙ sym b.entries_are, a.after ∙ sym b.after)
+one_other a b = (a.text_is ∙ sym b.text_is, a.entries_are ∙ sym b.entries_are, a.after ∙ sym b.after)
 
 -- a line that is answered as one of another bank has no other answer
 pub of_other : (all : Bool) (old new : SeenAsked) (line text entries : List ℕ)
@@ -213,28 +149,25 @@ of_other all old new line text entries (inr (inr (inr a))) is = a
 
 -- two answers to a line are one
 pub one_answer : AnswersAreOne
-one_answer all old new other line text words entries rows (inl a) (inl b) =
-    one_event all old new other line text words entries rows a b
+one_answer all old new other line text words entries rows (inl a) (inl b) = one_event a b
 one_answer all old new other line text words entries rows (inl a) (inr (inl b)) =
     absurd (known_or_new old line a.asked b.asked b.known a.is_event b.is_event a.unknown b.is_known)
 one_answer all old new other line text words entries rows (inl a) (inr (inr (inl b))) =
     absurd (not_both old.settings old.bank line a.asked b.question a.is_event b.is_question)
 one_answer all old new other line text words entries rows (inr (inl a)) (inl b) =
     absurd (known_or_new old line b.asked a.asked a.known b.is_event a.is_event b.unknown a.is_known)
-one_answer all old new other line text words entries rows (inr (inl a)) (inr (inl b)) =
-    one_known old new other line text words entries rows a b
+one_answer all old new other line text words entries rows (inr (inl a)) (inr (inl b)) = one_known a b
 one_answer all old new other line text words entries rows (inr (inl a)) (inr (inr (inl b))) =
     absurd (not_both old.settings old.bank line a.asked b.question a.is_event b.is_question)
 one_answer all old new other line text words entries rows (inr (inr (inl a))) (inl b) =
     absurd (not_both old.settings old.bank line b.asked a.question b.is_event a.is_question)
 one_answer all old new other line text words entries rows (inr (inr (inl a))) (inr (inl b)) =
     absurd (not_both old.settings old.bank line b.asked a.question b.is_event a.is_question)
-one_answer all old new other line text words entries rows (inr (inr (inl a))) (inr (inr (inl b))) =
-    one_question old new other line text words entries rows a b
+one_answer all old new other line text words entries rows (inr (inr (inl a))) (inr (inr (inl b))) = one_question a b
 one_answer all old new other line text words entries rows (inr (inr (inr a))) b =
-    one_other old new other line text words entries rows a (of_other all old other line words rows b a.is_other)
+    one_other a (of_other all old other line words rows b a.is_other)
 one_answer all old new other line text words entries rows a (inr (inr (inr b))) =
-    one_other old new other line text words entries rows (of_other all old new line text entries a b.is_other) b
+    one_other (of_other all old new line text entries a b.is_other) b
 
 -- so it changes nothing
 pub others_are_refused : OtherBanksAreRefused

@@ -18,7 +18,7 @@ use Rattle.rb_scratch.specs.declared.request.TheConstants.{MOST_REQUESTS}
 use Rattle.rb_shadow.specs.declared.shadow.Shadow.{Shadow}
 use Rattle.rb_site.specs.declared.entry.Entry.{Entry}
 use Rattle.rb_site.specs.declared.event.Event.{Event}
-use Rattle.rb_site.specs.declared.event.Event.TheVariants.{Submit, Batch, Receive, Apply, Pass, Balance, AsOf, Statement}
+use Rattle.rb_site.specs.declared.event.Event.TheVariants.{Submit, Batch}
 use Rattle.rb_site.specs.declared.message.Message.{Message}
 use Rattle.rb_site.specs.declared.reply.Reply.{Reply}
 use Rattle.rb_site.specs.declared.reply.Reply.TheVariants.{Refused}
@@ -129,12 +129,7 @@ unasked s t (Batch rs) none = at (not (nat_le 1 (length rs) && nat_le (length rs
         → not (is_refusal (reply_of s t.ops (cond b (Refuses BadBatch) all))) ≡ false
     at true h = refl
     at false h = ap not (refused-made s t.ops (batch_of s t.me t.ops t.token 0 rs) MakesAll (λ vs. refl) h)
-unasked s t (Receive m) none = refl
-unasked s t (Apply x) none = refl
-unasked s t (Pass to) none = refl
-unasked s t (Balance a) none = refl
-unasked s t (AsOf a n) none = refl
-unasked s t (Statement a) none = refl
+unasked s t e none = refl
 
 -- so its entry has no id
 no-id : (x : SeenAsked) (id : List ℕ) (y : Entry) → IsUnchanging x y → with_id id y ≡ without_id y
@@ -269,63 +264,37 @@ unchanged old mid id e reply h free = record {
 step-unchanging : (old mid new : SeenAsked) (id : List ℕ) (e : Event) (reply : Reply) (entries after : List ℕ)
     → Unchanged old mid (entry e reply) → RecordsShort mid new (entry e reply) entries after
     → StepsKept true old new id e reply entries after
-step-unchanging old mid new id e reply entries after is short = record {
-  site = site;
-  reply_is = reply_is;
-  recorded = if_short s old.me x;
-  recorded_are = here.recorded_are ∙ ap (with_more old) tags;
-  entries_are = here.entries_are ∙ ap (λ ys. entries ++ entry_lines s old.me ys) tags;
-}
+step-unchanging old mid new id e reply entries after is short =
+    let s = old.settings in
+    let x = entry e reply in
+    let long = is_long (compact_text (entry_json s old.me x)) in
+    let here : RecordsShort old new x entries after = rw is.same at short in
+    let tags : map without_id (if_short s old.me x) ≡ map (with_id id) (if_short s old.me x) =
+    tagged_if (sym (no-id old id x is.unchanging)) long in
+    let kept : kept_events true (without_ids old) e ≡ cond (not long) (e ∷ []) [] =
+    rw (is.unchanging.unchanging, ← is.unchanging.reply) refl in
+    record {
+      site = ap without_ids here.recorded_are ∙ site_if long ∙ ap (next_sites (without_ids old)) (sym kept);
+      reply_is = is.unchanging.reply;
+      recorded = if_short s old.me x;
+      recorded_are = here.recorded_are ∙ ap (with_more old) tags;
+      entries_are = here.entries_are ∙ ap (λ ys. entries ++ entry_lines s old.me ys) tags;
+    }
   where
-    s : Settings
-    s = old.settings
-
-    t : ModelSite
-    t = asked_state old
-
-    x : Entry
-    x = entry e reply
-
-    here : RecordsShort old new x entries after
-    here = subst (λ y. RecordsShort y new x entries after) is.same short
-
-    free : is_full s t ≡ false
-    free = is.unchanging.free
-
-    none : changes_site s t e ≡ false
-    none = is.unchanging.unchanging
-
-    reply_is : reply ≡ reply_to s t e
-    reply_is = is.unchanging.reply
-
-    tagged : without_id x ≡ with_id id x
-    tagged = sym (no-id old id x is.unchanging)
-
-    long : Bool
-    long = is_long (compact_text (entry_json s old.me x))
-
-    tagged_if : (b : Bool) → map without_id (cond b [] (x ∷ [])) ≡ map (with_id id) (cond b [] (x ∷ []))
-    tagged_if true = refl
-    tagged_if false = ap (λ y. y ∷ []) tagged
-
-    tags : map without_id (if_short s old.me x) ≡ map (with_id id) (if_short s old.me x)
-    tags = tagged_if long
-
-    kept : kept_events true (without_ids old) e ≡ cond (not long) (e ∷ []) []
-    kept = ap (λ b. cond (b || not (is_long (compact_text (entry_json s old.me (entry e (reply_to s t e)))))) (e ∷ []) []) none
-        ∙ ap (λ r. cond (not (is_long (compact_text (entry_json s old.me (entry e r))))) (e ∷ []) []) (sym reply_is)
+    tagged_if : {x : Entry} → without_id x ≡ with_id id x → (b : Bool)
+        → map without_id (cond b [] (x ∷ [])) ≡ map (with_id id) (cond b [] (x ∷ []))
+    tagged_if same true = refl
+    tagged_if same false = ap (λ y. y ∷ []) same
 
     with_entries : List Entry → SeenSite
     with_entries ys = record (without_ids old) { entries = ys }
 
-    site_if : (b : Bool) → without_ids (with_more old (map without_id (cond b [] (x ∷ []))))
+    site_if : (b : Bool) → without_ids (with_more old (map without_id (cond b [] (entry e reply ∷ []))))
         ≡ next_sites (without_ids old) (cond (not b) (e ∷ []) [])
     site_if true = ap without_ids (sym (more-none old))
-    site_if false = ap with_entries (map-append (λ (y : AskedEntry). y.entry) old.asked (without_id x ∷ []))
-        ∙ ap (λ r. with_entries ((without_ids old).entries ++ entry e r ∷ [])) reply_is ∙ sym (next-free (without_ids old) e free)
-
-    site : without_ids new ≡ next_sites (without_ids old) (kept_events true (without_ids old) e)
-    site = ap without_ids here.recorded_are ∙ site_if long ∙ ap (next_sites (without_ids old)) (sym kept)
+    site_if false = ap with_entries (map-append (λ (y : AskedEntry). y.entry) old.asked (without_id (entry e reply) ∷ []))
+        ∙ ap (λ r. with_entries ((without_ids old).entries ++ entry e r ∷ [])) is.unchanging.reply
+        ∙ sym (next-free (without_ids old) e is.unchanging.free)
 
 -- ---- an entry whose line may be too long
 
@@ -468,16 +437,14 @@ pub noted-short : {A E : Type 0} (P : Type 0) (r : Result A E) (recorded all : B
     (entries after : List ℕ) → false ≡ recorded → true ≡ all
     → MatchResult r (λ _. RecordsShort old new x entries after × P) (λ _. take (length entries) after ≡ entries)
     → MatchResult r (λ _. Notes recorded all old new id x entries after × P) (λ _. take (length entries) after ≡ entries)
-noted-short P r true all old new id x entries after out each h = absurd (cc)
 noted-short P r false true old new id x entries after out each h = h
-noted-short P r false false old new id x entries after out each h = absurd (cc)
+noted-short P r recorded all old new id x entries after out each h = absurd (cc)
 
 -- an event that isn't recorded
 pub noted-none : (recorded all : Bool) (old new : SeenAsked) (id : List ℕ) (x : Entry) (entries : List ℕ) → false ≡ recorded → false ≡ all
     → new ≡ old → Notes recorded all old new id x entries entries
-noted-none true all old new id x entries out none same = absurd (cc)
-noted-none false true old new id x entries out none same = absurd (cc)
 noted-none false false old new id x entries out none same = (same, refl)
+noted-none recorded all old new id x entries out none same = absurd (cc)
 
 -- an entry whose line isn't too long was recorded, or there was no memory
 pub recorded-short : {A E : Type 0} (r : Result A E) (inside old new : SeenAsked) (x : Entry) (config : Settings) (me : ℕ)

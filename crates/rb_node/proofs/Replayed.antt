@@ -25,6 +25,7 @@ use Rattle.rb_node.specs.Asked.{SeenAsked, asked_state, known_of, without_ids, w
 use Rattle.rb_node.specs.Laws.{AnswersAreReplayed, AreReplayed, IsRecorded}
 use Rattle.rb_node.specs.Replays.{IsReadBack, IsReplayedAs}
 use Rattle.rb_node.proofs.Recorded.{more-none, next-free, next-full, which, with_one}
+use Rattle.rb_node.proofs.Spelled.{where_kept}
 
 -- the laws of lines
 pub record LineLaws : Type 0 where
@@ -69,11 +70,7 @@ ready_fits held s c me low before (x ∷ xs) turn =
 -- what is on a line, the line is
 pub event_is : (s : Settings) (bank l : List ℕ) (x : AskedEvent) → asked_event_on s bank l ≡ Some x → event_to s bank l ≡ Some x
 unfolding asked_event_on
-event_is s bank l x is = at (is_utf8 l) is
-  where
-    at : (b : Bool) → cond b (event_to s bank l) None ≡ Some x → event_to s bank l ≡ Some x
-    at true h = h
-    at false h = absurd (cc)
+event_is s bank l x is = where_kept (is_utf8 l) (event_to s bank l) x is
 
 -- ---- ids
 
@@ -182,19 +179,15 @@ run_applied : EntriesAreRead → EntriesAreLines → (x : SeenAsked) (id : List 
     → t ≡ asked_state x → AreFree x.settings t (map Apply names) → Each (FitsLine x.settings) (with_replies x.settings t (map Apply names))
     → AreReplayed x (map (with_id id) (with_replies x.settings t (map Apply names)))
     (with_more x (map (with_id id) (with_replies x.settings t (map Apply names))))
-run_applied read lines x id t [] is at free fits = sym (more-none x)
-run_applied read lines x id t (n ∷ names) is at free fits =
+run_applied read lines x id t [] is here free fits = sym (more-none x)
+run_applied read lines x id t (n ∷ names) is here free fits =
     let s = x.settings in
     let e = Apply n in
     let u = asked_state x in
-    let P : ModelSite → Type 0 = λ v. AreFree s v (e ∷ map Apply names) in
-    let Q : ModelSite → Type 0 = λ v. Each (FitsLine s) (with_replies s v (e ∷ map Apply names)) in
-    let R : ModelSite → Type 0 = λ v. AreReplayed x (map (with_id id) (with_replies s v (e ∷ map Apply names)))
-    (with_more x (map (with_id id) (with_replies s v (e ∷ map Apply names)))) in
-    let free_here : P u = subst P at free in
-    let fits_here : Q u = subst Q at fits in
+    let free_here : AreFree s u (e ∷ map Apply names) = rw here at free in
+    let fits_here : Each (FitsLine s) (with_replies s u (e ∷ map Apply names)) = rw here at fits in
     let next = with_more x (with_id id (entry e (reply_to s u e)) ∷ []) in
-    subst R (sym at) (replayed_then read lines x id e (map (with_id id) (with_replies s (after_event s u e) (map Apply names))) is
+    rw here (replayed_then read lines x id e (map (with_id id) (with_replies s (after_event s u e) (map Apply names))) is
     free_here.0 fits_here.0 (inl refl) refl
     (run_applied read lines next id (after_event s u e) names (record { configured = is.configured; within = is.within })
     (sym (state-stepped (without_ids x) e) ∙ ap state_of (sym (with_one x id e))) free_here.1 fits_here.1))
@@ -214,9 +207,7 @@ replayed_as : (old new : SeenAsked) (id : List ℕ) (es : List Event) (recorded 
     (with_more old (map (with_id id) (with_replies old.settings (asked_state old) es)))
     → AreReplayed old (map (with_id id) recorded) new
 replayed_as old new id es recorded free after are replayed =
-    let P : List Entry → Type 0 = λ xs. AreReplayed old (map (with_id id) xs) (with_more old (map (with_id id) xs)) in
-    let Q : SeenAsked → Type 0 = λ y. AreReplayed old (map (with_id id) recorded) y in
-    subst Q (sym are) (subst P (gone_through old new id es recorded free after are) replayed)
+    rw (are, ← gone_through old new id es recorded free after are) replayed
 
 -- an answer that recorded only what was applied
 applied_replayed : LineLaws → (old new : SeenAsked) (id : List ℕ) (names : List OpName) (recorded : List Entry) → IsSite old
@@ -294,13 +285,9 @@ answer_replayed laws all old new line text entries is answer =
         (answer.after ∙ ap (λ y. next_sites y (map Apply names)) goes.1) answer.recorded_are
 
 -- an answer that recorded nothing
-nothing_recorded : (old new : SeenAsked) (entries : List ℕ) → new ≡ old → entries ≡ [] → IsRecorded old new entries
-nothing_recorded old new entries same none = record {
-  recorded = [];
-  recorded_are = same ∙ more-none old;
-  entries_are = none;
-  replayed = same;
-}
+nothing_recorded : {old new : SeenAsked} {entries : List ℕ} → new ≡ old → entries ≡ [] → IsRecorded old new entries
+nothing_recorded {old} same none =
+    record { recorded = []; recorded_are = same ∙ more-none old; entries_are = none; replayed = same }
 
 -- an answer's entries
 pub answers_replayed : LineLaws → AnswersAreReplayed
@@ -312,8 +299,8 @@ answers_replayed laws all old new line text entries configured within (inl answe
       answer_replayed laws all old new line text entries (record { configured = configured; within = within }) answer;
 }
 answers_replayed laws all old new line text entries configured within (inr (inl known)) =
-    nothing_recorded old new entries known.after known.entries_are
+    nothing_recorded known.after known.entries_are
 answers_replayed laws all old new line text entries configured within (inr (inr (inl question))) =
-    nothing_recorded old new entries question.after question.entries_are
+    nothing_recorded question.after question.entries_are
 answers_replayed laws all old new line text entries configured within (inr (inr (inr other))) =
-    nothing_recorded old new entries other.after other.entries_are
+    nothing_recorded other.after other.entries_are

@@ -20,7 +20,7 @@ use Rattle.rb_scratch.specs.declared.request.TheConstants.{MOST_REQUESTS}
 use Rattle.rb_shadow.specs.declared.shadow.Shadow.{Shadow}
 use Rattle.rb_site.specs.declared.entry.Entry.{Entry}
 use Rattle.rb_site.specs.declared.event.Event.{Event}
-use Rattle.rb_site.specs.declared.event.Event.TheVariants.{Submit, Batch, Receive, Apply, Pass, Balance, AsOf, Statement as AskStatement}
+use Rattle.rb_site.specs.declared.event.Event.TheVariants.{Submit, Batch}
 use Rattle.rb_site.specs.declared.message.Message.{Message}
 use Rattle.rb_site.specs.declared.message.Message.TheVariants.{Shadow as ShadowMessage}
 use Rattle.rb_site.specs.declared.reply.Reply.{Reply}
@@ -109,12 +109,7 @@ made_at s t us (Submit r) reply may is all = submitted s t us r reply (is_full s
 made_at s t us (Batch rs) reply may is all =
     batched s t us rs reply (is_full s t) (not (nat_le 1 (length rs) && nat_le (length rs) MOST_REQUESTS))
     (batch_of s t.me t.ops t.token 0 rs) may is all
-made_at s t us (Receive m) reply may is all = absurd (cc)
-made_at s t us (Apply x) reply may is all = absurd (cc)
-made_at s t us (Pass to) reply may is all = absurd (cc)
-made_at s t us (Balance a) reply may is all = absurd (cc)
-made_at s t us (AsOf a n) reply may is all = absurd (cc)
-made_at s t us (AskStatement a) reply may is all = absurd (cc)
+made_at s t us e reply may is all = absurd (cc)
 
 -- ---- what is known of an id
 
@@ -326,29 +321,20 @@ pub still_keeps : (x new : SeenSite) (asked after : List AskedEntry) (kept kept_
     (reply : Reply) → IsKeeping x asked kept → IsNotedAs x new asked after kept kept_after id e reply
     → IsKeeping new after kept_after
 still_keeps x new asked after kept kept_after id e reply is h =
-    let one = entry e reply in
     let y = with_id id (entry e (reply_to x.settings (state_of x) e)) in
     let step : new ≡ stepped x e = h.site ∙ next-free x e h.free in
     let entries : after ≡ asked ++ y ∷ [] = h.entry_noted ∙ ap (λ r. asked ++ with_id id (entry e r) ∷ []) h.reply_is in
     let requests : kept_after ≡ kept ++ kept_if_asked y.id e (length (state_of x).ops) (length (state_of (stepped x e)).ops) =
-    h.request_is_noted ∙ ap (λ l. kept ++ l) (request_is h.copies id e reply h.first h.end h.are_copies
-    ∙ ap (λ r. kept_if_asked (with_id id (entry e r)).id e h.first h.end) h.reply_is
-    ∙ ap (λ n. kept_if_asked y.id e n h.end) h.first_is
-    ∙ ap (λ n. kept_if_asked y.id e (length (state_of x).ops) n) (h.end_is ∙ ap (λ (z : SeenSite). length (state_of z).ops) step)) in
-    subst (λ (z : SeenSite). IsKeeping z after kept_after) (sym step)
-    (subst (λ l. IsKeeping (stepped x e) l kept_after) (sym entries)
-    (subst (λ ks. IsKeeping (stepped x e) (asked ++ y ∷ []) ks) (sym requests) (keep_more x asked kept e id is)))
+    rw (h.request_is_noted, request_is h.copies id e reply h.first h.end h.are_copies, h.reply_is, h.first_is, h.end_is, step) in
+    rw (step, entries, requests) (keep_more x asked kept e id is)
 
 -- the site as clients see it has the entry with its id more
 pub next_seen : {bank : List ℕ} (x new : SeenSite) (asked after : List AskedEntry) (kept kept_after : Requests)
     (view : SeenAsked) (id : List ℕ)
     (e : Event) (reply : Reply) → seen bank x asked ≡ view → IsNotedAs x new asked after kept kept_after id e reply
     → seen bank new after ≡ with_more view (with_id id (entry e reply) ∷ [])
-next_seen {bank} x new asked after kept kept_after view id e reply at h =
-    ap (λ (z : SeenSite). seen bank z after) h.site
-    ∙ ap (λ s. let v : SeenAsked = record { settings = s; bank = bank; me = (next_site x e).me; asked = after } in v) (settings-next x e)
-    ∙ ap (λ n. let v : SeenAsked = record { settings = x.settings; bank = bank; me = n; asked = after } in v) (me-next x e)
-    ∙ ap (λ l. seen bank x l) h.entry_noted ∙ ap (λ (v : SeenAsked). with_more v (with_id id (entry e reply) ∷ [])) at
+next_seen x new asked after kept kept_after view id e reply at h =
+    rw (h.site, settings-next x e, me-next x e, h.entry_noted, ← at)
 
 -- a request that is noted isn't kept yet
 pub copies_new : (copies : Option (Vec ℕ Global × Event)) (id : List ℕ) (e : Event) (kept : Requests) → AreCopies copies id e
@@ -394,7 +380,4 @@ of_copies P copies p is h = subst (λ o. IfSome o P) is h
 pub one_noted : (copies : Option (Vec ℕ Global × Event)) (p : Vec ℕ Global × Event) (reply : Reply) (first end : ℕ)
     (es new : List (Vec ℕ Global × KnownRequest)) → copies ≡ Some p → may_be_asked (entry p.1 reply) ≡ true
     → new ≡ es ++ (p.0, request p.1 first end) ∷ [] → by_bytes new ≡ by_bytes es ++ request_noted copies reply first end
-one_noted copies p reply first end es new is made more =
-    ap by_bytes more ∙ map-append (λ (e : Vec ℕ Global × KnownRequest). (e.0.items, e.1)) es ((p.0, request p.1 first end) ∷ [])
-    ∙ ap (λ b. by_bytes es ++ cond b ((p.0.items, request p.1 first end) ∷ []) []) (sym made)
-    ∙ ap (λ o. by_bytes es ++ request_noted o reply first end) (sym is)
+one_noted copies p reply first end es new is made more = rw (more, is, made, map-append)

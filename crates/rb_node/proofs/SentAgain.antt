@@ -13,7 +13,7 @@ use Rattle.rb_site.specs.declared.entry.Entry.{Entry}
 use Rattle.rb_site.specs.declared.event.Event.{Event}
 use Rattle.rb_site.specs.declared.message.Message.{Message}
 use Rattle.rb_site.specs.declared.message.Message.TheVariants.{Shadow as ShadowMessage, Token as TokenOnItsWay}
-use Rattle.rb_site.specs.Events.{ModelSite, Outcome, Refuses, Drops, Answers, Shows, Makes, MakesAll, Holds, Applies, Takes, Passes}
+use Rattle.rb_site.specs.Events.{ModelSite, Outcome, Makes, MakesAll, Applies}
 use Rattle.rb_site.specs.Events.{after_event, after_events, changed, first_site, is_full, outcome_of, sent_at, sent_by}
 use Rattle.rb_site.specs.Histories.{events_of}
 use Rattle.rb_site.specs.Seen.{SeenSite, state_of}
@@ -39,17 +39,9 @@ behind us x = messages_of us x.sent
 
 read_outcome : (t : ModelSite) (o : Outcome) (before : ℕ) (more : List Shadow) →
     map (behind ((changed t o).ops ++ more)) (noted_of before (length t.ops) (length (changed t o).ops) (sent_by o)) ≡ some_of (sent_by o)
-read_outcome t (Refuses why) before more = refl
-read_outcome t (Drops x why) before more = refl
-read_outcome t (Answers reply) before more = refl
-read_outcome t (Shows a) before more = refl
 read_outcome t (Makes v) before more = ap (λ vs. map ShadowMessage vs ∷ []) (between t.ops (v ∷ []) more)
-read_outcome t (MakesAll []) before more = refl
 read_outcome t (MakesAll (v ∷ vs)) before more = ap (λ l. map ShadowMessage l ∷ []) (between t.ops (v ∷ vs) more)
-read_outcome t (Holds v) before more = refl
-read_outcome t (Applies v) before more = refl
-read_outcome t (Takes m) before more = refl
-read_outcome t (Passes m) before more = refl
+read_outcome t o before more = refl
 
 -- an event's messages, whatever is applied after it
 read_event : (s : Settings) (t : ModelSite) (e : Event) (before : ℕ) (more : List Shadow) →
@@ -70,16 +62,10 @@ abbrev pub Begins : List Shadow → List Shadow → Type 0
 Begins us all = (more : List Shadow) × (all ≡ us ++ more)
 
 grown_outcome : (t : ModelSite) (o : Outcome) → Begins t.ops (changed t o).ops
-grown_outcome t (Refuses why) = ([], sym (append-nil t.ops))
-grown_outcome t (Drops x why) = ([], sym (append-nil t.ops))
-grown_outcome t (Answers reply) = ([], sym (append-nil t.ops))
-grown_outcome t (Shows a) = ([], sym (append-nil t.ops))
 grown_outcome t (Makes v) = (v ∷ [], refl)
 grown_outcome t (MakesAll vs) = (vs, refl)
-grown_outcome t (Holds v) = ([], sym (append-nil t.ops))
 grown_outcome t (Applies v) = (v ∷ [], refl)
-grown_outcome t (Takes m) = ([], sym (append-nil t.ops))
-grown_outcome t (Passes m) = ([], sym (append-nil t.ops))
+grown_outcome t o = ([], sym (append-nil t.ops))
 
 grown_event : (s : Settings) (t : ModelSite) (e : Event) → Begins t.ops (after_event s t e).ops
 grown_event s t e = by (is_full s t)
@@ -177,9 +163,7 @@ lines_of_senders : (s : Settings) (bank : List ℕ) (t : ModelSite) (k : ℕ) (x
     → flat_map (sent_line s bank) (senders s t k xs) ≡ resent s bank t k xs
 lines_of_senders s bank t k [] = refl
 lines_of_senders s bank t zero (x ∷ xs) =
-    flat_map-append (sent_line s bank) (some_of (sent_at s t x.event)) (senders s (after_event s t x.event) zero xs)
-    ∙ ap (λ l. l ++ flat_map (sent_line s bank) (senders s (after_event s t x.event) zero xs)) (line_of_some s bank (sent_at s t x.event))
-    ∙ ap (λ l. sent_line s bank (sent_at s t x.event) ++ l) (lines_of_senders s bank (after_event s t x.event) zero xs)
+    rw (flat_map-append, line_of_some s bank (sent_at s t x.event), lines_of_senders s bank (after_event s t x.event) zero xs)
 lines_of_senders s bank t (suc k) (x ∷ xs) = lines_of_senders s bank (after_event s t x.event) k xs
 
 -- lines of the messages of entries

@@ -1,17 +1,16 @@
 -- An entry, replayed from its line.
 use Rattle.std.proofs.Common.{◌≡◌, ◌≢◌, ◌++◌, ℕ, Bool, true, false, cond, not, List, [], ◌∷◌, inl, inr, refl, sym, ap, subst, ◌∙◌}
 use Rattle.std.specs.Prelude.{is_some, Option, Some, None, MatchOption, Result, Ok, Err, OnOk}
-use Rattle.std.specs.Str.{is_utf8}
 use Rattle.std.specs.Cmp.Lexicographic.{pointwise}
 use lib.Dec.{eqb}
 use lib.Pointwise.{bytes_decides}
 use Rattle.serde_json.specs.Written.{compact_text}
 use Rattle.rb_money.specs.Settings.{Settings}
+use Rattle.rb_site.specs.declared.entry.Entry.{Entry}
 use Rattle.rb_site.specs.declared.reply.Reply.{Reply}
 use Rattle.rb_site.specs.Events.{is_full, reply_to, sent_at}
 use Rattle.rb_site.specs.Seen.{entry}
-use Rattle.rb_history.specs.Entries.{asked_entry_json, asked_entry_of_line, asked_entry_on}
-use Rattle.rb_history.specs.Fits.{ReadEntriesFit}
+use Rattle.rb_history.specs.Entries.{asked_entry_json, asked_entry_on}
 use Rattle.rb_history.specs.Ids.{AskedEntry, IsAsked, may_be_asked}
 use Rattle.rb_node.specs.declared.known_request.KnownRequest.{KnownRequest}
 use Rattle.rb_node.specs.Answers.{SeenNode}
@@ -52,6 +51,11 @@ back s me x line on spelled = ap (asked_entry_on s) (sym spelled) ∙ on
 pub some_is : {A : Type 0} (x y : A) → Some x ≡ Some y → x ≡ y
 some_is x y e = cc
 
+-- what is there only if a test passes is there
+pub where_kept : {A : Type 0} (b : Bool) (o : Option A) (x : A) → cond b o None ≡ Some x → o ≡ Some x
+where_kept true o x is = is
+where_kept false o x is = absurd (cc)
+
 -- a line is read as one entry
 pub one_entry : (o : Option (ℕ × AskedEntry)) (me : ℕ) (x y : AskedEntry) → o ≡ Some (me, x) → o ≡ Some (me, y) → x ≡ y
 one_entry o me x y e f = ap (λ (q : ℕ × AskedEntry). q.1) (some_is _ _ (sym e ∙ f))
@@ -75,16 +79,6 @@ each_known x e line on known y read =
 
 -- ---- ids
 
--- what is read from a line is an entry with an id that it may have, or with none
-pub read_asked : ReadEntriesFit → (s : Settings) (line : List ℕ) (site : ℕ) (x : AskedEntry) → asked_entry_on s line
-    ≡ Some (site, x) → IsAsked x
-unfolding asked_entry_on
-read_asked fit s line site x is = at (is_utf8 line) is
-  where
-    at : (b : Bool) → cond b (asked_entry_of_line s line) None ≡ Some (site, x) → IsAsked x
-    at true h = (fit s line site x h).3
-    at false h = absurd (cc)
-
 -- an id that is known isn't unknown
 pub known_is : (x : SeenAsked) (id : List ℕ) (kept : KnownRequest) → IsKeptAs x id kept → known_of x id ≢ None
 known_is x id kept is = λ none. absurd (cc)
@@ -99,20 +93,18 @@ pub where_some : {A : Type 0} (P : Type 0) (o : Option A) (Q : A → Type 0) →
 where_some P None Q h known = absurd (cc)
 where_some P (Some x) Q h known = (x, known)
 
+-- an entry with an id
+abbrev tagged_by : List ℕ → Entry → AskedEntry
+tagged_by id x = record { id = id; entry = x }
+
 -- such an entry is recorded with its id
 tagged : (x : AskedEntry) → IsAsked x → with_id x.id x.entry ≡ x
 tagged x (inl none) = by (may_be_asked x.entry)
   where
-    with_the : List ℕ → AskedEntry
-    with_the i = record { id = i; entry = x.entry }
-
-    by : (b : Bool) → with_the (cond b x.id []) ≡ x
+    by : (b : Bool) → tagged_by (cond b x.id []) x.entry ≡ x
     by true = refl
-    by false = ap with_the (sym none)
-tagged x (inr is) = ap (λ b. with_the (cond b x.id [])) is.1
-  where
-    with_the : List ℕ → AskedEntry
-    with_the i = record { id = i; entry = x.entry }
+    by false = ap (λ i. tagged_by i x.entry) (sym none)
+tagged x (inr is) = ap (λ b. tagged_by (cond b x.id []) x.entry) is.1
 
 -- ---- replays
 
