@@ -49,7 +49,7 @@ pub receipt_text : (s : Settings) (m : Message)
 receipt_text s (ShadowMessage v) = refl
 receipt_text s (TokenOnItsWay m) = refl
 
--- behind another member, a comma and its member
+-- after another member, a comma and its member
 pub member_behind : (s : Settings) (m : Message)
     → members_text true (receipt_member s m) ≡ 44 ∷ members_text false (receipt_member s m)
 member_behind s (ShadowMessage v) = refl
@@ -61,7 +61,7 @@ comma : (old new rest : List ℕ) (at : ℕ) → new ≡ old ++ 123 ∷ rest →
 comma old new rest at e f = ap (λ n. slice_set new n 44) f ∙ ap (λ l. slice_set l (length old) 44) e
     ∙ set-append_seam old 123 rest 44
 
--- so the line of a receipt with a comma first is its member behind another
+-- so the line of a receipt with a comma first is its member after another
 pub comma_first : (s : Settings) (m : Message) (old new : List ℕ) (at : ℕ)
     → new ≡ old ++ compact_text (event_json s (Receive m)) → at ≡ length old
     → slice_set new at 44 ≡ old ++ members_text true (receipt_member s m)
@@ -119,7 +119,7 @@ sent_read s c me low es m sent (b ∷ bs) named =
     let fits = sends_fit s c me low es m sent in
     ap (option_and_then (event_named s (b ∷ bs))) (sent_text s (b ∷ bs) m fits) ∙ sent_named s c (b ∷ bs) m fits
 
--- the line of a receipt behind a bank's name, read part by part, is the message to the bank
+-- the line of a receipt after a bank's name, read part by part, is the message to the bank
 pub sent_parsed : (s : Settings) → IsConfigured s → (bank : List ℕ) (e : Event) (line inside : List ℕ) → is_id bank ≡ true
     → is_receipt e ≡ true → IsEvent s e → codes "{" ++ inside ≡ compact_text (event_json s e)
     → line ≡ codes "{\"bank\":\"" ++ (bank ++ (codes "\"" ++ (codes "," ++ inside))) → event_to s bank line ≡ Some (without_id e)

@@ -74,14 +74,14 @@ string_at text rest len e h first k last clear =
     let same : escape (take len (drop 1 text)) ≡ take len (drop 1 text) = subst (λ l. escape (take len l) ≡ take len l) e clear in
     subst AreTokens (sym (closed text len h first near quote)) (string_tokens (take len (drop 1 text)) same)
 
--- with a number, and a byte behind it that is a token
+-- with a number, and a byte after it that is a token
 pub number_at : (text : List ℕ) (len n : ℕ) → len < length text → n < 2 ^ 64 → take len text ≡ decimal n
     → is_operator (get_or text len 0) ≡ true → AreTokens (take (len + 1) text)
 number_at text len n h small e m =
     let x = get_or text len 0 in
     subst AreTokens (sym (take_more text len 0 h ∙ ap (λ l. l ++ x ∷ []) e)) (number_tokens n x small m)
 
--- with tokens, and further ones behind them
+-- with tokens, and further ones after them
 pub tokens_at : (text rest : List ℕ) (len more : ℕ) → rest ≡ drop len text → AreTokens (take len text) → AreTokens (take more rest)
     → AreTokens (take (len + more) text)
 tokens_at text rest len more e h k =
@@ -108,7 +108,7 @@ blank_read : (text : List ℕ) → 0 < length text → is_space (get_or text 0 0
 blank_read [] h e = absurd (omega arith)
 blank_read (x ∷ xs) h e = sym (space_read x xs e)
 
--- what is behind a blank at the beginning of a text is read as the text is
+-- what is after a blank at the beginning of a text is read as the text is
 pub blank_at : (text rest : List ℕ) → rest ≡ drop 1 text → 0 < length text → is_space (get_or text 0 0) ≡ true
     → lex between rest ≡ lex between text
 blank_at text rest same h e = ap (lex between) same ∙ blank_read text h e
@@ -125,7 +125,7 @@ ended_at [] len h e = absurd (omega arith)
 ended_at (x ∷ xs) zero h e = or_right (is_operator x) (is_space x) e
 ended_at (x ∷ xs) (suc len) h e = ended_at xs len (omega (arith, h)) e
 
--- a number that a blank follows, and the token behind the blanks, are added without the blanks
+-- a number that a blank follows, and the token after the blanks, are added without the blanks
 pub joins_number : (old new text behind rest : List ℕ) (len n : ℕ) → n < 2 ^ 64 → take len text ≡ decimal n → len < length text
     → is_space (get_or text len 0) ≡ true → lex between behind ≡ lex between (drop len text) → 0 < length behind
     → is_operator (get_or behind 0 0) ≡ true → rest ≡ drop 1 behind → new ≡ (old ++ take len text) ++ get_or behind 0 0 ∷ []

@@ -40,7 +40,7 @@ record Reads {A : Type 0} (f : Data → Option A) (k l : List ℕ) (a b : Data) 
   here : IsText a 4
   there : IsText b 4
 
--- so is the text of the object with the second member behind the first
+-- so is the text of the object with the second member after the first
 behind_read : {A : Type 0} (f : Data → Option A) (k l : List ℕ) (a b : Data) (x : A) (line : List ℕ) → Reads f k l a b x
     → line ≡ compact_text (object (two k a l b)) → option_and_then f (read line) ≡ Some x
 behind_read f k l a b x line r text =
@@ -218,7 +218,7 @@ identified s c t e fits m is may =
       there = string_text t;
     }
 
--- the line with the id behind the event
+-- the line with the id after the event
 id_behind : (s : Settings) → IsConfigured s → (t : List ℕ) (e : Event) (line text rest : List ℕ)
     → line ≡ codes "{\"" ++ text → BeginsWithOwn s e text rest → rest ≡ codes ",\"id\":\"" ++ (t ++ codes "\"}")
     → is_id t ≡ true → may_have_id e ≡ true → asked_event_of_line s line ≡ Some (with_id t e)
@@ -249,7 +249,7 @@ none_behind s c e line text rest begun (_, fits, m) ended =
     let same = in_object (event_json s e) line text rest [] begun m ended ∙ append-nil (compact_text (event_json s e)) in
     ap (asked_event_of_line s) same ∙ event_line s c e fits
 
--- the line with an id behind the event, or none
+-- the line with an id after the event, or none
 pub ended_line : (s : Settings) → IsConfigured s → (t : List ℕ) (e : Event) (line text rest : List ℕ)
     → line ≡ codes "{\"" ++ text → BeginsWithOwn s e text rest → EndsWithId t rest
     → (is_id t ≡ true → may_have_id e ≡ true) → asked_event_of_line s line ≡ Some (with_id t e)
@@ -258,7 +258,7 @@ ended_line s c t e line text rest begun own (inl (none, ended)) may =
 ended_line s c t e line text rest begun own (inr (is, ended)) may =
     id_behind s c t e line text rest begun own ended is (may is)
 
--- the line of an event with nothing behind it
+-- the line of an event with nothing after it
 pub alone_line : (s : Settings) → IsConfigured s → (e : Event) (line rest id : List ℕ) → BeginsWithEvent s e line rest
     → rest ≡ [] → id ≡ [] → asked_event_of_line s line ≡ Some (with_id id e)
 alone_line s c e line rest id (fits, begun) nothing none =

@@ -92,7 +92,7 @@ pub integer_text : (z : ℤ) → number_text (of_integer z) ≡ signed_decimal z
 integer_text (pos n) = refl
 integer_text (negsuc n) = refl
 
--- the numbers of a second cancellation, a red operation that is behind, a batch refused and a bad message in digits
+-- the numbers of a second cancellation, a red operation that is after, a batch refused and a bad message in digits
 pub numerals : (decimal 6 ≡ codes "6") × (decimal 9 ≡ codes "9") × (decimal 13 ≡ codes "13") × (decimal 17 ≡ codes "17")
 unfolding digits
 numerals = (refl, refl, refl, refl)
@@ -104,7 +104,7 @@ pub between : (text front behind middle more back rest : List ℕ) → text ≡ 
     → IsBetween middle text front back rest
 between text front behind middle more back rest e f g = rw (e, f, g) (simp append_assoc)
 
--- a part behind another
+-- a part after another
 pub two_written : (text a front b back more rest : List ℕ) → text ≡ (front ++ (a ++ back)) ++ more → more ≡ b ++ rest
     → text ≡ (front ++ (a ++ (back ++ b))) ++ rest
 two_written text a front b back more rest e f = rw (e, f) (simp append_assoc)
@@ -123,7 +123,7 @@ pub label_written : (k : Label) (text mid rest : List ℕ) → text ≡ word_of 
     → text ≡ behind_quote (word_of k) ++ rest
 label_written k text mid rest is e = string_written (word_of k) text rest (label_plain k) (is ∙ ap (λ l. word_of k ++ l) e)
 
--- an object's one member, read behind its first quote
+-- an object's one member, read after its first quote
 pub member_of : {text rest : List ℕ} (key : List ℕ) (value : Data)
     → text ≡ behind_quote key ++ (codes ":" ++ (compact_text value ++ rest)) → BeginsWithMember (one_json key value) text rest
 member_of key value e = record { key = key; value = value; object = refl; written = e }

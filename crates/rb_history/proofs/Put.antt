@@ -1,8 +1,8 @@
--- Texts put one behind another.
+-- Texts put one after another.
 use Rattle.std.proofs.Common.{◌≡◌, ℕ, ◌+◌, ◌≤◌, List, ◌++◌, length, take, ap, sym, ◌∙◌, append_assoc, length-append, length-take-le, arith}
 use Rattle.rb_history.specs.Placed.{Placed}
 
--- a text behind another is both
+-- a text after another is both
 pub placed_then : {a b c xs ys : List ℕ} {i j k : ℕ} → Placed a b i xs j → Placed b c j ys k → Placed a c i (xs ++ ys) k
 placed_then {a} {b} {c} {xs} {ys} {i} {j} {k} p q = record {
   bytes = q.bytes ∙ ap (λ l. l ++ ys) p.bytes ∙ append_assoc (take i a) xs ys;

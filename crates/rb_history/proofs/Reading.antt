@@ -93,7 +93,7 @@ each_more P (y ∷ xs) x new is h p = rw is (h.0, each_more P xs x (xs ++ x ∷ 
 
 -- ---- the items of a list, read one by one
 
--- a list is read by reading its first item, and then those behind it
+-- a list is read by reading its first item, and then those after it
 abbrev pub ReadsEach : {A : Type 0} → (Data → Option A) → (Items → Option (List A)) → Type 0
 ReadsEach of_one of_all = (d : Data) (ds : Items) → of_all (item d ds) ≡ option_and_then
     (λ x. option_map (λ later. x ∷ later) (of_all ds)) (of_one d)

@@ -42,13 +42,13 @@ event_written s account amount blue text list behind rest b e counts back =
     (decimal b.home) (behind_quote (word_of (label_of b.kind))) (behind_quote (name_text b.name))
     (members_text true (last_members s b.kind)) rest
 
--- the text of an entry behind its event
+-- the text of an entry after its event
 abbrev pub end_text : Reply → ℕ → List ℕ
 end_text reply site = codes ",\"reply\":" ++ (compact_text (reply_json reply) ++ (codes ",\"site\":" ++ (decimal site ++ codes "}")))
 
 -- ---- the line of an entry with its id, part by part
 
--- the id's member, behind another and before others; nothing if there is no id
+-- the id's member, after another and before others; nothing if there is no id
 abbrev pub id_text : List ℕ → List ℕ
 id_text id = between_if_any (codes ",\"id\":\"") id (codes "\"")
 

@@ -47,7 +47,7 @@ digit_more text len n h some small low high e =
     take_more text len 0 h ∙ (λ j. e j ++ (sym back j ∷ [])) ∙ (λ j. decimal (sym front j) ++ ((48 + sym last j) ∷ []))
     ∙ sym (decimal_step m (omega arith) small)
 
--- a text may be cut behind a text that it begins with
+-- a text may be cut after a text that it begins with
 pub cut_behind : (text bytes front : List ℕ) (n : ℕ) → bytes ≡ text → IsUtf8 text → n ≤ length bytes → take n bytes ≡ front → IsUtf8 front →
     IsCharBoundary text n
 cut_behind text bytes front n e utf8 h is front_utf8 = IsCharBoundary-from_take text n utf8 (omega (
@@ -55,7 +55,7 @@ cut_behind text bytes front n e utf8 h is front_utf8 = IsCharBoundary-from_take 
   ap length e,
 )) (subst IsUtf8 (sym is ∙ ap (take n) e) front_utf8)
 
--- a text may be cut behind a quote
+-- a text may be cut after a quote
 pub cut_after_quote : (text bytes : List ℕ) (i : ℕ) → bytes ≡ text → IsUtf8 text → i < length bytes → get_or bytes i 0 ≡ 34 →
     IsCharBoundary text (i + 1)
 cut_after_quote text bytes i e utf8 h quote =

@@ -99,7 +99,7 @@ value_read counts least site n values i v whole long low near none here is so =
     one_read counts least site n (view v) (items_view (drop (i + 1) values)) whole long low near none is
     (ap (λ vs. with_front (take least counts) (numbered_in least (items_view vs))) (sym here) ∙ so)
 
--- behind it there is nothing yet
+-- after it there is nothing yet
 pub none_behind : (counts : List ℕ) (least site n : ℕ) → least ≤ site → site < MOST_SITES
     → drop least counts ≡ replicate (MOST_SITES - least) 0 → drop (site + 1) (set counts site n) ≡ replicate (MOST_SITES - (site + 1)) 0
 none_behind counts least site n low near none =
@@ -121,7 +121,7 @@ one_back : (i j n : ℕ) → i ≤ j → j < MOST_SITES → 0 < n → n < 2 ^ 32
 one_back i j n low near some small =
     rw (below j (2 ^ 8) (omega arith), below n (2 ^ 32) small, le-leb i j low, below j MOST_SITES near, le-leb 1 n (omega arith)) refl
 
--- the counts from site j on, behind 0 for each site from i to j
+-- the counts from site j on, after 0 for each site from i to j
 pub numbered_back : (i j : ℕ) (ns : List ℕ) → i ≤ j → j + length ns ≡ MOST_SITES → Each (λ n. n < 2 ^ 32) ns
     → numbered_in i (items_of (map numbered_json (numbered_from j ns))) ≡ Some (replicate (j - i) 0 ++ ns)
 numbered_back i j [] low full h =
@@ -221,7 +221,7 @@ pub widened_json : (ns : List ℕ) → length ns ≡ MOST_SITES_OF_VERSION_1 →
 unfolding blue_json
 widened_json ns few = ap (list_json number_json) (take_at ns (replicate further 0) MOST_SITES_OF_VERSION_1 few)
 
--- ---- the counts above 0, each behind its site's number, read one by one from a text
+-- ---- the counts above 0, each after its site's number, read one by one from a text
 
 numbered_append : (i : ℕ) (xs ys : List ℕ) → numbered_from i (xs ++ ys) ≡ numbered_from i xs ++ numbered_from (i + length xs) ys
 numbered_append i [] ys = let same : i ≡ i + 0 = omega arith in ap (λ k. numbered_from k ys) same
@@ -243,7 +243,7 @@ numbered_zeros : (i many : ℕ) → numbered_from i (replicate many 0) ≡ []
 numbered_zeros i zero = refl
 numbered_zeros i (suc many) = numbered_zeros (i + 1) many
 
--- zeros behind add nothing
+-- zeros after add nothing
 numbered_behind : (i : ℕ) (xs : List ℕ) (many : ℕ) → numbered_from i (xs ++ replicate many 0) ≡ numbered_from i xs
 numbered_behind i xs many = numbered_append i xs (replicate many 0)
     ∙ ap (λ l. numbered_from i xs ++ l) (numbered_zeros (i + length xs) many) ∙ append-nil (numbered_from i xs)

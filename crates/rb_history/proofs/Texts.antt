@@ -103,7 +103,7 @@ config_utf8 s c = text_utf8 (config_json s)
 abbrev single : List ℕ → Bool
 single l = list_all (λ b. not (b == 10)) l
 
--- two texts, one behind the other
+-- two texts, one after the other
 both : (xs ys : List ℕ) → single xs ≡ true → single ys ≡ true → single (xs ++ ys) ≡ true
 both xs ys h k = list_all-append (λ b. not (b == 10)) xs ys ∙ ap₂ (λ a b. a && b) h k
 

@@ -18,11 +18,11 @@ use Rattle.rb_history.specs.Fits.{Each, IsEvent, IsReply, IsRequest}
 use Rattle.rb_history.specs.Ids.{is_id}
 use Rattle.rb_history.specs.Values.{one_json}
 
--- a string behind its first quote
+-- a string after its first quote
 abbrev pub behind_quote : List ℕ → List ℕ
 behind_quote text = escape text ++ codes "\""
 
--- an account's name behind its first quote, or "?" if the configuration has no account at the place
+-- an account's name after its first quote, or "?" if the configuration has no account at the place
 abbrev pub account_behind_quote : Settings → Place → List ℕ
 account_behind_quote s a = behind_quote (unwrap_or (slice_get s.names a.0) (codes "?"))
 
@@ -45,12 +45,12 @@ BeginsWithRequest s r text rest = IsRequest s r × BeginsWithMember (request_jso
 abbrev pub BeginsWithOwn : Settings → Event → List ℕ → List ℕ → Type 0
 BeginsWithOwn s e text rest = IsOwn e × IsEvent s e × BeginsWithMember (event_json s e) text rest
 
--- the end of an object behind its other member: an id as its last member, or none
+-- the end of an object after its other member: an id as its last member, or none
 abbrev pub EndsWithId : List ℕ → List ℕ → Type 0
 EndsWithId id text =
     ((id ≡ []) × (text ≡ codes "}")) ⊎ ((is_id id ≡ true) × (text ≡ codes ",\"id\":\"" ++ (id ++ codes "\"}")))
 
--- the id of an entry's line behind its event, or none, and what follows
+-- the id of an entry's line after its event, or none, and what follows
 abbrev pub BeginsWithId : List ℕ → List ℕ → List ℕ → Type 0
 BeginsWithId id text rest =
     ((id ≡ []) × (text ≡ rest)) ⊎ ((is_id id ≡ true) × (text ≡ codes ",\"id\":\"" ++ (id ++ (codes "\"" ++ rest))))
@@ -59,7 +59,7 @@ BeginsWithId id text rest =
 abbrev pub BeginsWithEach : {A : Type 0} → (A → Data) → (A → Type 0) → List A → List ℕ → List ℕ → Type 0
 BeginsWithEach written P xs text rest = Each P xs × (text ≡ items_text false (items_of (map written xs)) ++ rest)
 
--- the counts above 0 of all sites, each behind its site's number, and the closing bracket
+-- the counts above 0 of all sites, each after its site's number, and the closing bracket
 pub record BeginsWithNumbered (ns text rest : List ℕ) : Type 0 where
   pub sites : length ns ≡ MOST_SITES
   pub fit : Each (λ n. n < 2 ^ 32) ns

@@ -2,7 +2,7 @@
 use Rattle.std.specs.Prelude.{◌≡◌, ℕ, List, ◌++◌}
 use Rattle.json.specs.Lex.{between, lex}
 
--- a text of whole tokens: two texts that are read alike are so behind it too
+-- a text of whole tokens: two texts that are read alike are so after it too
 abbrev pub AreTokens : List ℕ → Type 0
 AreTokens front = (xs ys : List ℕ) → lex between xs ≡ lex between ys → lex between (front ++ xs) ≡ lex between (front ++ ys)
 

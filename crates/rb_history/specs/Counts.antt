@@ -8,7 +8,7 @@ use Rattle.rb_history.specs.Values.{list_json, number_below, number_json, pair_j
 
 -- ---- what is written
 
--- the counts above 0 of those from site i on, each behind its site's number
+-- the counts above 0 of those from site i on, each after its site's number
 abbrev pub numbered_from : ℕ → List ℕ → List (ℕ × ℕ)
 numbered_from i [] = []
 numbered_from i (n ∷ ns) = if n == 0 then numbered_from (i + 1) ns else (i, n) ∷ numbered_from (i + 1) ns

@@ -1,4 +1,4 @@
--- The parts of the line of a shadow that comes: before its counts of blue operations, and behind them.
+-- The parts of the line of a shadow that comes: before its counts of blue operations, and after them.
 use Rattle.std.specs.Prelude.{◌≡◌, ℕ, ◌<◌, ◌^◌, List, ◌++◌, true, codes, decimal}
 use Rattle.serde_json.specs.Written.{members_text}
 use Rattle.rb_money.specs.Settings.{Settings}
@@ -17,7 +17,7 @@ shadow_front s account amount = codes
     "{\"shadow\":{\"account\":\"" ++ (account_behind_quote s account ++ (codes
     ",\"amount\":" ++ (decimal amount ++ codes ",\"deps\":[")))
 
--- the event of a shadow that comes behind its counts
+-- the event of a shadow that comes after its counts
 abbrev pub shadow_back : Settings → Back → List ℕ
 shadow_back s b = codes
     "," ++ (decimal b.red ++ (codes

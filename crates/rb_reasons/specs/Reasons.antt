@@ -5,7 +5,7 @@ use Rattle.std.specs.Prelude.{◌≡◌, ◌≤◌, ◌<◌, ◌+◌, ◌++◌, 
 abbrev pub IsPlain : List ℕ → Type 0
 IsPlain bytes = All (λ b. (32 ≤ b) × (b < 127)) bytes
 
--- three lines, each behind two spaces: a column and what is wrong there, a part of the line, and a caret
+-- three lines, each after two spaces: a column and what is wrong there, a part of the line, and a caret
 abbrev pub reason_text : ℕ → List ℕ → List ℕ → List ℕ → List ℕ → List ℕ
 reason_text column why before behind blanks =
     codes "  column " ++ (decimal column ++ (codes ": " ++ (why

@@ -1,4 +1,4 @@
--- The site that was opened goes on over what is behind the configuration's line.
+-- The site that was opened goes on over what is after the configuration's line.
 use Rattle.std.proofs.Common.{inl, inr, ℕ, List, ◌++◌, Option, Some, None, Result, Ok, Err, ap, subst}
 use Rattle.std.specs.Prelude.{IfSome}
 use Rattle.rb_journal.specs.Lines.{recovered}
@@ -17,7 +17,7 @@ use Rattle.rb_run_site.specs.declared.fault.SiteFault.{SiteFault}
 use Rattle.rb_run_site.specs.declared.fault.SiteFault.TheVariants.{NoJournal, JournalThere, InUse}
 use Rattle.rb_run_site.specs.declared.fault.SiteFault.TheVariants.{Read, Write, Journal, OutOfMemory}
 
--- the bytes behind the configuration's line are what waits and what is still to be read
+-- the bytes after the configuration's line are what waits and what is still to be read
 pub behind_known : (input : Option (List ℕ)) (config : List ℕ) (number : ℕ) (pending : List ℕ) (left : Option (List ℕ))
     → IfSome input (WaitsBehind config number pending left) → IfSome input (AreBytesBehind config number (served_input pending left))
 behind_known None config number pending left w = tt

@@ -1,4 +1,4 @@
--- The lines behind the configuration's line, and the site that is opened for it.
+-- The lines after the configuration's line, and the site that is opened for it.
 use Rattle.std.proofs.Common.{◌≡◌, ◌<◌, ◌≤◌, ◌+◌, ◌⊎◌, ℕ, Bool, true, List, [], ◌∷◌, ◌++◌, length, take, drop, Option}
 use Rattle.std.proofs.Common.{Some, None, refl, sym, ap, subst, ◌∙◌, arith}
 use Rattle.std.specs.Prelude.{IfSome}
@@ -21,7 +21,7 @@ next_line p rest e n len fits at_front end =
     let walk : Walks (p ++ rest) [] p rest e = record { got = p; lines = refl; bytes = refl; whole = λ going tail. refl } in
     (after_line (p ++ rest) [] p rest e n walk len fits at_front end).lines
 
--- the configuration's line is taken: what waits is behind it
+-- the configuration's line is taken: what waits is after it
 pub behind : (a b : Option (List ℕ)) (number : ℕ) (p : List ℕ) (e : Bool) (n : ℕ) → IfSome a (WaitsAt number p b) → n ≡ line_len p
     → n ≤ length p → (n < length p) ⊎ ((n ≡ length p) × (0 < n) × (e ≡ true)) → (e ≡ true → IsAtEnd b)
     → IfSome a (WaitsBehind (take n p) (number + 1) (drop (n + 1) p) b)

@@ -56,7 +56,7 @@ begins lines x first one of (inr is) = record {
   whole = ap (λ f. lines ++ recovered f) is.1 ∙ append-nil lines ∙ is.0;
 }
 
--- a prefix of the second bytes, behind all of the first
+-- a prefix of the second bytes, after all of the first
 further : (output sends more d : List ℕ) → AddsPrefix (output ++ sends) more d → AddsPrefix output (sends ++ more) d
 further output sends more d some = (
   length sends + some.0,
@@ -126,7 +126,7 @@ begun all lines x first sends reply number input output c d is same (inl at) app
 begun all lines x first sends reply number input output c d is same (inr at) appended intact =
     inr (no_turn all x sends number input output c d (at.0 ∙ is.whole) intact (subst (λ l. AddsPrefix output l d) same at.1))
 
--- turns behind what was sent again
+-- turns after what was sent again
 pub answered : (all : Bool) (lines : List (List ℕ)) (x : SeenAsked) (sends : List ℕ) (number : ℕ)
     (input : Option (List ℕ)) (output : List ℕ)
     (mid : List (List ℕ)) (so_far c d : List ℕ) → journal_of x ≡ mid → so_far ≡ output ++ sends
@@ -144,7 +144,7 @@ answered all lines x sends number input output mid so_far c d same said run inta
       output_is = further output sends (texts run.turns) d run.output_is;
     })
 
--- all turns of a run, behind what was sent again
+-- all turns of a run, after what was sent again
 pub all_answered : (all : Bool) (x : SeenAsked) (sends : List ℕ) (number : ℕ) (input left : Option (List ℕ))
     (output : List ℕ) (now : List (List ℕ))
     (said : List ℕ) (mid : List (List ℕ)) (so_far : List ℕ) (ended : Result ℕ ServeFault) → journal_of x ≡ mid → so_far ≡ output ++ sends

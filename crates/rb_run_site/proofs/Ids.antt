@@ -49,13 +49,13 @@ none_from s t id (x ∷ xs) apart = by (bytes_eq x.id id) refl (none_from s (aft
     by true is rest = absurd (apart [] xs x refl ((bytes_eq-Decides x.id id).0 is))
     by false is rest = rest
 
--- what is behind the front of a list with an item more
+-- what is after the front of a list with an item more
 record Rest (xs before : List AskedEntry) (y : AskedEntry) (rest : List AskedEntry) : Type 0 where
   mid : List AskedEntry
   is : xs ≡ before ++ mid
   rest_is : mid ++ y ∷ [] ≡ rest
 
--- an item more at the end of a list is at the end of what is behind any front of it
+-- an item more at the end of a list is at the end of what is after any front of it
 rest_of : (xs before : List AskedEntry) (y z : AskedEntry) (rest : List AskedEntry) → xs ++ y ∷ [] ≡ before ++ z ∷ rest
     → Rest xs before y (z ∷ rest)
 rest_of xs [] y z rest e = record { mid = xs; is = refl; rest_is = e }

@@ -1,4 +1,4 @@
--- The first line of a journal's file, and what is behind it.
+-- The first line of a journal's file, and what is after it.
 use Rattle.std.proofs.Common.{◌≡◌, ℕ, List, [], ◌∷◌, ◌++◌, refl, sym, ap, subst, ◌∙◌, append-nil}
 use Rattle.std.specs.Prelude.{◌≢◌}
 use Rattle.std.specs.List.{concat}
@@ -11,7 +11,7 @@ use Rattle.rb_run_site.specs.Files.{BeginsWith, IsAnother}
 again : (file : List ℕ) → recovered (concat (recovered file)) ≡ recovered file
 again file = ap recovered (sym (append-nil (concat (recovered file)))) ∙ recovered-append file [] ∙ append-nil (recovered file)
 
--- the file's lines begin with a line: it is the first of them, and the others are those of what is behind it
+-- the file's lines begin with a line: it is the first of them, and the others are those of what is after it
 pub begins : (file first entries line : List ℕ) → IsLine line → first ≡ line ++ 10 ∷ [] → concat (recovered file) ≡ first ++ entries
     → BeginsWith file first entries
 begins file first entries line is one lines =

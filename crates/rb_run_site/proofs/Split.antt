@@ -13,7 +13,7 @@ use Rattle.rb_journal.proofs.Public.Lines.{begins as first_byte, no_line}
 use Rattle.rb_run_site.proofs.Prefixes.{begins}
 use Rattle.rb_run_site.specs.Replays.{IsSplit}
 
--- the bytes are the line, its line feed, and what is behind it
+-- the bytes are the line, its line feed, and what is after it
 parts : (l : List ℕ) (n : ℕ) → n < length l → get_or l n 0 ≡ 10 → l ≡ (take n l ++ 10 ∷ []) ++ drop (n + 1) l
 parts l n within is =
     sym (take-append-drop n l) ∙ ap (λ r. take n l ++ r) (drop-cons l n 0 within ∙ ap (λ b. b ∷ drop (suc n) l) is

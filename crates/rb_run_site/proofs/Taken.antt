@@ -37,7 +37,7 @@ pub same_entry : (s : Settings) (me : ℕ) (x y : AskedEntry) → IsReadBack s m
     → compact_text (asked_entry_json s me x) ≡ compact_text (asked_entry_json s me y) → x ≡ y
 same_entry s me x y h k text = ap (λ (p : ℕ × AskedEntry). p.1) (Some_inj (me, x) (me, y) (sym h ∙ ap (asked_entry_on s) text ∙ k))
 
--- the entry at which a replay of a site's journal stopped, behind those that were replayed
+-- the entry at which a replay of a site's journal stopped, after those that were replayed
 record StopsAt (s : Settings) (me : ℕ) (xs ys : List AskedEntry) (line : List ℕ) : Type 0 where
   next : AskedEntry
   rest : List AskedEntry

@@ -17,7 +17,7 @@ use Rattle.rb_run_site.specs.declared.fault.SiteFault.TheVariants.{Damaged, NoJo
 use Rattle.rb_run_site.specs.declared.fault.SiteFault.TheVariants.{LongLine, Read, Write, Journal, OutOfMemory}
 
 -- these were the turns of a site, which records all events or those that change it: their entries are in the journal
--- and all their text was put out, behind what was sent again; the run over these bytes, whose first line has this
+-- and all their text was put out, after what was sent again; the run over these bytes, whose first line has this
 -- number, ended so
 pub record AnswersAll (all : Bool) (x : SeenAsked) (sends : List ℕ) (number : ℕ) (bytes left : Option (List ℕ))
     (output : List ℕ)
@@ -26,7 +26,7 @@ pub record AnswersAll (all : Bool) (x : SeenAsked) (sends : List ℕ) (number : 
   pub put : IsPutOut (SiteAnswers all) x (journal_of x) (output ++ sends) turns now said
   pub ends : EndsAs number turns bytes left ended
 
--- the site that the input's first line and the journal's lines say answered what is behind, and the run over that ended
+-- the site that the input's first line and the journal's lines say answered what is after, and the run over that ended
 -- so
 pub record AnswersBehind (run : SiteRun) (left : Option (List ℕ)) (old : Found) (now : List (List ℕ)) (said : List ℕ)
     (ended : Result ℕ ServeFault) : Type 0 where
@@ -39,7 +39,7 @@ pub record AnswersBehind (run : SiteRun) (left : Option (List ℕ)) (old : Found
       ended
 
 -- the journal of the site that the input's first line and the journal's lines say, with what the first of the lines
--- behind add, is full
+-- after add, is full
 pub record IsFullBehind (run : SiteRun) (lines : List (List ℕ)) : Type 0 where
   pub start : SeenAsked
   pub starts : Starts run.me run.bank run.input lines start

@@ -10,7 +10,7 @@ BeginsClosed [] = ⊥
 BeginsClosed (b ∷ bytes) = (b ≡ 32) ⊎ (b ≡ 0)
 
 -- a journal that is new, whose first line is to be this one: the file contains no whole line, and is empty, or begins
--- with a closed gate and has no more bytes behind it than the line has. A crash of the line's write leaves no more
+-- with a closed gate and has no more bytes after it than the line has. A crash of the line's write leaves no more
 abbrev pub IsNew : List ℕ → List ℕ → Type 0
 IsNew file first = (recovered file ≡ []) × ((file ≡ []) ⊎ (BeginsClosed file × (length file ≤ length first + 1)))
 

@@ -17,7 +17,7 @@ pub record IsBehindBlanks (number : ℕ) (later : List (List ℕ)) (input : List
   pub number_is : number ≡ 1 + length blanks
   pub whole : lines_of input ≡ blanks ++ later
 
--- the lines that wait, and those still to be read, are behind blank lines of the input
+-- the lines that wait, and those still to be read, are after blank lines of the input
 pub record WaitsAt (number : ℕ) (pending : List ℕ) (left : Option (List ℕ)) (input : List ℕ) : Type 0 where
   pub rest : List ℕ
   pub left_is : left ≡ Some rest
@@ -36,7 +36,7 @@ abbrev pub IsLongFirst : ℕ → List ℕ → Type 0
 IsLongFirst k input =
     (line : List ℕ) × (later : List (List ℕ)) × (is_long line ≡ true) × IsBehindBlanks k (line ∷ later) input
 
--- the first line that isn't blank was found, and waits with what is behind it; or why it wasn't
+-- the first line that isn't blank was found, and waits with what is after it; or why it wasn't
 abbrev pub FindsFirst : Result (ℕ × ℕ) SiteFault → List ℕ → List ℕ → Option (List ℕ) → Type 0
 FindsFirst (Ok (n, number)) input pending left = WaitsAt number pending left input
 FindsFirst (Err NoConfig) input pending left = (not_blank (lines_of input) ≡ []) × (left ≡ Some [])

@@ -42,7 +42,7 @@ EndsNode line number me NoSite = (s : Settings) × (config_on line ≡ Some s) �
 EndsNode line number me OutOfMemory = Unit {0}
 EndsNode line number me _ = ⊥
 
--- the file's whole lines are all replayed, and behind them, at the place of the line of this number or of the gate, is
+-- the file's whole lines are all replayed, and after them, at the place of the line of this number or of the gate, is
 -- a byte that no crash leaves there
 pub record IsDamagedBehind (old : SeenAsked) (file : List ℕ) (number : ℕ) : Type 0 where
   pub entries : List AskedEntry
@@ -53,7 +53,7 @@ pub record IsDamagedBehind (old : SeenAsked) (file : List ℕ) (number : ℕ) : 
   pub number_is : number ≡ length (recovered file) + 1
 
 -- why a file isn't replayed: it is another's; a line of its entries isn't the site's next; it is damaged, at its
--- beginning or behind its whole lines; or it is sealed
+-- beginning or after its whole lines; or it is sealed
 abbrev pub EndsFile : SeenAsked → List ℕ → SiteFault → Type 0
 EndsFile old file AnotherJournal = IsAnother file (journal_head old.settings)
 EndsFile old file (Damaged n) = ((n ≡ 1) × IsNoBeginning file (journal_head old.settings)) ⊎ IsDamagedBehind old file n

@@ -39,7 +39,7 @@ abbrev pub RestartedRunsAreOne : Type 0
 RestartedRunsAreOne = (me : ℕ) (bank : List ℕ) (start : SeenAsked) (turns : List (Turn SeenAsked)) (file : List ℕ)
     → HasRestarted me bank start turns file → AreTurns AnswersEither start turns × AreSteps start turns file
 
--- the fault is one of the file: of its lines, or of what is behind them
+-- the fault is one of the file: of its lines, or of what is after them
 abbrev pub IsFileFault : SiteFault → Type 0
 IsFileFault AnotherJournal = Unit {0}
 IsFileFault (BadEntry n) = Unit {0}

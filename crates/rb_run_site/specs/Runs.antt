@@ -55,7 +55,7 @@ abbrev pub IsNewOrAnswered : Bool → List (List ℕ) → SeenAsked → List ℕ
 IsNewOrAnswered all lines x sends number bytes output c d =
     IsStillNew lines x output c d ⊎ HasAnswered all x sends number bytes output c d
 
--- the site that the input's first line and the journal's lines say has answered some of the lines behind
+-- the site that the input's first line and the journal's lines say has answered some of the lines after
 pub record HasRun (run : SiteRun) (lines : List (List ℕ)) (output c d : List ℕ) : Type 0 where
   pub start : SeenAsked
   pub starts : Starts run.me run.bank run.input lines start

@@ -19,7 +19,7 @@ pub record IsOf (config : List ℕ) (me : ℕ) (bank : List ℕ) (x : SeenAsked)
 abbrev pub IsJournalOf : List (List ℕ) → SeenAsked → Type 0
 IsJournalOf lines x = ((lines ≡ []) × (x ≡ first_asked x.settings x.me x.bank)) ⊎ (lines ≡ journal_of x)
 
--- the input's first line that isn't blank is the configuration's, and these lines are behind it, of which the first has
+-- the input's first line that isn't blank is the configuration's, and these lines are after it, of which the first has
 -- this number
 pub record IsBehind (config : List ℕ) (number : ℕ) (later : List (List ℕ)) (input : List ℕ) : Type 0 where
   pub blanks : List (List ℕ)
@@ -27,7 +27,7 @@ pub record IsBehind (config : List ℕ) (number : ℕ) (later : List (List ℕ))
   pub number_is : number ≡ 2 + length blanks
   pub whole : lines_of input ≡ blanks ++ config ∷ later
 
--- what waits and what is still to be read is behind the configuration's line
+-- what waits and what is still to be read is after the configuration's line
 pub record WaitsBehind (config : List ℕ) (number : ℕ) (pending : List ℕ) (left : Option (List ℕ)) (input : List ℕ) : Type 0 where
   pub rest : List ℕ
   pub left_is : left ≡ Some rest

@@ -24,12 +24,12 @@ front_of_sum old new a e = ap (take (length old)) e ∙ take_at old a (length ol
 pub both : (old mid new a b : List ℕ) → mid ≡ old ++ a → new ≡ mid ++ b → new ≡ old ++ (a ++ b)
 both old mid new a b e f = f ∙ ap (λ l. l ++ b) e ∙ append_assoc old a b
 
--- the last of two calls, behind what the first added
+-- the last of two calls, after what the first added
 pub then : {A E : Type 0} (r : Result A E) (old mid new a b t : List ℕ) → mid ≡ old ++ a → Adds r mid new b → a ++ b ≡ t → Adds r old new t
 then (Ok x) old mid new a b t e h f = both old mid new a b e h ∙ ap (λ l. old ++ l) f
 then (Err x) old mid new a b t e h f = front_stays old mid new a e h
 
--- a failed call, behind what another added
+-- a failed call, after what another added
 pub failed : {A E : Type 0} (r : Result A E) (old mid new a t : List ℕ) → IsErr r → mid ≡ old ++ a → take (length mid) new ≡ mid →
     Adds r old new t
 failed (Ok x) old mid new a t is e h = absurd (cc)

@@ -59,7 +59,7 @@ failed_behind (Err x) old mid new t is e h = front_of_front old mid new e h
 pub front_more : (old mid new a : List ℕ) → take (length old) mid ≡ old → new ≡ mid ++ a → take (length old) new ≡ old
 front_more old mid new a e h = front_of_front old mid new e (front_of_sum mid new a h)
 
--- a list behind a text is written if no item is left, with its last bracket
+-- a list after a text is written if no item is left, with its last bracket
 pub list_behind : {A E : Type 0} (r : Result A E) (old out new comma front : List ℕ) (later all : List Data)
     → later ≡ []
     → out ++ rest_text comma later ≡ (old ++ front) ++ rest_text [] all → Adds r out new (codes "]")

@@ -2,7 +2,7 @@ use Rattle.std.proofs.Common.{◌≡◌, ◌++◌, List, ℕ, [], codes, decimal
 use Rattle.rb_history.proofs.Public.Appended.{both, then}
 use Rattle.rb_run_site.proofs.bad_line.append_parts.Goals as goal
 
--- the parts of the text, one behind another
+-- the parts of the text, one after another
 parts : (word number key why : List ℕ)
     → ((codes "{\"bad\":\"" ++ (word ++ codes "\",\"line\":")) ++ (number ++ key)) ++ (why ++ (codes "}\n" ++ []))
     ≡ codes "{\"bad\":\"" ++ (word ++ (codes "\",\"line\":" ++ (number ++ (key ++ (why ++ codes "}\n")))))
