@@ -1,11 +1,10 @@
 -- A site can be brought to all that was made.
 use Rattle.std.proofs.Common.{◌≡◌, ℕ, suc, ◌+◌, ◌<◌, ◌≤◌, Bool, true, false, cond, ◌||◌, List, [], ◌∷◌, ◌++◌, length, refl, ap, sym, ◌∙◌}
 use Rattle.std.proofs.Common.{arith, ◌⊎◌, inl, inr, subst, Some, append_assoc, length-append}
-use Rattle.std.specs.Prelude.{option_map, slice_get, nat_le}
+use Rattle.std.specs.Prelude.{slice_get}
 use Rattle.std.proofs.lemmas.Bool.Decides.{nat_tests}
 use Rattle.std.proofs.lemmas.List.{append-nil}
 use Rattle.rb_money.specs.Settings.{Settings}
-use Rattle.rb_shadow.specs.declared.op_name.OpName.{OpName}
 use Rattle.rb_shadow.specs.declared.shadow.Shadow.{Shadow}
 use Rattle.rb_shadow.specs.Operations.{Among, IsWithin, names, past, same_name}
 use Rattle.rb_shadow.proofs.Public.Members
@@ -17,7 +16,7 @@ use Rattle.rb_site.specs.declared.event.Event.TheVariants.{Apply, Receive}
 use Rattle.rb_site.specs.declared.reply.Reply.TheVariants.{Already}
 use Rattle.rb_site.specs.declared.world_event.WorldEvent.{WorldEvent}
 use Rattle.rb_site.specs.declared.world_event.WorldEvent.TheVariants.{At, Deliver}
-use Rattle.rb_site.specs.Events.{Answers, Applies, Drops, Holds, Makes, MakesAll, ModelSite, Outcome, Passes, Refuses, Shows, Takes}
+use Rattle.rb_site.specs.Events.{Answers, Applies, Holds, Makes, MakesAll, ModelSite, Outcome}
 use Rattle.rb_site.specs.Events.{after_event, changed, is_full, outcome_of, sent_at}
 use Rattle.rb_inbox.specs.Held.{comes_before, with_held}
 use Rattle.rb_site.specs.Worlds.{AreOwn, World, made_in, message_at, shadows_in, world_after, world_after_all, world_at}
@@ -38,16 +37,10 @@ names-left : (us vs : List Shadow) → IsWithin (names us) (names (us ++ vs))
 names-left us vs x h = Members.names-append us vs x ∙ ap (λ b. b || names vs x) h
 
 changed_grows : (t : ModelSite) (o : Outcome) → IsWithin (names t.ops) (names (changed t o).ops)
-changed_grows t (Refuses why) x h = h
-changed_grows t (Answers r) x h = h
-changed_grows t (Drops y why) x h = h
-changed_grows t (Shows a) x h = h
 changed_grows t (Makes v) x h = names-left t.ops (v ∷ []) x h
 changed_grows t (MakesAll vs) x h = names-left t.ops vs x h
-changed_grows t (Holds v) x h = h
 changed_grows t (Applies v) x h = names-left t.ops (v ∷ []) x h
-changed_grows t (Takes m) x h = h
-changed_grows t (Passes m) x h = h
+changed_grows t _ x h = h
 
 -- the site after an event, if its history wasn't full
 pub after_roomy : (s : Settings) (t : ModelSite) (e : Event) → is_full s t ≡ false → after_event s t e ≡ Runs.noted s t e
@@ -70,21 +63,9 @@ pub record IsStage (s : Settings) (w : World) (i : ℕ) (t : ModelSite) (known :
   pub knows : IsWithin (names known) (names t.ops)
   pub has : IsWithin (names (shadows_in front)) (names t.ops)
 
-good_after : (s : Settings) (w : World) (e : WorldEvent) → AreOwn (e ∷ []) → IsGood s w → IsGood s (world_after s w e)
-good_after s w e own g = Steps.after_all s (IsGood s) (Good.keeps_good s) (e ∷ []) w own g
-
-at_place : (front rest : List Message) (m : Message) → slice_get (front ++ m ∷ rest) (length front) ≡ Some m
-at_place [] rest m = refl
-at_place (n ∷ front) rest m = at_place front rest m
-
 deliver_is : (s : Settings) (w : World) (i k : ℕ) (t : ModelSite) (m : Message) → slice_get w.sites i ≡ Some t →
     message_at w.messages k ≡ Some m → world_after s w (Deliver i k) ≡ world_at s w i (Some (Receive m)) (Some t)
-deliver_is s w i k t m at h = ap (λ o. world_at s w i (option_map Receive o) (slice_get w.sites i)) h
-    ∙ ap (world_at s w i (Some (Receive m))) at
-
-apply_is : (s : Settings) (w : World) (i : ℕ) (t : ModelSite) (x : OpName) → slice_get w.sites i ≡ Some t →
-    world_after s w (At i (Apply x)) ≡ world_at s w i (Some (Apply x)) (Some t)
-apply_is s w i t x at = ap (world_at s w i (Some (Apply x))) at
+deliver_is s w i k t m at h = cc
 
 -- an event at the site keeps the stage, but for what was sent meanwhile
 stage_after : (s : Settings) (w : World) (i : ℕ) (t : ModelSite) (known : List Shadow) (front rest extra : List Message) (e : WorldEvent)
@@ -93,7 +74,7 @@ stage_after : (s : Settings) (w : World) (i : ℕ) (t : ModelSite) (known : List
     → IsStage s (world_after s w e) i (after_event s t x) known front rest (extra ++ sent_at s t x)
 stage_after s w i t known front rest extra e x own is room g =
     record {
-      good = good_after s w e own g.good;
+      good = Steps.after_all s (IsGood s) (Good.keeps_good s) (e ∷ []) w own g.good;
       at = ap (λ (v : World). slice_get v.sites i) is ∙ get_set_same w.sites i t (after_event s t x) g.at;
       messages = ap (λ (v : World). v.messages) is ∙ ap (λ ms. ms ++ sent_at s t x) g.messages
           ∙ append_assoc (front ++ rest) extra (sent_at s t x);
@@ -106,20 +87,15 @@ stage_after s w i t known front rest extra e x own is room g =
 
 -- a history that may have at least one entry more isn't full
 pub roomy : (s : Settings) (t : ModelSite) (n : ℕ) → length t.history + suc n ≤ s.limits.history → is_full s t ≡ false
-roomy s t n h = at (length t.history) h
-  where
-    at : (m : ℕ) → m + suc n ≤ s.limits.history → nat_le s.limits.history m ≡ false
-    at m h = let k : m < s.limits.history = omega arith in grind (arith, nat_tests)
+roomy s t n h = let less : length t.history < s.limits.history = omega arith in grind (arith, nat_tests)
 
 -- ---- one operation that is missing
 
 held_there : (v : Shadow) (us : List Shadow) → Among v (with_held v us)
 held_there v [] = inl refl
-held_there v (u ∷ us) = at (comes_before v.name u.name) (held_there v us)
-  where
-    at : (b : Bool) → Among v (with_held v us) → Among v (cond b (v ∷ u ∷ us) (u ∷ with_held v us))
-    at true h = inl refl
-    at false h = inr h
+held_there v (u ∷ us) =
+    let rest = held_there v us in
+    elim (comes_before v.name u.name) as (λ b. Among v (cond b (v ∷ u ∷ us) (u ∷ with_held v us))) [ true ↦ inl refl | false ↦ inr rest ]
 
 -- after the delivery the operation was applied, or is held
 delivered_there : (s : Settings) (w : World) (i : ℕ) (t : ModelSite) (v : Shadow) → IsGood s w → slice_get w.sites i ≡ Some t →
@@ -204,7 +180,7 @@ made_there s w i t known front rest extra v g = subst (Among v) (sym (ap shadows
 placed_there : (s : Settings) (w : World) (i k : ℕ) (t : ModelSite) (known : List Shadow) (front rest extra : List Message) (m : Message) →
     k ≡ suc (length front) → IsStage s w i t known front (m ∷ rest) extra → message_at w.messages k ≡ Some m
 placed_there s w i k t known front rest extra m e g = ap (message_at w.messages) e
-    ∙ ap (λ ms. slice_get ms (length front)) (g.messages ∙ append_assoc front (m ∷ rest) extra) ∙ at_place front (rest ++ extra) m
+    ∙ ap (λ ms. slice_get ms (length front)) (g.messages ∙ append_assoc front (m ∷ rest) extra) ∙ Places.get_after front (rest ++ extra) m
 
 caught_up : (s : Settings) (rest : List Message) (w : World) (i k : ℕ) (t : ModelSite) (known : List Shadow) (front extra : List Message) →
     k ≡ suc (length front) → IsStage s w i t known front rest extra
@@ -212,8 +188,7 @@ caught_up : (s : Settings) (rest : List Message) (w : World) (i k : ℕ) (t : Mo
     → (u : ModelSite) → slice_get (world_after_all s w (catching_up i known k rest)).sites i ≡ Some u →
     IsWithin (names (shadows_in (front ++ rest))) (names u.ops)
 caught_up s [] w i k t known front extra e g room u there = λ x h.
-    let same : u ≡ t = Places.same_item (slice_get w.sites i) u t there g.at in
-    ap (λ (y : ModelSite). names y.ops x) same ∙ g.has x (ap (λ ms. names (shadows_in ms) x) (sym (append-nil front)) ∙ h)
+    let same : u ≡ t = cc (there, g.at) in rw same (g.has x (rw append-nil at h))
 caught_up s (TokenOnItsWay m ∷ rest) w i k t known front extra e g room u there =
     regrouped front rest (TokenOnItsWay m) u.ops
     (caught_up s rest w i (k + 1) t known (front ++ TokenOnItsWay m ∷ []) extra (next_place front (TokenOnItsWay m) k e)
@@ -241,30 +216,26 @@ caught_up s (ShadowMessage v ∷ rest) w i k t known front extra e g room u ther
     by true q room' there' go = go w t extra (step_on s w i t known front rest extra (ShadowMessage v) g
         (with_last s w i t known front rest extra v g (g.knows v.name q))) room' there'
     by false q room' there' go =
-        let full : is_full s t ≡ false = roomy s t (suc (length later)) (omega arith) in
-        let w1 : World = world_after s w (Deliver i k) in
-        let t1 : ModelSite = after_event s t (Receive (ShadowMessage v)) in
-        let g1 : IsStage s w1 i t1 known front (ShadowMessage v ∷ rest) (extra ++ sent_at s t (Receive (ShadowMessage v))) =
-        stage_after s w i t known front (ShadowMessage v ∷ rest) extra (Deliver i k) (Receive (ShadowMessage v)) tt
-        (deliver_is s w i k t (ShadowMessage v) g.at (placed_there s w i k t known front rest extra (ShadowMessage v) e g)) full g in
-        let h1 : length t1.history ≡ length t.history + 1 = history_after s t (Receive (ShadowMessage v)) full in
-        let full1 : is_full s t1 ≡ false = roomy s t1 (length later) (omega arith) in
-        let held1 : (names t1.ops v.name ≡ true) ⊎ Among v t1.held = delivered_there s w i t v g.good g.at full
-        (made_there s w i t known front rest extra v g) (past_there s w i t known front rest extra v g) in
-        let w2 : World = world_after s w1 (At i (Apply v.name)) in
-        let t2 : ModelSite = after_event s t1 (Apply v.name) in
-        let extra2 : List Message = (extra ++ sent_at s t (Receive (ShadowMessage v))) ++ sent_at s t1 (Apply v.name) in
-        let g2 : IsStage s w2 i t2 known front (ShadowMessage v ∷ rest) extra2 =
-        stage_after s w1 i t1 known front (ShadowMessage v ∷ rest) (extra
-        ++ sent_at s t (Receive (ShadowMessage v))) (At i (Apply v.name)) (Apply v.name) (
-          tt,
-          tt,
-        ) (apply_is s w1 i t1 v.name g1.at) full1 g1 in
-        let h2 : length t2.history ≡ length t1.history + 1 = history_after s t1 (Apply v.name) full1 in
-        let there2 : names t2.ops v.name ≡ true = applied_there s w1 i t1 v g1.good g1.at full1
-        (past_there s w1 i t1 known front rest (extra ++ sent_at s t (Receive (ShadowMessage v))) v g1) held1 in
-        go w2 t2 extra2 (step_on s w2 i t2 known front rest extra2 (ShadowMessage v) g2
-        (with_last s w2 i t2 known front rest extra2 v g2 there2)) (omega arith) there'
+        let m = ShadowMessage v in
+        let full = roomy s t (suc (length later)) (omega arith) in
+        let at1 = deliver_is s w i k t m g.at (placed_there s w i k t known front rest extra m e g) in
+        let g1 = stage_after s w i t known front (m ∷ rest) extra (Deliver i k) (Receive m) tt at1 full g in
+        let h1 = history_after s t (Receive m) full in
+        let w1 = world_after s w (Deliver i k) in
+        let t1 = after_event s t (Receive m) in
+        let extra1 = extra ++ sent_at s t (Receive m) in
+        let full1 = roomy s t1 (length later) (omega arith) in
+        let held1 = delivered_there s w i t v g.good g.at full (made_there s w i t known front rest extra v g)
+        (past_there s w i t known front rest extra v g) in
+        let at2 = ap (world_at s w1 i (Some (Apply v.name))) g1.at in
+        let g2 = stage_after s w1 i t1 known front (m ∷ rest) extra1 (At i (Apply v.name)) (Apply v.name) (tt, tt) at2 full1 g1 in
+        let h2 = history_after s t1 (Apply v.name) full1 in
+        let there2 = applied_there s w1 i t1 v g1.good g1.at full1 (past_there s w1 i t1 known front rest extra1 v g1) held1 in
+        let w2 = world_after s w1 (At i (Apply v.name)) in
+        let t2 = after_event s t1 (Apply v.name) in
+        let extra2 = extra1 ++ sent_at s t1 (Apply v.name) in
+        go w2 t2 extra2 (step_on s w2 i t2 known front rest extra2 m g2 (with_last s w2 i t2 known front rest extra2 v g2 there2))
+        (omega arith) there'
 
 -- in a good world a site whose history may have the entries for it can be brought to all that was made
 pub can_catch_up : (s : Settings) (w : World) → IsGood s w → CanCatchUp s w

@@ -1,6 +1,6 @@
 -- The reports of a world's sites.
 use Rattle.std.proofs.Common.{◌≡◌, ◌∙◌, Bool, true, false, List, [], ◌∷◌, ◌++◌, Some, ap, arith, length, map, refl, suc}
-use Rattle.std.proofs.Common.{reverse, subst, sym, append_assoc}
+use Rattle.std.proofs.Common.{reverse, subst, append_assoc}
 use Rattle.std.proofs.lemmas.List.{append-nil, reverse-append}
 use Rattle.std.proofs.lemmas.List.Elements.{All-pop}
 use Rattle.rb_money.specs.Settings.{Settings}
@@ -47,12 +47,9 @@ closing-next keeps s all before left rs x r popped far is =
     let kept : AreOf s left × (x.settings ≡ s) = All-pop (λ (y : SeenSite). y.settings ≡ s) before left (Some x) popped far.settings in
     record {
       closed = x ∷ far.closed;
-      together = ap (map state_of) (sym (append_assoc left (x ∷ []) far.closed) ∙ ap (λ ys. ys ++ far.closed) (sym popped)) ∙ far.together;
-      reports =
-          let P : List SiteReport → Type 0 = λ qs. AreReportsOf keeps s (map state_of (x ∷ far.closed)) qs in
-          subst P (sym (reverse-append rs (r ∷ [])))
-          (one_reported keeps s (state_of x) (map state_of far.closed) r (reverse rs)
-          (let Q : Settings → Type 0 = λ z. IsReportOf keeps z (state_of x) r in subst Q kept.1 is) far.reports);
+      together = cc (append_assoc left (x ∷ []) far.closed, popped, far.together);
+      reports = rw (reverse-append rs (r ∷ []))
+          (one_reported keeps s (state_of x) (map state_of far.closed) r (reverse rs) (subst (λ (z : Settings). IsReportOf keeps z (state_of x) r) kept.1 is) far.reports);
       settings = kept.0;
     }
 
@@ -72,6 +69,4 @@ as_many false s (t ∷ ts) (r ∷ rs) h = ap suc (as_many false s ts rs h.1)
 pub closing-whole : (keeps : Bool) (s : Settings) (all : List ModelSite) (rs : List SiteReport) (left : List SeenSite) → length left ≡ 0
     → IsClosing keeps s all rs left → AreReportsOf keeps s all (reverse rs)
 closing-whole keeps s all rs (x ∷ left) none far = absurd (omega arith)
-closing-whole keeps s all rs [] none far =
-    let P : List ModelSite → Type 0 = λ ts. AreReportsOf keeps s ts (reverse rs) in
-    subst P far.together far.reports
+closing-whole keeps s all rs [] none far = rw far.together at far.reports

@@ -1,5 +1,5 @@
 -- Steps, written out.
-use Rattle.std.proofs.Common.{◌≡◌, ◌≢◌, ℕ, ◌<◌, false, cond, List, [], ◌∷◌, ◌++◌, length, refl, ap, sym, ◌∙◌, arith, Some}
+use Rattle.std.proofs.Common.{◌≡◌, ◌≢◌, ℕ, ◌<◌, false, cond, List, [], ◌∷◌, ◌++◌, length, refl, ap, ◌∙◌, arith, Some}
 use Rattle.std.specs.Prelude.{nat_le, slice_get, slice_set}
 use Rattle.std.proofs.lemmas.Bool.Decides.{nat_tests}
 use Rattle.std.proofs.lemmas.List.{length-replicate}
@@ -21,10 +21,8 @@ disk on_disk reported es = record { events = es; on_disk = on_disk; reported = r
 recorded : (s : Settings) (w : List DiskSite) (i : ℕ) (d : DiskSite) (e : Event) → length d.events < s.limits.history →
     slice_set w i (record d { events = d.events ++ e ∷ [] })
     ≡ slice_set w i (cond (nat_le s.limits.history (length d.events)) d (record d { events = d.events ++ e ∷ [] }))
-recorded s w i d e free = ap (λ b. slice_set w i (cond b d (record d { events = d.events ++ e ∷ [] }))) (sym test)
-  where
-    test : nat_le s.limits.history (length d.events) ≡ false
-    test = grind (arith, nat_tests)
+recorded s w i d e free = ap (λ b. slice_set w i (cond b d (record d { events = d.events ++ e ∷ [] })))
+    (let test : false ≡ nat_le s.limits.history (length d.events) = grind (arith, nat_tests) in test)
 
 -- a site has an event of its own
 pub acts : (s : Settings) (w : List DiskSite) (i : ℕ) (d : DiskSite) (e : Event) → slice_get w i ≡ Some d → IsOwn e →
@@ -47,9 +45,8 @@ takes s w i d step at may out = record { number = i; site = d; at = at; step = s
 -- a site before any event
 pub first_at : (s : Settings) (i : ℕ) → i < s.sites → slice_get (first_disks s) i ≡ Some (disk 0 0 [])
 first_at s i h =
-    let (d, there) = Places.item_at (first_disks s) i
-    (let q : length (first_disks s) ≡ s.sites = length-replicate s.sites (disk 0 0 []) in omega arith) in
-    there ∙ ap Some (Places.get_replicate s.sites i (disk 0 0 []) d there)
+    let (d, there) = Places.item_at (first_disks s) i (omega (arith, length-replicate s.sites (disk 0 0 []))) in
+    cc (there, Places.get_replicate s.sites i (disk 0 0 []) d there)
 
 -- ---- the steps of one site
 

@@ -1,51 +1,39 @@
 -- A site's replies and its state but for the history don't hang on refused messages.
-use Rattle.std.proofs.Common.{◌≡◌, ℕ, ◌+◌, ◌≤◌, Bool, true, false, cond, not, ◌&&◌, List, [], ◌∷◌, ◌++◌, length, refl, ap, sym, ◌∙◌, arith}
+use Rattle.rb_token.specs.declared.message.TokenMessage.{TokenMessage}
+use Rattle.rb_shadow.specs.declared.shadow.Shadow.{Shadow}
+use Rattle.std.proofs.lemmas.Bool.{and_parts}
+use Rattle.std.proofs.Common.{◌≡◌, ℕ, ◌+◌, ◌≤◌, Bool, true, false, cond, List, [], ◌∷◌, ◌++◌, length, refl, ap, sym, ◌∙◌, arith}
 use Rattle.std.proofs.Common.{subst, length-append}
-use Rattle.std.specs.Prelude.{nat_le, ◌==◌}
 use Rattle.rb_money.specs.Settings.{Settings}
-use Rattle.rb_money.specs.declared.refusal.Refusal.TheVariants.{BadMessage, InboxFull}
-use Rattle.rb_shadow.specs.Operations.{find_in, is_eligible}
-use Rattle.rb_shadow.specs.Sound.{fault_of}
-use Rattle.rb_token.specs.Token.{refusal_of_token}
 use Rattle.rb_site.specs.declared.message.Message.TheVariants.{Shadow as ShadowMessage, Token as TokenOnItsWay}
 use Rattle.rb_site.specs.declared.event.Event.{Event}
 use Rattle.rb_site.specs.declared.event.Event.TheVariants.{Receive}
 use Rattle.rb_site.specs.declared.reply.Reply.{Reply}
-use Rattle.rb_site.specs.declared.reply.Reply.TheVariants.{Stale}
 use Rattle.rb_site.proofs.Public.Outcomes.{same_outcome, with_history, changed-with_history}
-use Rattle.rb_site.specs.Events.{Answers, Holds, ModelSite, Outcome, Takes, after_event, after_events, changed, first_site}
+use Rattle.rb_site.specs.Events.{ModelSite, after_event, after_events, changed, first_site}
 use Rattle.rb_site.specs.Events.{is_full, outcome_of, replies_to_events, reply_of, reply_to}
 use Rattle.rb_world.specs.Laws.{AreAlike, is_receive, is_refused, is_refused_receive, other_replies, without_refused}
 use Rattle.rb_world.proofs.CaughtUp
 use Rattle.rb_world.proofs.Ready
-use Rattle.rb_world.proofs.Steps.{past_known, past_refusal, past_test}
 
 -- ---- a refused Receive changes nothing
 
-abbrev Lets : Outcome → Type 0
-Lets o = (s : Settings) (t : ModelSite) → is_refused (reply_of s t.ops o) ≡ true → changed t o ≡ t
+refused_shadow : (s : Settings) (t : ModelSite) (v : Shadow) →
+    is_refused (reply_of s t.ops (outcome_of s t (Receive (ShadowMessage v)))) ≡ true →
+    changed t (outcome_of s t (Receive (ShadowMessage v))) ≡ t
+unfolding outcome_of
+refused_shadow s t v k = grind arith
+
+refused_token : (s : Settings) (t : ModelSite) (m : TokenMessage) →
+    is_refused (reply_of s t.ops (outcome_of s t (Receive (TokenOnItsWay m)))) ≡ true →
+    changed t (outcome_of s t (Receive (TokenOnItsWay m))) ≡ t
+unfolding outcome_of
+refused_token s t m k = grind arith
 
 refused_changes_nothing : (s : Settings) (t : ModelSite) (e : Event) → is_receive e ≡ true →
     is_refused (reply_of s t.ops (outcome_of s t e)) ≡ true → changed t (outcome_of s t e) ≡ t
-unfolding outcome_of
-refused_changes_nothing s t (Receive (ShadowMessage v)) h k =
-    let lets : Lets (outcome_of s t (Receive (ShadowMessage v))) =
-    past_refusal Lets BadMessage (fault_of s v) _ (λ why z u q. refl) (λ a.
-    past_known Lets v (find_in t.ops v.name) _ (λ z u q. refl) (λ z u q. refl) (λ b.
-    past_test Lets (v.home == t.me) _ _ (λ z u q. refl) (λ c.
-    past_known Lets v (find_in t.held v.name) _ (λ z u q. refl) (λ z u q. refl) (λ d.
-    past_test Lets (nat_le s.limits.inbox (length t.held) && not (is_eligible t.ops v)) InboxFull (Holds v) (λ z u q. refl)
-    (λ e z u q. cc))))) in
-    lets s t k
-refused_changes_nothing s t (Receive (TokenOnItsWay m)) h k =
-    let lets : Lets (outcome_of s t (Receive (TokenOnItsWay m))) =
-    past_refusal Lets (λ why. why) (refusal_of_token s.limits t.me m) _ (λ why z u q. refl) (λ a.
-    last (nat_le m.epoch t.token.epoch)) in
-    lets s t k
-  where
-    last : (b : Bool) → Lets (cond b (Answers (Stale m.epoch)) (Takes m))
-    last true z u q = refl
-    last false z u q = cc
+refused_changes_nothing s t (Receive (ShadowMessage v)) h k = refused_shadow s t v k
+refused_changes_nothing s t (Receive (TokenOnItsWay m)) h k = refused_token s t m k
 refused_changes_nothing s t _ h k = cc
 
 -- ---- one event
@@ -69,13 +57,9 @@ goes_alike s t h e room room' = (k, is, length-append h _)
 stays_alike : (s : Settings) (t : ModelSite) (h : List Event) (e : Event) → is_full s t ≡ false → is_refused_receive s t e ≡ true →
     with_history (after_event s t e) h ≡ with_history t h
 stays_alike s t h e room b =
-    ap (λ u. with_history u h) (CaughtUp.after_roomy s t e room)
-    ∙ ap (λ u. with_history u h) (refused_changes_nothing s t e (both _ _ b).0 (ap is_refused (sym (Ready.reply_roomy s t e room))
-    ∙ (both _ _ b).1))
-  where
-    both : (b c : Bool) → (b && c) ≡ true → (b ≡ true) × (c ≡ true)
-    both true c h = (refl, h)
-    both false c h = cc
+    let both = and_parts (is_receive e) (is_refused (reply_to s t e)) b in
+    ap (λ u. with_history u h) (CaughtUp.after_roomy s t e room) ∙ ap (λ u. with_history u h)
+    (refused_changes_nothing s t e both.0 (ap is_refused (sym (Ready.reply_roomy s t e room)) ∙ both.1))
 
 -- ---- a list of events
 

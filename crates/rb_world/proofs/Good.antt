@@ -1,7 +1,7 @@
 -- Claims that hold of the world after every run.
 use Rattle.std.proofs.Common.{◌≡◌, ◌≢◌, ℕ, ◌+◌, ◌<◌, ◌≤◌, Bool, true, false, cond, not, List, [], ◌∷◌, ◌++◌, refl, ap, sym, ◌∙◌, arith}
 use Rattle.std.proofs.Common.{inl, inr, subst, Some}
-use Rattle.std.specs.Prelude.{slice_get, max, ◌==◌}
+use Rattle.std.specs.Prelude.{slice_get, ◌==◌}
 use Rattle.std.proofs.lemmas.Bool.Decides.{nat_tests}
 use Rattle.std.proofs.lemmas.List.FromFn.{length-map-range_with_len}
 use Rattle.std.proofs.lemmas.Option.{slice_get_within}
@@ -83,8 +83,7 @@ made_as s t v made = made.is ∙ Fits.operation_is t.me t.ops made.plan
 -- who makes a red operation knows every red one
 knows_reds : (w : World) (i : ℕ) (t : ModelSite) → IsInOnePlace w → slice_get w.sites i ≡ Some t → t.token.held ≡ true →
     t.token.needed ≤ red_count t.ops → Token.RedsUpTo (made_in w) (red_count t.ops)
-knows_reds w i t p at held enough v h =
-    let a : red_number v.name ≤ max t.token.needed (red_count t.ops) = (Token.held_here w i t p at held).reds v h in omega arith
+knows_reds w i t p at held enough v h = omega (arith, (Token.held_here w i t p at held).reds v h)
 
 -- a red operation that the list counts is in it
 red_there : (us : List Shadow) (x : OpName) → IsCounted us → is_red x ≡ true → 1 ≤ number_of x → red_number x ≤ red_count us →
@@ -146,16 +145,14 @@ new_made s w i t v g at made = record {
 -- a site at which nothing was made
 older_site : (s : Settings) (all : List Shadow) (v : Shadow) (i : ℕ) (t : ModelSite) → v.home ≢ i → IsInOrder s all i t →
     IsInOrder s (all ++ v ∷ []) i t
-older_site s all v i t away o = record {
-  low = o.low;
-  valid = o.valid;
-  own_past = o.own_past;
-  part = λ u h. part-more all v u (o.part u h);
-  own = λ u h e. elim (last_cases all v u h) [ inl k ↦ o.own u k e | inr k ↦ absurd (away (ap (λ (x : Shadow). x.home) (sym k) ∙ e)) ];
-  held = λ u h. part-more all v u (o.held u h);
-  inbox = o.inbox;
-  needed = o.needed;
-}
+older_site s all v i t away o =
+    let part : IsPart t.ops (all ++ v ∷ []) = λ u h. part-more all v u (o.part u h) in
+    let own : (u : Shadow) → Among u (all ++ v ∷ []) → u.home ≡ i → Among u t.ops = λ u h e. elim (last_cases all v u h) [
+      | inl k ↦ o.own u k e
+      | inr k ↦ absurd (away (ap (λ (x : Shadow). x.home) (sym k) ∙ e))
+    ] in
+    let held : IsPart t.held (all ++ v ∷ []) = λ u h. part-more all v u (o.held u h) in
+    assumption
 
 -- the names of a list with one more
 pass_name : (us : List Shadow) (v : Shadow) (x : OpName) → names us x ≡ false → same_name v.name x ≡ false → names (us ++ v ∷ []) x ≡ false
@@ -182,16 +179,7 @@ made_site s all i t v o n = record {
 same_list : (s : Settings) (all : List Shadow) (i : ℕ) (t : ModelSite) (hs : List Shadow) (k : Token) (h : List Event) → IsInOrder s all i t
     → IsPart hs all → ((u : Shadow) → Among u hs → names t.ops u.name ≡ false) → k.needed ≤ s.limits.red
     → IsInOrder s all i (record { me = t.me; ops = t.ops; held = hs; token = k; history = h })
-same_list s all i t hs k h o part inbox needed = record {
-  low = o.low;
-  valid = o.valid;
-  own_past = o.own_past;
-  part = o.part;
-  own = o.own;
-  held = part;
-  inbox = inbox;
-  needed = needed;
-}
+same_list s all i t hs k h o part inbox needed = assumption
 
 in_without : (x : OpName) (us : List Shadow) (u : Shadow) → Among u (without x us) → Among u us
 in_without x us u h = kept_among (λ y. not (same_name y.name x)) us u h
@@ -247,53 +235,41 @@ stays s w i t n ms g at place same tokens here = record {
 
 makes : (s : Settings) (w : World) (i : ℕ) (t : ModelSite) (v : Shadow) → IsGood s w → slice_get w.sites i ≡ Some t →
     IsMadeAt s t.me t.ops t.token v → IsGood s (moved w i (record t { ops = t.ops ++ v ∷ [] }) (w.messages ++ ShadowMessage v ∷ []))
-makes s w i t v g at made = record {
-  few = g.few;
-  place = (Token.keeps_place s).makes w i t v g.place at made;
-  order = subst (IsOrderedSet s) (sym same) (Order.set_more s all t.ops v g.order new);
-  sites = subst (λ all. EachSite (moved w i n ms) (IsInOrder s all)) (sym same)
-      (each_moved w i t n ms (IsInOrder s (all ++ v ∷ [])) at
-      (λ j u h ne. older_site s all v j u (λ e. ne (sym e ∙ home)) (g.sites j u h))
-      (made_site s all i t v (g.sites i t at) new));
-  tokens = subst (AreWithin s) (sym (Token.tokens_same w.messages v)) g.tokens;
-}
-  where
-    all : List Shadow
-    all = made_in w
-
-    n : ModelSite
-    n = record t { ops = t.ops ++ v ∷ [] }
-
-    ms : List Message
-    ms = w.messages ++ ShadowMessage v ∷ []
-
-    same : shadows_in ms ≡ all ++ v ∷ []
-    same = Token.made_more w.messages v
-
-    new : IsNew s all t.ops v
-    new = new_made s w i t v g at made
-
-    home : v.home ≡ i
-    home = ap (λ (x : Shadow). x.home) (made_as s t v made) ∙ g.place.numbered i t at
+makes s w i t v g at made =
+    let all = made_in w in
+    let n = record t { ops = t.ops ++ v ∷ [] } in
+    let ms = w.messages ++ ShadowMessage v ∷ [] in
+    let same : shadows_in ms ≡ all ++ v ∷ [] = Token.made_more w.messages v in
+    let new = new_made s w i t v g at made in
+    let home : v.home ≡ i = ap (λ (x : Shadow). x.home) (made_as s t v made) ∙ g.place.numbered i t at in
+    record {
+      few = g.few;
+      place = (Token.keeps_place s).makes w i t v g.place at made;
+      order = subst (IsOrderedSet s) (sym same) (Order.set_more s all t.ops v g.order new);
+      sites = subst (λ all. EachSite (moved w i n ms) (IsInOrder s all)) (sym same)
+          (each_moved w i t n ms (IsInOrder s (all ++ v ∷ [])) at
+          (λ j u h ne. older_site s all v j u (λ e. ne (sym e ∙ home)) (g.sites j u h))
+          (made_site s all i t v (g.sites i t at) new));
+      tokens = subst (AreWithin s) (sym (Token.tokens_same w.messages v)) g.tokens;
+    }
 
 -- the message of a token that is passed is within the limits
 passed_within : (s : Settings) (w : World) (i : ℕ) (t : ModelSite) (m : TokenMessage) → IsGood s w → slice_get w.sites i ≡ Some t →
     MayPass s t m → AreWithin s (tokens_in (w.messages ++ TokenOnItsWay m ∷ []))
-passed_within s w i t m g at may k h = elim (Token.tokens_cases (tokens_in w.messages) (m
-    ∷ []) k (subst (AmongTokens k) (Token.tokens_more w.messages m) h)) [
+passed_within s w i t m g at may k h = elim (Token.tokens_cases (tokens_in w.messages) (m ∷ []) k
+    (rw Token.tokens_more at h)) [
       | inl old ↦ g.tokens k old
-      | inr new ↦ elim new [
-        | inl e ↦ subst (λ (x : TokenMessage). (x.epoch ≤ s.limits.epoch) × (x.red ≤ s.limits.red)) (sym e) (may.within, red)
-        | inr q ↦ elim q [ ]
-      ]
+      | inr (inl e) ↦ rw e (may.within, red)
+      | inr (inr q) ↦ elim q [ ]
     ]
   where
     red : m.red ≤ s.limits.red
-    red =
-        let a : t.token.needed ≤ s.limits.red = (g.sites i t at).needed in
-        let b : red_count t.ops ≤ s.limits.red = ValidClocks.within_limit s t.ops (Red (red_count t.ops)) (g.sites i t at).valid refl in
-        let c : m.red ≡ max t.token.needed (red_count t.ops) = may.red in
-        omega arith
+    red = omega (
+      arith,
+      (g.sites i t at).needed,
+      ValidClocks.within_limit s t.ops (Red (red_count t.ops)) (g.sites i t at).valid refl,
+      may.red,
+    )
 
 -- each kind of step keeps a world good
 pub keeps_good : (s : Settings) → Keeps s (IsGood s)

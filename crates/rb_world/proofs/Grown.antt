@@ -1,7 +1,7 @@
 -- A world without crashes goes on by one event.
-use Rattle.std.proofs.Common.{◌≡◌, ℕ, zero, suc, ◌+◌, List, [], ◌∷◌, ◌++◌, ap, sym, subst, ◌∙◌, arith}
+use Rattle.std.proofs.Common.{◌≡◌, ℕ, zero, suc, ◌+◌, List, [], ◌∷◌, ◌++◌, ap, sym, subst, ◌∙◌, arith, add-zero, zero-add}
 use Rattle.std.proofs.Common.{◌⊎◌, inl, inr, Some}
-use Rattle.std.specs.Prelude.{option_map, slice_get, slice_set}
+use Rattle.std.specs.Prelude.{slice_get, slice_set}
 use Rattle.std.proofs.lemmas.List.{append-nil}
 use Rattle.rb_money.specs.Settings.{Settings}
 use Rattle.rb_site.specs.declared.event.Event.{Event}
@@ -44,12 +44,7 @@ brings_own s w i t e at own = record { event = At i e; own = own; is = ap (world
 pub brings_message : (s : Settings) (w : World) (i : ℕ) (t : ModelSite) (m : Message) → slice_get w.sites i ≡ Some t →
     IsAmong m w.messages → Brings s w i t (Receive m)
 brings_message s w i t m at among =
-    let (k, there) = numbered m w.messages among in
-    record {
-      event = Deliver i (suc k);
-      own = tt;
-      is = ap (λ o. world_at s w i (option_map Receive o) (slice_get w.sites i)) there ∙ ap (world_at s w i (Some (Receive m))) at;
-    }
+    let (k, there) = numbered m w.messages among in record { event = Deliver i (suc k); own = tt; is = cc }
 
 -- ---- the sites
 
@@ -57,12 +52,8 @@ brings_message s w i t m at among =
 pub site_at : (s : Settings) (i k : ℕ) (w : List DiskSite) (d : DiskSite) → slice_get w k ≡ Some d →
     slice_get (sites_from s i w) k ≡ Some (after_events s (first_site (i + k)) d.events)
 site_at s i k [] d at = cc
-site_at s i zero (x ∷ w) d at =
-    ap (λ (y : DiskSite). Some (after_events s (first_site i) y.events)) (let e : x ≡ d = cc in e)
-    ∙ ap (λ j. Some (after_events s (first_site j) d.events)) (let q : i ≡ i + 0 = omega arith in q)
-site_at s i (suc k) (x ∷ w) d at =
-    site_at s (i + 1) k w d at
-    ∙ ap (λ j. Some (after_events s (first_site j) d.events)) (let q : (i + 1) + k ≡ i + suc k = omega arith in q)
+site_at s i zero (x ∷ w) d at = cc (add-zero i)
+site_at s i (suc k) (x ∷ w) d at = let q : i + suc k ≡ i + 1 + k = omega arith in rw q (site_at s (i + 1) k w d at)
 
 -- the sites where that of the number k has one event more
 sites_set : (s : Settings) (i k : ℕ) (w : List DiskSite) (d more : DiskSite) (e : Event) → slice_get w k ≡ Some d →
@@ -70,13 +61,10 @@ sites_set : (s : Settings) (i k : ℕ) (w : List DiskSite) (d more : DiskSite) (
     sites_from s i (slice_set w k more) ≡ slice_set (sites_from s i w) k (after_event s (after_events s (first_site (i + k)) d.events) e)
 sites_set s i k [] d more e at grown = cc
 sites_set s i zero (x ∷ w) d more e at grown =
-    ap (λ t. t ∷ sites_from s (i + 1) w) (ap (after_events s (first_site i)) grown
-    ∙ Runs.after_events-append s d.events (e ∷ []) (first_site i)
-    ∙ ap (λ j. after_event s (after_events s (first_site j) d.events) e) (let q : i ≡ i + 0 = omega arith in q))
+    let same : x ≡ d = cc in cc (Runs.after_events-append s d.events (e ∷ []) (first_site i), add-zero i)
 sites_set s i (suc k) (x ∷ w) d more e at grown =
-    ap (λ ts. after_events s (first_site i) x.events ∷ ts) (sites_set s (i + 1) k w d more e at grown
-    ∙ ap (λ j. slice_set (sites_from s (i + 1) w) k (after_event s (after_events s (first_site j) d.events) e))
-    (let q : (i + 1) + k ≡ i + suc k = omega arith in q))
+    let q : i + suc k ≡ i + 1 + k = omega arith in
+    ap (λ ts. after_events s (first_site i) x.events ∷ ts) (rw q (sites_set s (i + 1) k w d more e at grown))
 
 -- ---- the messages
 
@@ -107,39 +95,22 @@ sent_here s i w e d more m h among = record {
 sent_before : (s : Settings) (i : ℕ) (w : List DiskSite) (e : Event) (d more : DiskSite) (m : Message) → HasOneMore s i w e d more →
     IsSent s w m → IsSent s (slice_set w i more) m
 sent_before s i w e d more m h r = elim (same_number i r.number) [
-  | inl q ↦ sent_here s i w e d more m h (Stuck.among-left m (sends_of s (first_site i) d.events) (sent_now s i d e)
-      (subst (λ (y : DiskSite). IsAmong m (sends_of s (first_site i) y.events))
-      (Places.same_item (slice_get w i) r.site d (ap (slice_get w) (sym q) ∙ r.at) h.at)
-      (subst (λ j. IsAmong m (sends_of s (first_site j) r.site.events)) q r.sent)))
-  | inr ne ↦ record {
-    number = r.number;
-    site = r.site;
-    at = Sets.get_set_other w i r.number more ne ∙ r.at;
-    sent = r.sent;
-  }
+  | inl q ↦ (let same : r.site ≡ d = cc (q, r.at, h.at) in
+      sent_here s i w e d more m h (Stuck.among-left m (sends_of s (first_site i) d.events) (sent_now s i d e) (rw (q, same) at r.sent)))
+  | inr ne ↦ record { number = r.number; site = r.site; at = cc (Sets.get_set_other w i r.number more ne, r.at); sent = r.sent }
 ]
 
 -- and nothing else but what the event sends
 sent_then : (s : Settings) (i : ℕ) (w : List DiskSite) (e : Event) (d more : DiskSite) (m : Message) → HasOneMore s i w e d more →
     IsSent s (slice_set w i more) m → IsSent s w m ⊎ IsAmong m (sent_now s i d e)
-sent_then s i w e d more m h r = elim (same_number i r.number) [
-  | inl q ↦
-      let is : r.site ≡ more = Places.same_item (slice_get (slice_set w i more) i) r.site more
-      (ap (slice_get (slice_set w i more)) (sym q) ∙ r.at) (Sets.get_set_same w i d more h.at) in
-      let among : IsAmong m (sends_of s (first_site i) d.events ++ sent_now s i d e) =
-      subst (IsAmong m) (ap (λ (y : DiskSite). sends_of s (first_site i) y.events) is ∙ ap (sends_of s (first_site i)) h.grown
-      ∙ sends_more s (first_site i) d.events e) (subst (λ j. IsAmong m (sends_of s (first_site j) r.site.events)) q r.sent) in
-      elim (Stuck.among-cases m (sends_of s (first_site i) d.events) (sent_now s i d e) among) [
-        | inl k ↦ inl (record { number = i; site = d; at = h.at; sent = k })
-        | inr k ↦ inr k
-      ]
-  | inr ne ↦ inl (record {
-    number = r.number;
-    site = r.site;
-    at = sym (Sets.get_set_other w i r.number more ne) ∙ r.at;
-    sent = r.sent;
-  })
-]
+sent_then s i w e d more m h r = Places.each_set w i d more
+    (λ j (y : DiskSite). IsAmong m (sends_of s (first_site j) y.events) → IsSent s w m ⊎ IsAmong m (sent_now s i d e)) h.at
+    (λ sent. elim (Stuck.among-cases m (sends_of s (first_site i) d.events) (sent_now s i d e)
+    (rw (sends_more s (first_site i) d.events e) at (rw h.grown at sent))) [
+      | inl k ↦ inl (record { number = i; site = d; at = h.at; sent = k })
+      | inr k ↦ inr k
+    ])
+    (λ j y ne at sent. inl (record { number = j; site = y; at = at; sent = sent })) r.number r.site r.at r.sent
 
 -- ---- the world
 
@@ -150,7 +121,7 @@ pub grown : (s : Settings) (i : ℕ) (w : List DiskSite) (e : Event) (d more : D
 grown s i w e d more x at longer b = record {
   events = x.events ++ b.event ∷ [];
   own = own-push x.events b.event x.own b.own;
-  sites = ap (λ (v : World). v.sites) is ∙ ap (λ ts. slice_set ts i (after_event s t e)) x.sites ∙ sym set;
+  sites = cc (is, x.sites, sites_set s 0 i w d more e at longer, zero-add i);
   sent = λ m. (to m, from m);
 }
   where
@@ -163,21 +134,17 @@ grown s i w e d more x at longer b = record {
     is : world_of_run s (x.events ++ b.event ∷ []) ≡ world_at s before i (Some e) (Some t)
     is = Runs.world-append s x.events (b.event ∷ []) (first_world s) ∙ b.is
 
-    set : sites_from s 0 (slice_set w i more) ≡ slice_set (sites_from s 0 w) i (after_event s t e)
-    set = sites_set s 0 i w d more e at longer ∙ ap (λ j. slice_set (sites_from s 0 w) i (after_event s (after_events s (first_site j)
-        d.events) e)) (let q : 0 + i ≡ i = omega arith in q)
-
     one : HasOneMore s i w e d more
     one = record { at = at; grown = longer }
 
     to : (m : Message) → IsAmong m (world_of_run s (x.events ++ b.event ∷ [])).messages → IsSent s (slice_set w i more) m
-    to m h = elim (Stuck.among-cases m before.messages (sent_at s t e) (subst (λ (v : World). IsAmong m v.messages) is h)) [
+    to m h = elim (Stuck.among-cases m before.messages (sent_at s t e) (rw is at h)) [
       | inl k ↦ sent_before s i w e d more m one ((x.sent m).0 k)
       | inr k ↦ sent_here s i w e d more m one (Stuck.among-right m (sends_of s (first_site i) d.events) (sent_at s t e) k)
     ]
 
     from : (m : Message) → IsSent s (slice_set w i more) m → IsAmong m (world_of_run s (x.events ++ b.event ∷ [])).messages
-    from m r = subst (λ (v : World). IsAmong m v.messages) (sym is) (elim (sent_then s i w e d more m one r) [
+    from m r = rw is (elim (sent_then s i w e d more m one r) [
       | inl k ↦ Stuck.among-left m before.messages (sent_at s t e) ((x.sent m).1 k)
       | inr k ↦ Stuck.among-right m before.messages (sent_at s t e) k
     ])

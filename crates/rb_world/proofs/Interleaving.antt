@@ -1,9 +1,9 @@
 -- Steps of single sites, interleaved.
-use Rattle.std.proofs.Common.{◌≡◌, ℕ, Bool, true, false, cond, List, [], ◌∷◌, refl, sym, ap, subst, ◌∙◌, Option, Some, None, inl, inr}
+use Rattle.std.proofs.Common.{◌≡◌, ℕ, cond, List, [], ◌∷◌, refl, sym, ap, subst, ◌∙◌, Option, Some, None, inl, inr}
 use Rattle.std.specs.Prelude.{◌≢◌, ◌==◌, slice_get, slice_set}
 use Rattle.std.proofs.lemmas.Bool.{eq-eqb, eqb-true}
 use Rattle.rb_money.specs.Settings.{Settings}
-use Rattle.rb_site.proofs.Public.Places as Sets
+use Rattle.rb_shadow.proofs.Public.Members
 use Rattle.rb_world.specs.Crashes.{DiskSite, Goes, Leads, MayAllHappen, MayHappenAlone, Stays, TakesStep}
 use Rattle.rb_world.specs.Crashes.{WasReported, after_step}
 use Rattle.rb_world.specs.Interleaved.{AreReportedBefore, InterleavedStepsLead, MayHappenApart, StepAt, steps_at}
@@ -19,25 +19,16 @@ own_step s d x xs all = subst (λ b. MayAllHappen s d (cond b (x.step ∷ steps_
 -- and not among those of another
 other_step : (s : Settings) (d : DiskSite) (i : ℕ) (x : StepAt) (xs : List StepAt) → i ≢ x.number → MayAllHappen s d (steps_at i (x ∷ xs))
     → MayAllHappen s d (steps_at i xs)
-other_step s d i x xs apart all = by (x.number == i) refl all
-  where
-    by : (b : Bool) → (x.number == i) ≡ b → MayAllHappen s d (cond b (x.step ∷ steps_at i xs) (steps_at i xs))
-        → MayAllHappen s d (steps_at i xs)
-    by true q h = absurd (apart (sym (eqb-true x.number i q)))
-    by false q h = h
+other_step s d i x xs apart all = elim (Members.bool_cases (x.number == i)) [
+  | inl q ↦ absurd (apart (sym (eqb-true x.number i q)))
+  | inr q ↦ rw q at all
+]
 
 -- after a step of one site the others are as they were
 after_one : (s : Settings) (w : List DiskSite) (x : StepAt) (xs : List StepAt) (d : DiskSite) → slice_get w x.number ≡ Some d
     → MayHappenApart s w (x ∷ xs) → MayHappenApart s (slice_set w x.number (after_step s d x.step)) xs
-after_one s w x xs d at apart i e there = elim (Sets.same_number x.number i) [
-  | inl q ↦
-      let now = after_step s d x.step in
-      let v : List DiskSite = slice_set w x.number now in
-      let is : e ≡ now = Places.same_item (slice_get v i) e now there (ap (slice_get v) q ∙ Sets.get_set_same w x.number d now at) in
-      subst (λ j. MayAllHappen s e (steps_at j xs)) (sym q)
-      (subst (λ y. MayAllHappen s y (steps_at x.number xs)) (sym is) (own_step s d x xs (apart x.number d at)).1)
-  | inr ne ↦ other_step s e i x xs ne (apart i e (sym (Sets.get_set_other w x.number i (after_step s d x.step) ne) ∙ there))
-]
+after_one s w x xs d at apart = Places.each_set w x.number d (after_step s d x.step) (λ i e. MayAllHappen s e (steps_at i xs)) at
+    (own_step s d x xs (apart x.number d at)).1 (λ i e ne there. other_step s e i x xs ne (apart i e there))
 
 -- at a number without a site nothing happens
 after_none : (s : Settings) (w : List DiskSite) (x : StepAt) (xs : List StepAt) → slice_get w x.number ≡ None → MayHappenApart s w (x ∷ xs)
@@ -51,17 +42,10 @@ one_leads : (s : Settings) (w : List DiskSite) (x : StepAt) (xs : List StepAt) �
     → Leads s w (world_after_steps s (with_step s w x o) xs)
 one_leads s w x xs apart reported rest None at later = rest w (after_none s w x xs at apart) later
 one_leads s w x xs apart reported rest (Some d) at later =
-    let v : List DiskSite = slice_set w x.number (after_step s d x.step) in
-    let step : TakesStep s w v = record {
-      number = x.number;
-      site = d;
-      at = at;
-      step = x.step;
-      may = (own_step s d x xs (apart x.number d at)).0;
-      reported = reported;
-      is = refl;
-    } in
-    Goes {v = v} step (rest v (after_one s w x xs d at apart) later)
+    let may = (own_step s d x xs (apart x.number d at)).0 in
+    let step : TakesStep s w (slice_set w x.number (after_step s d x.step)) =
+    record { number = x.number; site = d; at = at; step = x.step; may = may; reported = reported; is = refl } in
+    Goes step (rest _ (after_one s w x xs d at apart) later)
 
 -- interleaved steps that may happen at their own sites, and deliver reported messages alone, lead from world to world
 pub lead : InterleavedStepsLead

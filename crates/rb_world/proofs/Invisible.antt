@@ -7,7 +7,7 @@ use Rattle.rb_site.specs.Events.{after_events, first_site}
 use Rattle.rb_site.specs.Histories.{history_of, with_replies}
 use Rattle.rb_site.proofs.Public.Seen
 use Rattle.rb_world.specs.Crashes.{DiskSite, Leads, first_disks, histories_from, sites_from}
-use Rattle.rb_world.specs.CrashLaws.{HidesCrashes, IsBounded, IsWorldOf}
+use Rattle.rb_world.specs.CrashLaws.{HidesCrashes}
 use Rattle.rb_world.proofs.Cuts
 use Rattle.rb_world.proofs.Cuts.{IsSafe}
 
@@ -33,10 +33,9 @@ histories_are s i (d ∷ w) within =
 -- the histories are those of a world in which nothing crashed
 pub one_world : (s : Settings) (w : List DiskSite) → IsSafe s w → HidesCrashes s w
 one_world s w g =
-    let x : IsWorldOf s w = Cuts.itself s w g in
+    let x = Cuts.itself s w g in
     record {
       events = x.events;
       own = x.own;
-      gives = ap (map (history_of s)) x.sites
-          ∙ histories_are s 0 w (λ k d at. let o : IsBounded s d = g.order k d at in o.within);
+      gives = ap (map (history_of s)) x.sites ∙ histories_are s 0 w (λ k d at. (g.order k d at).within);
     }

@@ -1,7 +1,7 @@
 -- A site keeps all that it has reported.
-use Rattle.std.proofs.Common.{◌≡◌, ℕ, ◌≤◌, Bool, true, false, cond, List, [], ◌∷◌, ◌++◌, length, take, drop, refl, ap, sym, subst, ◌∙◌}
+use Rattle.std.proofs.Common.{◌≡◌, ℕ, ◌≤◌, true, false, cond, List, [], ◌∷◌, ◌++◌, length, take, drop, refl, ap, sym, ◌∙◌}
 use Rattle.std.proofs.Common.{zero, suc, arith, inl, inr, Some}
-use Rattle.std.specs.Prelude.{nat_le, slice_get, slice_set}
+use Rattle.std.specs.Prelude.{nat_le, slice_get}
 use Rattle.std.proofs.lemmas.List.{take-append-drop, take-append-le, take-take}
 use Rattle.rb_money.specs.Settings.{Settings}
 use Rattle.rb_site.specs.declared.event.Event.{Event}
@@ -15,7 +15,6 @@ use Rattle.rb_world.specs.Crashes.{Syncs, TakesStep, after_step}
 use Rattle.rb_world.specs.CrashLaws.{EventReport, IsBounded, IsKeptAt, reported_at, reports_at, reports_of}
 use Rattle.rb_world.proofs.Cuts
 use Rattle.rb_world.proofs.Cuts.{IsSafe}
-use Rattle.rb_world.proofs.Places
 
 -- a later site has the events that the first one had reported, and has reported as many
 record Keeps (d later : DiskSite) : Type 0 where
@@ -26,39 +25,26 @@ keeps_all : (d : DiskSite) → Keeps d d
 keeps_all d = record { more = omega arith; same = refl }
 
 keeps_on : (a b c : DiskSite) → Keeps a b → Keeps b c → Keeps a c
-keeps_on a b c h k =
-    let few : a.reported ≤ b.reported = h.more in
-    let more : b.reported ≤ c.reported = k.more in
-    record {
-      more = omega arith;
-      same =
-          sym (take-take a.reported b.reported c.events few)
-          ∙ ap (take a.reported) k.same
-          ∙ take-take a.reported b.reported b.events few
-          ∙ h.same;
-    }
+keeps_on a b c h k = record {
+  more = omega arith;
+  same = cc (take-take a.reported b.reported c.events h.more, take-take a.reported b.reported b.events h.more);
+}
 
 -- ---- steps
 
 records : (s : Settings) (d : DiskSite) (e : Event) → IsBounded s d →
     Keeps d (cond (nat_le s.limits.history (length d.events)) d (record d { events = d.events ++ e ∷ [] }))
-records s d e o = by (nat_le s.limits.history (length d.events))
-  where
-    by : (b : Bool) → Keeps d (cond b d (record d { events = d.events ++ e ∷ [] }))
-    by true = keeps_all d
-    by false =
-        let a : d.reported ≤ d.on_disk = o.reported in
-        let b : d.on_disk ≤ length d.events = o.on_disk in
-        record { more = omega arith; same = take-append-le d.reported d.events (e ∷ []) (omega arith) }
+records s d e o = elim (nat_le s.limits.history (length d.events)) as (λ b. Keeps d (cond b d (record d { events = d.events ++ e ∷ [] }))) [
+  | true ↦ keeps_all d
+  | false ↦ record { more = omega arith; same = take-append-le d.reported d.events (e ∷ []) (omega arith) }
+]
 
 step_keeps : (s : Settings) (d : DiskSite) (step : DiskStep) → IsBounded s d → MayHappenAlone d step → Keeps d (after_step s d step)
 step_keeps s d (Acts e) o may = records s d e o
 step_keeps s d (Receives m) o may = records s d (Receive m) o
 step_keeps s d (Syncs n) o (least, most) = record { more = omega arith; same = refl }
 step_keeps s d (Reports n) o (least, most) = record { more = least; same = refl }
-step_keeps s d (Restarts n) o (least, most) =
-    let a : d.reported ≤ d.on_disk = o.reported in
-    record { more = omega arith; same = take-take d.reported n d.events (omega arith) }
+step_keeps s d (Restarts n) o (least, most) = record { more = omega arith; same = take-take d.reported n d.events (omega arith) }
 
 -- the site of the number i keeps what it had reported
 record RemainsAt (i : ℕ) (d : DiskSite) (w : List DiskSite) : Type 0 where
@@ -68,20 +54,15 @@ record RemainsAt (i : ℕ) (d : DiskSite) (w : List DiskSite) : Type 0 where
 
 next_remains : (s : Settings) (w v : List DiskSite) (i : ℕ) (d : DiskSite) → TakesStep s w v → IsSafe s w → slice_get w i ≡ Some d →
     RemainsAt i d v
-next_remains s w v i d t g at = subst (RemainsAt i d) (sym t.is) (elim (same_number t.number i) [
-  | inl q ↦
-      let new : DiskSite = after_step s t.site t.step in
-      let is : t.site ≡ d = Places.same_item (slice_get w i) t.site d (ap (slice_get w) q ∙ t.at) at in
+next_remains s w v i d t g at = rw t.is (elim (same_number t.number i) [
+  | inl q ↦ (let is : d ≡ t.site = cc (t.at, q, at) in
+      let keeps = step_keeps s t.site t.step (g.order t.number t.site t.at) t.may in
       record {
-        site = new;
-        at = ap (slice_get (slice_set w t.number new)) q ∙ Sets.get_set_same w t.number t.site new t.at;
-        keeps = subst (λ y. Keeps y new) is (step_keeps s t.site t.step (g.order t.number t.site t.at) t.may);
-      }
-  | inr ne ↦ record {
-    site = d;
-    at = Sets.get_set_other w t.number i (after_step s t.site t.step) ne ∙ at;
-    keeps = keeps_all d;
-  }
+        site = after_step s t.site t.step;
+        at = cc (Sets.get_set_same w t.number t.site (after_step s t.site t.step) t.at, q);
+        keeps = rw is keeps;
+      })
+  | inr ne ↦ record { site = d; at = cc (Sets.get_set_other w t.number i (after_step s t.site t.step) ne, at); keeps = keeps_all d }
 ])
 
 remains : (s : Settings) (w v : List DiskSite) (i : ℕ) (d : DiskSite) → Leads s w v → IsSafe s w → slice_get w i ≡ Some d → RemainsAt i d v
@@ -103,29 +84,19 @@ reports-take s (suc n) (e ∷ es) t =
 -- what a site had reported is a prefix of its later history, and of its later reports
 pub kept_at : (s : Settings) (w v : List DiskSite) (i : ℕ) (d : DiskSite) → Leads s w v → IsSafe s w → slice_get w i ≡ Some d →
     IsKeptAt s i d v
-kept_at s w v i d led g at = record {
-  site = r.site;
-  at = r.at;
-  history = (drop n all, sym (take-append-drop n all) ∙ ap (λ rs. rs ++ drop n all) (sym same));
-  reported = (
-    drop n now,
-    sym (take-append-drop n now) ∙ ap (λ rs. rs ++ drop n now) (sym (same ∙ sym (take-take n r.site.reported all
-        r.keeps.more))),
-  );
-}
-  where
-    r : RemainsAt i d v
-    r = remains s w v i d led g at
-
-    n : ℕ
-    n = d.reported
-
-    all : List EventReport
-    all = reports_at s i r.site
-
-    now : List EventReport
-    now = reported_at s i r.site
-
-    same : reported_at s i d ≡ take n all
-    same = sym (reports-take s n d.events (first_site i)) ∙ ap (reports_of s (first_site i)) (sym r.keeps.same)
-        ∙ reports-take s n r.site.events (first_site i)
+kept_at s w v i d led g at =
+    let r = remains s w v i d led g at in
+    let n = d.reported in
+    let all = reports_at s i r.site in
+    let now = reported_at s i r.site in
+    let same : reported_at s i d ≡ take n all = sym (reports-take s n d.events (first_site i))
+    ∙ ap (reports_of s (first_site i)) (sym r.keeps.same) ∙ reports-take s n r.site.events (first_site i) in
+    record {
+      site = r.site;
+      at = r.at;
+      history = (drop n all, sym (take-append-drop n all) ∙ ap (λ rs. rs ++ drop n all) (sym same));
+      reported = (
+        drop n now,
+        sym (take-append-drop n now) ∙ ap (λ rs. rs ++ drop n now) (sym (same ∙ sym (take-take n r.site.reported all r.keeps.more))),
+      );
+    }

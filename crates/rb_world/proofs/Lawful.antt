@@ -19,26 +19,24 @@ use Rattle.rb_world.proofs.Order.{IsOrderedSet}
 -- in a good world the operations made are a RedBlue order, and each site's list is a causal serialization of some of
 -- them, with all that were made there
 pub red_blue : (s : Settings) (w : World) → IsGood s w → RedBlue s w
-red_blue s w g = record {
-  lawful = record {
-    unique = o.unique;
-    closed = λ v h. Pasts.closed s all v (o.pasts v h);
-    transitive = λ t u v h k l p q. Pasts.transitive s all u v o.unique k (o.pasts v l) q t.name p;
-    irreflexive = λ u h. Pasts.irreflexive s all u (o.pasts u h);
-    reds = λ u v h k p q. o.reds u v h k (Pasts.is_red-shown u.name _ (Pasts.shown s all u o.unique (o.pasts u h)) p)
-        (Pasts.is_red-shown v.name _ (Pasts.shown s all v o.unique (o.pasts v k)) q);
-    homes = o.homes;
-  };
-  serial = λ i t at. let h = g.sites i t at in record { unique = h.valid.unique; past_before = h.valid.past_before; own_past = h.own_past };
-  made = λ i t at. (g.sites i t at).part;
-  own = λ i t at. (g.sites i t at).own;
-}
-  where
-    all : List Shadow
-    all = made_in w
-
-    o : IsOrderedSet s all
-    o = g.order
+red_blue s w g =
+    let all = made_in w in
+    let o = g.order in
+    record {
+      lawful = record {
+        unique = o.unique;
+        closed = λ v h. Pasts.closed s all v (o.pasts v h);
+        transitive = λ t u v h k l p q. Pasts.transitive s all u v o.unique k (o.pasts v l) q t.name p;
+        irreflexive = λ u h. Pasts.irreflexive s all u (o.pasts u h);
+        reds = λ u v h k p q. o.reds u v h k (Pasts.is_red-shown u.name _ (Pasts.shown s all u o.unique (o.pasts u h)) p)
+            (Pasts.is_red-shown v.name _ (Pasts.shown s all v o.unique (o.pasts v k)) q);
+        homes = o.homes;
+      };
+      serial = λ i t at. let h = g.sites i t at in
+          record { unique = h.valid.unique; past_before = h.valid.past_before; own_past = h.own_past };
+      made = λ i t at. (g.sites i t at).part;
+      own = λ i t at. (g.sites i t at).own;
+    }
 
 -- in a good world the names that a site applied are those of its clock
 pub clocks : (s : Settings) (w : World) → IsGood s w → Clocks s w

@@ -1,12 +1,12 @@
 -- No operation of the world is refused if its past is there.
 use Rattle.std.proofs.Common.{◌≡◌, ℕ, ◌≤◌, Bool, true, false, cond, not, ◌&&◌, ◌||◌, List, [], ◌∷◌, ◌++◌, length, refl, ap, sym, ◌∙◌, arith}
 use Rattle.std.proofs.Common.{◌⊎◌, inl, inr, subst, Option, Some, None}
-use Rattle.std.specs.Prelude.{option_map, slice_get, nat_lt, nat_le, ◌==◌}
+use Rattle.std.specs.Prelude.{option_map, slice_get, nat_le, ◌==◌}
 use Rattle.std.proofs.lemmas.Bool.Decides.{nat_tests}
 use Rattle.rb_money.specs.Refusals.{unless}
 use Rattle.rb_money.proofs.Public.Tests
 use Rattle.rb_money.specs.Settings.{Settings}
-use Rattle.rb_money.specs.declared.refusal.Refusal.TheVariants.{BadMessage, Conflict, HistoryFull, InboxFull, NotHeld, NotReady, NotYours}
+use Rattle.rb_money.specs.declared.refusal.Refusal.TheVariants.{BadMessage, Conflict, HistoryFull, InboxFull, NotHeld, NotReady}
 use Rattle.rb_shadow.specs.declared.shadow.Shadow.{Shadow}
 use Rattle.rb_shadow.specs.Operations.{Among, IsUnique, IsWithin, find_in, is_eligible, names, past, same_shadow}
 use Rattle.rb_shadow.proofs.Public.Members
@@ -22,9 +22,9 @@ use Rattle.rb_site.specs.declared.message.Message.TheVariants.{Shadow as ShadowM
 use Rattle.rb_site.specs.declared.event.Event.{Event}
 use Rattle.rb_site.specs.declared.event.Event.TheVariants.{Apply, Receive}
 use Rattle.rb_site.specs.declared.reply.Reply.{Reply}
-use Rattle.rb_site.specs.declared.reply.Reply.TheVariants.{Already, Refused, Stale}
+use Rattle.rb_site.specs.declared.reply.Reply.TheVariants.{Already, Refused}
 use Rattle.rb_site.specs.declared.world_event.WorldEvent.TheVariants.{Deliver}
-use Rattle.rb_site.specs.Events.{Answers, Applies, Holds, ModelSite, Outcome, Refuses, Takes, is_full, outcome_of, outcome_of_check}
+use Rattle.rb_site.specs.Events.{Answers, Applies, Holds, ModelSite, Outcome, Refuses, is_full, outcome_of, outcome_of_check}
 use Rattle.rb_site.specs.Events.{reply_of, reply_to, unless_known}
 use Rattle.rb_site.specs.Worlds.{World, made_in, message_at, reply_at, reply_in}
 use Rattle.rb_world.specs.Laws.{NeverStuck, TrustsItsOwn}
@@ -183,26 +183,7 @@ trusts_shadow s t v o (inr (inr e)) = subst (λ o. Trusts (reply_of s t.ops o)) 
 trusts_token : (s : Settings) (t : ModelSite) (m : TokenMessage) → m.epoch ≤ s.limits.epoch → m.red ≤ s.limits.red →
     Trusts (reply_of s t.ops (outcome_of s t (Receive (TokenOnItsWay m))))
 unfolding outcome_of
-trusts_token s t m epoch red = by_to (not (m.to == t.me))
-  where
-    rest : Outcome
-    rest = cond (nat_le m.epoch t.token.epoch) (Answers (Stale m.epoch)) (Takes m)
-
-    within : (nat_lt s.limits.epoch m.epoch || nat_lt s.limits.red m.red) ≡ false
-    within = Members.false-or (nat_lt s.limits.epoch m.epoch) (nat_lt s.limits.red m.red) (grind (arith, nat_tests)) (grind (
-      arith,
-      nat_tests,
-    ))
-
-    last : (b : Bool) → Trusts (reply_of s t.ops (cond b (Answers (Stale m.epoch)) (Takes m)))
-    last true = (λ e. cc, λ why e. cc)
-    last false = (λ e. cc, λ why e. cc)
-
-    by_to : (b : Bool) → Trusts (reply_of s t.ops (unless Refuses (cond b (Some NotYours) (cond (nat_lt s.limits.epoch m.epoch
-        || nat_lt s.limits.red m.red) (Some (BadMessage 2)) None)) rest))
-    by_to true = (λ e. cc, λ why e. cc)
-    by_to false = subst (λ b. Trusts (reply_of s t.ops (unless Refuses (cond b (Some (BadMessage 2)) None) rest))) (sym within)
-        (last (nat_le m.epoch t.token.epoch))
+trusts_token s t m epoch red = (λ e. grind (arith, nat_tests), λ why e. grind (arith, nat_tests))
 
 trusts_site : (s : Settings) (w : World) (i : ℕ) (t : ModelSite) (m : Message) → IsGood s w → slice_get w.sites i ≡ Some t →
     Steps.IsSent w.messages m → Trusts (reply_to s t (Receive m))

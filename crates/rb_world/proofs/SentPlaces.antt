@@ -1,5 +1,7 @@
 -- Messages can be had where they were noted: sites only add operations at the end, and those that an event makes are
 -- what it sends.
+use Rattle.rb_site.proofs.Public.Lists.{get_front}
+use Rattle.rb_world.proofs.Places
 use Rattle.std.proofs.Common.{◌≡◌, ◌≢◌, ℕ, zero, suc, ◌+◌, ◌-◌, ◌<◌, Bool, true, false, cond, All, List, []}
 use Rattle.std.proofs.Common.{◌∷◌, ◌++◌, get_or, length, Some, None, refl, sym, ap, subst, ◌∙◌, arith}
 use Rattle.std.proofs.Common.{append_assoc, append-nil, length-append, inl, inr}
@@ -23,17 +25,6 @@ use Rattle.rb_world.specs.Sent.{AreLonger, AreMadeFrom, IsMadeAt}
 
 -- ---- lists
 
--- what is in a list stays there if more comes after it
-stays : {A : Type 0} (xs more : List A) (n : ℕ) (x : A) → slice_get xs n ≡ Some x → slice_get (xs ++ more) n ≡ Some x
-stays [] more n x h = cc
-stays (y ∷ xs) more zero x h = h
-stays (y ∷ xs) more (suc n) x h = stays xs more n x h
-
--- and what comes right after it is at its length
-follows : {A : Type 0} (xs more : List A) (x : A) → slice_get (xs ++ x ∷ more) (length xs) ≡ Some x
-follows [] more x = refl
-follows (y ∷ xs) more x = follows xs more x
-
 -- positions are counted from 1
 at_position : (us : List Shadow) (n m : ℕ) → m ≡ n + 1 → operation_at us m ≡ slice_get us n
 at_position us n m e =
@@ -44,7 +35,7 @@ operation_stays : (us more : List Shadow) (n : ℕ) (v : Shadow) → operation_a
 operation_stays us more zero v h = cc
 operation_stays us more (suc n) v h =
     let one : suc n ≡ n + 1 = omega arith in
-    at_position (us ++ more) n (suc n) one ∙ stays us more n v (sym (at_position us n (suc n) one) ∙ h)
+    at_position (us ++ more) n (suc n) one ∙ get_front us more n v (sym (at_position us n (suc n) one) ∙ h)
 
 -- ---- an event
 
@@ -83,7 +74,7 @@ made_from : (ts : List ModelSite) (i : ℕ) (t : ModelSite) (us vs : List Shadow
     AreMadeFrom ts i (length us + 1) (map ShadowMessage vs)
 made_from ts i t us [] at is = tt
 made_from ts i t us (v ∷ vs) at is = (
-  (t, at, at_position t.ops (length us) (length us + 1) refl ∙ ap (λ ws. slice_get ws (length us)) is ∙ follows us vs v),
+  (t, at, at_position t.ops (length us) (length us + 1) refl ∙ ap (λ ws. slice_get ws (length us)) is ∙ Places.get_after us vs v),
   subst (λ n. AreMadeFrom ts i n (map ShadowMessage vs)) next
       (made_from ts i t (us ++ v ∷ []) vs at (is ∙ sym (append_assoc us (v ∷ []) vs))),
 )

@@ -1,9 +1,9 @@
 -- The code's step is the model's.
 use Rattle.std.proofs.Common.{◌≡◌, ℕ, ◌+◌, ◌<◌, All, length, take, get_or, Bool, true, false, cond, not, ◌&&◌, List, [], ◌∷◌, ◌++◌, refl}
-use Rattle.std.proofs.Common.{OnErr, ap, sym, subst, ◌∙◌}
+use Rattle.std.proofs.Common.{OnErr, ap, arith, sym, ◌∙◌}
 use Rattle.std.proofs.Common.{Option, Some, None, Result, Ok, Err}
 use Rattle.std.specs.declared.alloc.AllocError.{AllocError}
-use Rattle.std.specs.Prelude.{map, option_map, slice_get, slice_set, is_some}
+use Rattle.std.specs.Prelude.{map, option_map, slice_get, slice_set}
 use Rattle.std.proofs.lemmas.List.Elements.{All-cons, All-nil, All-set}
 use Rattle.std.proofs.lemmas.List.{length-map, map-set, take_more}
 use Rattle.std.proofs.lemmas.Option.{slice_get-map, slice_get_read}
@@ -19,7 +19,7 @@ use Rattle.rb_site.specs.declared.world_event.WorldEvent.TheVariants.{At, Delive
 use Rattle.rb_site.specs.Events.{ModelSite, after_event, is_full, outcome_of, reply_of, reply_to, sent_at}
 use Rattle.rb_site.specs.Histories.{site_of}
 use Rattle.rb_site.specs.Seen.{SeenSite, next_site, state_of}
-use Rattle.rb_site.specs.Worlds.{AreOwn, IsCommand, World, arrival, first_world, is_recorded, is_recorded_at, message_at, reply_at}
+use Rattle.rb_site.specs.Worlds.{AreOwn, IsCommand, World, arrival, first_world, is_recorded, message_at}
 use Rattle.rb_site.specs.Worlds.{reply_in, world_after, world_at}
 use Rattle.rb_site.proofs.Public.Runs
 use Rattle.rb_site.proofs.Public.Seen
@@ -40,28 +40,15 @@ and_true false = refl
 -- if an event arrives at a site that is there, the world's step is that of the site
 pub arrives : (s : Settings) (w : World) (ev : WorldEvent) (e : Event) (t : ModelSite) → arrival w.messages ev ≡ Some e →
     slice_get w.sites (site_of ev) ≡ Some t → Arrives s w ev e t
-arrives s w (At i d) e t arrived at = record {
-  world = ap (world_at s w i (Some d)) at ∙ ap (λ x. world_at s w i (Some x) (Some t)) same;
-  reply = ap (λ o. reply_at s o (Some d)) at ∙ ap (reply_to s t) same;
-  recorded = ap (is_recorded_at s) at;
-}
-  where
-    same : d ≡ e
-    same = cc
+arrives s w (At i d) e t arrived at =
+    let same : d ≡ e = cc in record { world = cc (same, at); reply = cc (same, at); recorded = cc }
 arrives s w (Deliver i k) e t arrived at = by (message_at w.messages k) refl arrived
   where
     by : (o : Option Message) → message_at w.messages k ≡ o → option_map Receive o ≡ Some e → Arrives s w (Deliver i k) e t
     by None q h = cc
     by (Some m) q h =
         let same : Receive m ≡ e = cc in
-        record {
-          world = ap (λ o. world_at s w i (option_map Receive o) (slice_get w.sites i)) q ∙ ap (world_at s w i (Some (Receive m))) at
-              ∙ ap (λ x. world_at s w i (Some x) (Some t)) same;
-          reply = ap (λ o. reply_at s (slice_get w.sites i) (option_map Receive o)) q ∙ ap (λ o. reply_at s o (Some (Receive m))) at
-              ∙ ap (reply_to s t) same;
-          recorded = ap (λ o. is_recorded_at s (slice_get w.sites i) && is_some o) q ∙ ap (λ o. is_recorded_at s o && true) at
-              ∙ and_true (is_full s t);
-        }
+        record { world = cc (q, at, same); reply = cc (q, at, same); recorded = cc (q, at, and_true (is_full s t)) }
 
 -- ---- a step that no site records
 
@@ -176,8 +163,7 @@ settings_kept s xs i x e here all = All-set (λ (y : SeenSite). y.settings ≡ s
 
 -- there are as many sites as their states
 pub site_there : (xs : List SeenSite) (ts : List ModelSite) (i : ℕ) → map state_of xs ≡ ts → i < length ts → i < length xs
-site_there xs ts i same below =
-    subst (λ n. i < n) (length-map xs state_of) (let P : List ModelSite → Type 0 = λ us. i < length us in subst P (sym same) below)
+site_there xs ts i same below = omega (arith, ap length same, length-map xs state_of)
 
 -- the site at a place
 pub site_at : (s : Settings) (xs : List SeenSite) (i : ℕ) (x : SeenSite) → i < length xs → AreOf s xs → x ≡ get_or xs i x

@@ -1,10 +1,10 @@
 -- The outcomes of an event of the world, case by case.
-use Rattle.std.proofs.Common.{◌≡◌, ◌≢◌, ℕ, ◌+◌, ◌<◌, ◌≤◌, Bool, true, false, cond, not, ◌&&◌, ◌||◌, List, [], ◌∷◌, ◌++◌, length, refl, ap}
+use Rattle.std.proofs.Common.{◌≡◌, ◌≢◌, ℕ, ◌+◌, ◌<◌, ◌≤◌, Bool, true, false, cond, not, ◌&&◌, ◌||◌, List, [], ◌∷◌, ◌++◌, length, refl}
 use Rattle.std.proofs.Common.{sym, ◌∙◌, ◌⊎◌, inl, inr, subst, Option, Some, None, Result, Ok, Err, append_assoc}
 use Rattle.std.specs.Prelude.{option_map, slice_get, slice_set, map, nat_lt, nat_le, ◌==◌, max, take}
 use Rattle.std.proofs.lemmas.List.{append-nil}
 use Rattle.std.proofs.lemmas.Bool.{false≢true}
-use Rattle.rb_site.proofs.Public.Places.{get_set_other, get_set_same, same_number, set_set}
+use Rattle.rb_site.proofs.Public.Places.{get_set_same, set_set}
 use Rattle.rb_site.proofs.Public.Recorded.{own_from, placed}
 use Rattle.rb_site.proofs.Public.Runs.{noted}
 use Rattle.rb_money.proofs.Public.Tests
@@ -36,6 +36,7 @@ use Rattle.rb_inbox.specs.Held.{with_held, without}
 use Rattle.rb_site.specs.Histories.{IsAmong, IsFrom}
 use Rattle.rb_site.specs.Worlds.{World, shadows_in, tokens_in, message_at, world_at, world_after, world_after_all, AreOwn}
 use Rattle.rb_world.specs.Laws.{EachSite}
+use Rattle.rb_world.proofs.Places
 
 -- ---- what is known if an event comes to an outcome
 
@@ -224,12 +225,7 @@ pub each_moved : (w : World) (i : ℕ) (t n : ModelSite) (ms : List Message) (P 
     → EachSite w (λ j u. j ≢ i → P j u)
     → P i n
     → EachSite (moved w i n ms) P
-each_moved w i t n ms P at others this j u h = elim (same_number i j) [
-  | inl e ↦
-      let k : Some n ≡ Some u = sym (get_set_same w.sites i t n at) ∙ ap (slice_get (slice_set w.sites i n)) (sym e) ∙ h in
-      subst (λ m. P m u) (sym e) (subst (P i) (let q : n ≡ u = cc in q) this)
-  | inr e ↦ others j u (sym (get_set_other w.sites i j n e) ∙ h) e
-]
+each_moved w i t n ms P at others this = Places.each_set w.sites i t n P at this (λ j u ne h. others j u h ne)
 
 -- a fact of the world that each kind of step keeps
 pub record Keeps (s : Settings) (P : World → Type 0) : Type 0 where

@@ -1,8 +1,8 @@
 -- The place of the red token, and the red operations that its holder knows of.
-use Rattle.std.proofs.Common.{◌≡◌, ◌≢◌, ℕ, zero, suc, ◌+◌, ◌<◌, ◌≤◌, true, false, cond, List, [], ◌∷◌, ◌++◌, refl, ap, sym, ◌∙◌}
+use Rattle.std.proofs.Common.{◌≡◌, ◌≢◌, ℕ, ◌+◌, ◌<◌, ◌≤◌, true, false, cond, List, [], ◌∷◌, ◌++◌, refl, ap, sym, ◌∙◌}
 use Rattle.std.proofs.Common.{arith, ◌⊎◌, inl, inr, subst, Some}
-use Rattle.std.specs.Prelude.{slice_get, map, max}
-use Rattle.std.specs.List.{range_with_len}
+use Rattle.std.specs.Prelude.{slice_get, max}
+use Rattle.std.proofs.lemmas.List.FromFn.{length-map-range_with_len}
 use Rattle.std.proofs.lemmas.List.{append-nil}
 use Rattle.rb_money.specs.Settings.{Settings}
 use Rattle.rb_scratch.proofs.Public.Made.{IsAllowed, IsMadeAt}
@@ -343,7 +343,8 @@ first_place s some = record {
     0,
     first_site 0,
     record {
-      at = zeroth s.sites some;
+      at = (let (t, there) = Places.item_at (first_world s).sites 0 (omega (arith, length-map-range_with_len first_site 0 s.sites)) in
+          cc (there, first_is s 0 t there));
       held = refl;
       alone = λ j u h ne. ap (λ (v : ModelSite). v.token.held) (first_is s j u h) ∙ Tests.unequal j 0 ne;
       latest = λ j u h. let e : u.token.epoch ≡ 0 = ap (λ (v : ModelSite). v.token.epoch) (first_is s j u h) in omega arith;
@@ -352,10 +353,6 @@ first_place s some = record {
     },
   );
 }
-  where
-    zeroth : (n : ℕ) → 1 ≤ n → slice_get (map first_site (range_with_len 0 n)) 0 ≡ Some (first_site 0)
-    zeroth zero h = absurd (omega arith)
-    zeroth (suc n) h = refl
 
 -- ---- the law
 
