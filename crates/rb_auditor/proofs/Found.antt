@@ -1,11 +1,10 @@
 -- Items that are found at each of some places.
-use Rattle.std.proofs.Common.{◌≡◌, ℕ, List, [], ◌∷◌, ◌++◌, length, refl, ap, sym, ◌∙◌, Option, Some, None}
+use Rattle.std.proofs.Common.{◌≡◌, ℕ, List, [], ◌∷◌, ◌++◌, length, refl, ap, sym, ◌∙◌, Option, Some}
 use Rattle.rb_site.proofs.Public.Lists.{map_at, map_back}
 use Rattle.std.specs.List.{filter_map}
-use Rattle.std.specs.Prelude.{map, option_map, slice_get}
+use Rattle.std.specs.Prelude.{map, slice_get}
 use Rattle.std.proofs.lemmas.List.{length-map, map-append}
 use Rattle.std.proofs.lemmas.List.Elements.{filter_map-append}
-use Rattle.std.proofs.lemmas.Option.{slice_get-map}
 use Rattle.rb_auditor.specs.MessageLists.{AreThere}
 
 -- what is found at these places is what is known to be at each of them
@@ -39,4 +38,3 @@ many f ps ys e = sym (length-map ps f) ∙ ap length e ∙ length-map ys (λ y. 
 pub at_some : {A B : Type 0} (f : A → Option B) (ps : List A) (ys : List B) (k : ℕ) (p : A) → map f ps ≡ map (λ y. Some y) ys
     → slice_get ps k ≡ Some p → slice_get ys k ≡ f p
 at_some f ps ys k p e at = let (y, there, is) = map_back (λ y. Some y) ys k (f p) (cc (e, map_at f ps k p at)) in cc
-

@@ -1,5 +1,5 @@
 -- Histories and how many entries of each were taken, place by place.
-use Rattle.std.proofs.Common.{◌≡◌, ℕ, zero, suc, ◌+◌, ◌<◌, ◌≤◌, List, [], ◌∷◌, ◌++◌, length, take, drop, refl, ap, sym, ◌∙◌, arith, add-one}
+use Rattle.std.proofs.Common.{◌≡◌, ℕ, zero, suc, ◌+◌, ◌<◌, ◌≤◌, List, [], ◌∷◌, ◌++◌, length, take, drop, refl, ap, arith, add-one}
 use Rattle.std.proofs.Common.{Option, Some, ◌⊎◌, inl, inr, add-zero, ◌≢◌}
 use Rattle.std.specs.Prelude.{map, replicate, slice_get, slice_set}
 use Rattle.std.specs.List.{range_with_len}

@@ -1,6 +1,6 @@
 -- Messages that were sent.
 use Rattle.std.proofs.Common.{◌≡◌, ℕ, suc, ◌+◌, ◌<◌, List, [], ◌∷◌, ◌++◌, length, take, get_or, ap, sym, ◌∙◌, inl, inr, subst, Some}
-use Rattle.std.proofs.Common.{None, Option}
+use Rattle.std.proofs.Common.{Option}
 use Rattle.std.specs.Prelude.{option_map, slice_get}
 use Rattle.std.proofs.lemmas.List.{append-nil, map-append, take_more}
 use Rattle.std.proofs.lemmas.Option.{slice_get-get_or, some_pair_parts}

@@ -1,8 +1,8 @@
 -- Messages by where they are kept.
-use Rattle.std.proofs.Common.{◌≡◌, ◌∙◌, ℕ, ◌+◌, ◌<◌, ◌≤◌, List, [], ◌∷◌, ◌++◌, length, take, drop, refl, ap, sym, arith}
-use Rattle.std.proofs.Common.{get_or, Option, Some, None, append_assoc}
+use Rattle.std.proofs.Common.{◌≡◌, ◌∙◌, ℕ, ◌+◌, ◌<◌, ◌≤◌, List, [], ◌∷◌, ◌++◌, length, take, drop, refl, ap, arith}
+use Rattle.std.proofs.Common.{get_or, Some, None, append_assoc}
 use Rattle.std.specs.List.{filter_map}
-use Rattle.std.specs.Prelude.{map, option_map, slice_get}
+use Rattle.std.specs.Prelude.{map, slice_get}
 use Rattle.std.proofs.lemmas.Option.{slice_get_past, slice_get_read, slice_get-map}
 use Rattle.rb_ledger.proofs.Public.Fronts
 use Rattle.rb_shadow.specs.declared.shadow.Shadow.{Shadow}
@@ -91,5 +91,8 @@ pub place_next : (all : List Message) (ps qs : List ℕ) (ys : List Message) (fi
 place_next all ps qs ys first k at is less more so_far =
     let x = Lists.item_at all at less in
     let next = Lists.split_at (drop first all) k x.0 (cc (Fronts.get_dropped first all k, is, x.1)) in
-    rw more (cc (Found.pushed (slice_get all) ps (ys ++ take k (drop first all)) at x.0 so_far x.1, next.more,
-    append_assoc ys (take k (drop first all)) (x.0 ∷ [])))
+    rw more (cc (
+      Found.pushed (slice_get all) ps (ys ++ take k (drop first all)) at x.0 so_far x.1,
+      next.more,
+      append_assoc ys (take k (drop first all)) (x.0 ∷ []),
+    ))

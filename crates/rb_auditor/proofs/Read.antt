@@ -1,6 +1,6 @@
 -- Histories that are read one after another.
 use Rattle.std.proofs.Common.{◌≡◌, ℕ, zero, suc, ◌+◌, ◌<◌, ◌≤◌, List, [], ◌∷◌, add-one}
-use Rattle.std.proofs.Common.{◌++◌, length, refl, ap, ◌∙◌, arith, Some, append_assoc}
+use Rattle.std.proofs.Common.{◌++◌, length, refl, ap, arith, Some, append_assoc}
 use Rattle.std.specs.Prelude.{replicate, slice_get, slice_set}
 use Rattle.std.proofs.lemmas.List.{append-nil}
 use Rattle.rb_site.specs.declared.entry.Entry.{Entry}

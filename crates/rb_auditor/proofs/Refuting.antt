@@ -1,13 +1,11 @@
 -- The findings of an audit show that no world has the histories.
-use Rattle.std.proofs.Common.{◌≡◌, ℕ, ◌<◌, List, [], ◌∷◌, ◌++◌, length, refl, ap}
+use Rattle.std.proofs.Common.{◌≡◌, ℕ, ◌<◌, List, [], ◌∷◌, length, refl}
 use Rattle.rb_site.specs.declared.event.Event.{Event}
 use Rattle.rb_auditor.specs.Replays.{seen_at}
 use Rattle.rb_site.proofs.Public.Lists.{map_back}
-use Rattle.std.proofs.Common.{sym, subst, ◌∙◌, inl, inr, arith, Option, Some, None, false}
+use Rattle.std.proofs.Common.{sym, subst, inl, inr, arith, Some, false}
 use Rattle.std.specs.Prelude.{slice_get}
-use Rattle.std.specs.Option.{option_map}
 use Rattle.std.proofs.lemmas.Bool.Decides.{nat_tests}
-use Rattle.std.proofs.lemmas.Option.{slice_get-map}
 use Rattle.rb_money.specs.Settings.{Settings}
 use Rattle.rb_shadow.proofs.Public.Members
 use Rattle.rb_site.specs.declared.entry.Entry.{Entry}
@@ -15,8 +13,7 @@ use Rattle.rb_site.specs.declared.world_event.WorldEvent.{WorldEvent}
 use Rattle.rb_site.specs.Events.{ModelSite, after_event, first_site, is_full, reply_to}
 use Rattle.rb_site.specs.Histories.{AreOneWorlds, history_of, site_of}
 use Rattle.rb_site.specs.Seen.{entry}
-use Rattle.rb_site.specs.Worlds.{AreOwn, World, first_world, is_recorded, world_after, world_after_all, world_at, world_of_run}
-use Rattle.rb_site.proofs.Public.Places
+use Rattle.rb_site.specs.Worlds.{AreOwn, World, first_world, is_recorded, world_after, world_after_all, world_of_run}
 use Rattle.rb_site.proofs.Public.Recorded
 use Rattle.rb_site.proofs.Public.Recorded.{IsRecorded}
 use Rattle.rb_site.proofs.Public.Runs as SiteRuns

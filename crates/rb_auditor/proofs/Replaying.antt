@@ -1,8 +1,8 @@
 -- Histories that replay, and their prefixes.
-use Rattle.std.proofs.Common.{◌≡◌, ℕ, suc, Bool, IsTrue, MatchBool, ◌↔◌, cond, ◌+◌, ◌<◌, ◌≤◌, true, false, List, [], ◌∷◌, ◌++◌, add-zero}
+use Rattle.std.proofs.Common.{◌≡◌, ℕ, suc, Bool, IsTrue, MatchBool, ◌↔◌, ◌+◌, ◌<◌, true, false, List, [], ◌∷◌, ◌++◌, add-zero}
 use Rattle.std.proofs.lemmas.Bool.{false≢true}
 use Rattle.std.proofs.Common.{length, take, drop, refl, ap, sym, subst, ◌∙◌, arith, Some, length-append}
-use Rattle.std.specs.Prelude.{map, slice_get, nat_le}
+use Rattle.std.specs.Prelude.{map, slice_get}
 use Rattle.std.proofs.lemmas.Bool.Decides.{nat_tests}
 use Rattle.std.proofs.lemmas.List.{length-map, take-append-drop, map-append}
 use Rattle.rb_money.specs.Settings.{Settings}
@@ -18,7 +18,7 @@ use Rattle.rb_site.proofs.Public.Seen
 use Rattle.rb_site.proofs.Public.Outcomes
 use Rattle.rb_auditor.specs.Findings.{IsReplay}
 use Rattle.rb_auditor.specs.Progress.{fronts_of, site_after, sites_after}
-use Rattle.rb_auditor.proofs.Lists.{IsSplit, split_at}
+use Rattle.rb_auditor.proofs.Lists.{split_at}
 
 replays-front : (s : Settings) (t : ModelSite) (xs ys : List Entry) → Replays s t (xs ++ ys) → Replays s t xs
 replays-front s t [] ys h = tt

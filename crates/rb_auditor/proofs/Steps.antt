@@ -1,27 +1,20 @@
 -- The messages that entries receive and send.
-use Rattle.std.proofs.Common.{◌≡◌, ℕ, zero, suc, ◌+◌, ◌-◌, ◌<◌, ◌≤◌, ◌==◌, Bool, true, false, cond, not, ◌&&◌, nat_le, List, [], ◌∷◌, ◌++◌}
+use Rattle.std.proofs.Common.{◌≡◌, ℕ, ◌+◌, ◌-◌, ◌<◌, ◌≤◌, Bool, true, false, cond, List, [], ◌∷◌, ◌++◌}
 use Rattle.rb_token.specs.declared.message.TokenMessage.{TokenMessage}
 use Rattle.std.proofs.Common.{length, take, drop, refl, ap, sym, subst, ◌∙◌, inl, inr, arith}
-use Rattle.std.proofs.Common.{Option, Some, None, length-append, length-drop}
+use Rattle.std.proofs.Common.{Some, None, length-append, length-drop}
 use Rattle.std.specs.Prelude.{slice_get}
 use Rattle.std.proofs.Math.Seq.{drop-append_seam}
 use Rattle.std.proofs.lemmas.List.{drop-append-le, take-append-le, take_all, nil_from_length}
 use Rattle.std.proofs.lemmas.Option.{slice_get_within}
-use Rattle.rb_money.specs.Refusals.{unless}
 use Rattle.rb_money.specs.Settings.{Settings}
-use Rattle.rb_money.specs.declared.refusal.Refusal.{Refusal}
-use Rattle.rb_money.specs.declared.refusal.Refusal.TheVariants.{BadMessage, Conflict, InboxFull}
-use Rattle.rb_shadow.specs.Operations.{find_in, is_eligible, same_shadow}
-use Rattle.rb_shadow.specs.Sound.{fault_of}
 use Rattle.rb_shadow.specs.declared.shadow.Shadow.{Shadow}
-use Rattle.rb_token.specs.Token.{refusal_of_token}
 use Rattle.rb_site.specs.declared.entry.Entry.{Entry}
 use Rattle.rb_site.specs.declared.event.Event.{Event}
 use Rattle.rb_site.specs.declared.event.Event.TheVariants.{Receive}
 use Rattle.rb_site.specs.declared.message.Message.{Message}
 use Rattle.rb_site.specs.declared.message.Message.TheVariants.{Shadow as ShadowMessage, Token as TokenOnItsWay}
-use Rattle.rb_site.specs.declared.reply.Reply.TheVariants.{Already, Stale}
-use Rattle.rb_site.specs.Events.{ModelSite, Outcome, Refuses, Answers, Holds, Takes, is_full, outcome_of, sent_at, sent_by, unless_known}
+use Rattle.rb_site.specs.Events.{ModelSite, is_full, outcome_of, sent_at, sent_by}
 use Rattle.rb_site.proofs.Public.Lists.{get_front}
 use Rattle.rb_site.proofs.Public.Outcomes
 use Rattle.rb_scratch.specs.declared.request.TheConstants.{MOST_REQUESTS}

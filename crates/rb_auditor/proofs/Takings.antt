@@ -1,23 +1,20 @@
 -- Entries taken one after another, as a world could have recorded them.
-use Rattle.std.proofs.Common.{◌≡◌, ℕ, ◌+◌, ◌<◌, ◌≤◌, List, [], ◌∷◌, ◌++◌, length, take, drop, refl, ap, sym, subst, ◌∙◌, inl, inr, arith}
+use Rattle.std.proofs.Common.{◌≡◌, ℕ, ◌+◌, ◌≤◌, List, [], ◌∷◌, ◌++◌, length, take, drop, refl, ap, sym, subst, ◌∙◌, inl, inr, arith}
 use Rattle.std.proofs.Common.{Some, Bool, true, false, MatchBool, zero-add}
-use Rattle.std.specs.Prelude.{map, slice_get, slice_set}
-use Rattle.std.specs.List.{range_with_len}
+use Rattle.std.specs.Prelude.{map, slice_get}
 use Rattle.std.proofs.lemmas.List.{length-replicate, length-set, take-append-drop, take_all}
 use Rattle.std.proofs.lemmas.Option.{slice_get_within}
 use Rattle.rb_money.specs.Settings.{Settings}
 use Rattle.rb_site.specs.declared.entry.Entry.{Entry}
 use Rattle.rb_site.specs.declared.message.Message.{Message}
-use Rattle.rb_site.specs.Events.{after_event, first_site, sent_at}
+use Rattle.rb_site.specs.Events.{first_site, sent_at}
 use Rattle.rb_site.specs.Histories.{IsAmong, IsBlocked, IsCut, IsUnsent, events_of, histories_of, sends_of, IsFrom}
 use Rattle.rb_site.specs.Worlds.{first_world, world_at}
-use Rattle.rb_site.proofs.Public.Places
-use Rattle.rb_site.proofs.Public.Places.{same_number}
 use Rattle.rb_site.proofs.Public.Stuck
 use Rattle.rb_auditor.specs.Certificates.{Certifies}
 use Rattle.rb_auditor.specs.Findings.{IsReplay, IsStuckAt}
-use Rattle.rb_auditor.specs.Progress.{AllRest, IsDone, IsFurther, IsLeft, left_of, IsHeldUp, IsNextEntry, IsReached, IsTaking}
-use Rattle.rb_auditor.specs.Progress.{Rests, Progress, Took, first_progress, fronts_of, site_after, sites_after, taken_next, world_of}
+use Rattle.rb_auditor.specs.Progress.{AllRest, IsDone, IsFurther, IsLeft, IsHeldUp, IsNextEntry, IsTaking}
+use Rattle.rb_auditor.specs.Progress.{Rests, Progress, Took, first_progress, fronts_of, site_after, taken_next, world_of}
 use Rattle.rb_auditor.proofs.Lists
 use Rattle.rb_auditor.proofs.Lists.{IsMadeOf, IsSplit}
 use Rattle.rb_auditor.proofs.Messages

@@ -1,5 +1,5 @@
 -- An order, followed by the sites that record the histories.
-use Rattle.std.proofs.Common.{◌≡◌, ℕ, zero, suc, ◌+◌, ◌<◌, ◌≤◌, List, [], ◌∷◌, ◌++◌, length, take, refl, ap, sym, subst, ◌∙◌, inl, inr}
+use Rattle.std.proofs.Common.{◌≡◌, ℕ, zero, suc, ◌+◌, ◌<◌, List, [], ◌∷◌, ◌++◌, length, take, refl, ap, sym, subst, ◌∙◌}
 use Rattle.std.proofs.Common.{arith, Option, Some, None, false, drop}
 use Rattle.std.specs.Prelude.{IfSome, MatchOption, map, replicate, slice_get, slice_set}
 use Rattle.std.specs.List.{range_with_len}
@@ -12,10 +12,8 @@ use Rattle.rb_site.specs.declared.message.Message.{Message}
 use Rattle.rb_site.specs.Events.{is_full, sent_at}
 use Rattle.rb_site.specs.Seen.{SeenSite, first_seen, next_site, state_of}
 use Rattle.rb_site.proofs.Public.Lists.{map_at, map_back}
-use Rattle.rb_site.proofs.Public.Places
-use Rattle.rb_site.proofs.Public.Places.{same_number}
 use Rattle.rb_auditor.specs.Findings.{IsReplay}
-use Rattle.rb_auditor.specs.Progress.{IsDone, IsHeldUp, IsLeft, IsTaking, Progress, Rests, Took, first_progress}
+use Rattle.rb_auditor.specs.Progress.{IsDone, IsHeldUp, IsLeft, IsTaking, Rests, Took, first_progress}
 use Rattle.rb_auditor.specs.Replays.{seen_at}
 use Rattle.rb_auditor.specs.Walks.{AreAlong, AreAtEnd, AreReplays, IsAlong, IsBeforeEnd, TakesNext, progress_of}
 use Rattle.rb_auditor.proofs.Lists

@@ -49,7 +49,8 @@ closing-next keeps s all before left rs x r popped far is =
       closed = x ∷ far.closed;
       together = cc (append_assoc left (x ∷ []) far.closed, popped, far.together);
       reports = rw (reverse-append rs (r ∷ []))
-          (one_reported keeps s (state_of x) (map state_of far.closed) r (reverse rs) (subst (λ (z : Settings). IsReportOf keeps z (state_of x) r) kept.1 is) far.reports);
+          (one_reported keeps s (state_of x) (map state_of far.closed) r (reverse rs)
+          (subst (λ (z : Settings). IsReportOf keeps z (state_of x) r) kept.1 is) far.reports);
       settings = kept.0;
     }
 

@@ -1,5 +1,5 @@
 -- A history is recorded if the run of its events leaves it.
-use Rattle.std.proofs.Common.{◌≡◌, ◌∙◌, ap, sym}
+use Rattle.std.proofs.Common.{◌≡◌, ◌∙◌, sym}
 use Rattle.rb_site.specs.Seen.{first_seen, next_sites}
 use Rattle.rb_auditor.proofs.Recorded
 use Rattle.rb_auditor.proofs.checking.recorded.is_recorded.Goals as goal
