@@ -27,7 +27,7 @@ use Rattle.rb_auditor.proofs.Steps
 
 -- ---- more messages
 
--- what is kept of a history stays with more messages behind those that it speaks of
+-- what is kept of a history stays with more messages after those that it speaks of
 pub judged_more : (s : Settings) (i : ℕ) (n : Notes) (ms all : List Message) → IsMore ms all → IsJudged s i n ms → IsJudged s i n all
 judged_more s i n ms all m j =
     let steps : HaveSteps s i (entries_noted n) all n.steps.items =
@@ -44,7 +44,7 @@ notes_more m a =
 pub no_more : (ms : List Message) → IsMore ms ms
 no_more ms = record { more = []; is = sym (append-nil ms) }
 
--- messages behind others that have more than these
+-- messages after others that have more than these
 pub more_still : {ms mid all : List Message} → IsMore ms mid → IsMore mid all → IsMore ms all
 more_still {ms} m n =
     record { more = m.more ++ n.more; is = n.is ∙ ap (λ xs. xs ++ n.more) m.is ∙ append_assoc ms m.more n.more }
@@ -92,7 +92,7 @@ without_step s i later old new ms y settings me j wrong grown same =
       );
     }
 
--- an entry comes behind others, of which not all have a step
+-- an entry comes after others, of which not all have a step
 pub past_wrong : {s : Settings} {i : ℕ} {x : SeenSite} {old new : Notes} {ms : List Message} (y : Entry)
     → AreNotes s i x old ms → ¬ (length old.steps.items ≡ length (entries_noted old))
     → entries_noted new ≡ entries_noted old ++ y ∷ [] → new.steps.items ≡ old.steps.items → AreNotes s i x new ms

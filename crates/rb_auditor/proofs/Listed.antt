@@ -37,7 +37,7 @@ kept_in_row rows others r row more at j m (inl (positions, there, position)) = e
   | inr ne ↦ inl (positions, Places.get_set_other rows r (row_of_message m) (row ++ more) ne ∙ there, position)
 ]
 
--- a message is listed once its position is added to its row, if its place is the one just behind that row
+-- a message is listed once its position is added to its row, if its place is the one just after that row
 pub listed_in_row : (rows : List (List ℕ)) (others row : List ℕ) (position : ℕ) (m : Message)
     → slice_get rows (row_of_message m) ≡ Some row → length row ≡ slot_of m
     → IsListed (slice_set rows (row_of_message m) (row ++ position ∷ [])) others position m

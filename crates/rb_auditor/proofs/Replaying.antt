@@ -30,7 +30,7 @@ pub replays-at : (s : Settings) (t : ModelSite) (xs ys : List Entry) (x : Entry)
 replays-at s t [] ys x h = h.0
 replays-at s t (y ∷ xs) ys x h = replays-at s (after_event s t y.event) xs ys x h.1
 
--- entries replay that replay with more behind them
+-- entries replay that replay with more after them
 pub replay-front : (s : Settings) (i : ℕ) (xs ys : List Entry) → IsReplay s i (xs ++ ys) → IsReplay s i xs
 replay-front s i xs ys h = record {
   within = h.within;

@@ -22,7 +22,7 @@ unsent : (ms : List Message) (e : Event) → ¬ IsFrom ms e → (m : Message) ×
 unsent ms (Receive m) h = (m, refl, h)
 unsent ms _ h = absurd (h tt)
 
--- an entry that can't come yet holds up what is behind it
+-- an entry that can't come yet holds up what is after it
 pub held_here : (ms : List Message) (h : List Entry) (k : ℕ) (x : Entry) → slice_get h k ≡ Some x → ¬ IsFrom ms x.event
     → IsHeldUp ms (drop k h)
 held_here ms h k x at not = rw (Lists.split_at h k x at).dropped (unsent ms x.event not)

@@ -54,7 +54,7 @@ part_more ms more at count fits =
 
 -- ---- steps
 
--- a step stays with more messages behind those that it speaks of
+-- a step stays with more messages after those that it speaks of
 pub step_more : (ms more : List Message) (e : Event) (sent : List Message) (step : Step) → IsStep ms e sent step
     → IsStep (ms ++ more) e sent step
 step_more ms more e sent Alone h = h
@@ -68,7 +68,7 @@ pub steps_more : (s : Settings) (i : ℕ) (h : List Entry) (ms more : List Messa
     → HaveSteps s i h (ms ++ more) steps
 steps_more s i h ms more steps all k x step at is = step_more ms more x.event _ step (all k x step at is)
 
--- entries without steps may come behind those that have one
+-- entries without steps may come after those that have one
 pub steps_longer : (s : Settings) (i : ℕ) (h rest : List Entry) (ms : List Message) (steps : List Step) → length steps ≤ length h
     → HaveSteps s i h ms steps → HaveSteps s i (h ++ rest) ms steps
 steps_longer s i h rest ms steps fits all k x step at is =
@@ -98,12 +98,12 @@ pub few_more : (s : Settings) (t : ModelSite) (e : Event) (before after : List M
 few_more s t e before after grown =
     omega (arith, Outcomes.sent_few s t e, ap length grown, length-append before (sent_at s t e))
 
--- where what is sent comes into an empty list, and then behind the messages before
+-- where what is sent comes into an empty list, and then after the messages before
 pub sent_after : (before room none posted sent after : List Message) → room ≡ before → none ≡ [] → posted ≡ none ++ sent
     → after ≡ room ++ posted → after ≡ before ++ sent
 sent_after before room none posted sent after same empty sends grown = cc
 
--- where the messages that are sent are behind the others
+-- where the messages that are sent are after the others
 sent_behind : (before sent : List Message) (count : ℕ) → count ≡ length sent → sent ≡ take count (drop (length before) (before ++ sent))
 sent_behind before sent count e = sym (ap (take count) (drop-append_seam before sent) ∙ take_all count sent (omega arith))
 

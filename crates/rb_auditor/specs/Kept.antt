@@ -28,7 +28,7 @@ abbrev pub one_step_more : List Step → Option Step → List Step
 one_step_more steps None = steps
 one_step_more steps (Some step) = steps ++ step ∷ []
 
--- messages, and more behind them
+-- messages, and more after them
 pub record IsMore (ms all : List Message) : Type 0 where
   pub more : List Message
   pub is : all ≡ ms ++ more

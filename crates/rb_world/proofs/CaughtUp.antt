@@ -55,7 +55,7 @@ history_after s t e h =
 -- ---- what holds while a site catches up
 
 -- a site that catches up in a good world: it applied the operations it knew and those of the messages that are done
--- with; others are to come, behind which are those sent meanwhile
+-- with; others are to come, after which are those sent meanwhile
 pub record IsStage (s : Settings) (w : World) (i : ℕ) (t : ModelSite) (known : List Shadow) (front rest extra : List Message) : Type 0 where
   pub good : IsGood s w
   pub at : slice_get w.sites i ≡ Some t

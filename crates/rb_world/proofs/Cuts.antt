@@ -1,4 +1,4 @@
--- Whatever sites lose behind what they reported, the rest of their histories is one world's. So a crash, which leaves
+-- Whatever sites lose after what they reported, the rest of their histories is one world's. So a crash, which leaves
 -- such a rest, keeps this, and an event more is brought to the world of the rest before it: its message, if any, was
 -- reported, so it is there.
 use Rattle.std.proofs.Common.{◌≡◌, ℕ, suc, ◌+◌, ◌<◌, ◌≤◌, cond, List, [], ◌∷◌, ◌++◌, length, take, drop, refl, sym}

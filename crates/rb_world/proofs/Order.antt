@@ -21,7 +21,7 @@ pub record IsOrderedSet (s : Settings) (all : List Shadow) : Type 0 where
 
 -- ---- one more operation is made, after just those of the list
 
--- an operation with a new name, valid behind a part of those made: the part is just its past, and has all that were
+-- an operation with a new name, valid after a part of those made: the part is just its past, and has all that were
 -- made at its home and, if it is red, every red one
 pub record IsNew (s : Settings) (all us : List Shadow) (v : Shadow) : Type 0 where
   pub part : IsPart us all
@@ -43,7 +43,7 @@ last_cases us v u h = elim (Members.Among-cases us (v ∷ []) u h) [ inl k ↦ i
 pub part-last : (all us : List Shadow) (v : Shadow) → IsPart us all → Among v all → IsPart (us ++ v ∷ []) all
 part-last all us v part there u h = elim (last_cases us v u h) [ inl k ↦ part u k | inr e ↦ subst (λ w. Among w all) (sym e) there ]
 
--- an ordered set stays one with a new operation behind it
+-- an ordered set stays one with a new operation after it
 pub set_more : (s : Settings) (all us : List Shadow) (v : Shadow) → IsOrderedSet s all → IsNew s all us v → IsOrderedSet s (all ++ v ∷ [])
 set_more s all us v o n = record {
   unique = Members.IsUnique-push all v o.unique n.fresh;

@@ -25,7 +25,7 @@ get_replicate zero i x y h = cc
 get_replicate (suc n) zero x y h = cc
 get_replicate (suc n) (suc i) x y h = get_replicate n i x y h
 
--- the item behind others
+-- the item after others
 pub get_after : {X : Type 0} (xs more : List X) (x : X) → slice_get (xs ++ x ∷ more) (length xs) ≡ Some x
 get_after [] more x = refl
 get_after (y ∷ xs) more x = get_after xs more x

@@ -114,7 +114,7 @@ Comes s ms t (Applies v) = MayApply s t v
 Comes s ms t (Takes m) = MayTake ms t m
 Comes s ms t (Passes m) = MayPass s t m
 
--- what holds of a refusal, and of what comes if a test doesn't refuse, holds behind the test
+-- what holds of a refusal, and of what comes if a test doesn't refuse, holds after the test
 pub past_test : (P : Outcome → Type 0) (b : Bool) (why : Refusal) (next : Outcome) → P (Refuses why) → (b ≡ false → P next)
     → P (cond b (Refuses why) next)
 past_test P true why next r h = r

@@ -14,7 +14,7 @@ noted : (c : Else-not-branch) → RecordsEntry c.args.site.now c.note.new.site c
     c.reserve.new.self.posted.items c.note.new.messages.items
 noted c = rw c.if-not-branch.false at c.in_ok-note.ensures.noted
 
--- the store has what the entry sends behind the messages before
+-- the store has what the entry sends after the messages before
 grown : (c : After-keep_posted) → c.keep_posted.new.self.messages.items
     ≡ c.place_of.new.store.messages.items
     ++ sent_at c.args.site.now.settings (state_of c.args.site.now) c.args.entry.now.event
