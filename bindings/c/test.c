@@ -353,7 +353,7 @@ static void errors(void) {
     memset(longer, ' ', sizeof longer);
     memcpy(longer, other, sizeof other - 1);
     WANTED(is_fault(RBBANK_ENTRY, CONFIG, longer, sizeof longer,
-                    "column 1048577: the line has 1048577 bytes, and the limit is 1048576"));
+                    "column 1048577: the line has 1,048,577 bytes, and the limit is 1,048,576"));
     WANTED(is_fault(RBBANK_COMMAND, "{}", TEXT(DEPOSIT), "no configuration"));
     WANTED(is_fault(RBBANK_ENTRY + 1, CONFIG, TEXT(DEPOSIT), "no such kind of line"));
 }
