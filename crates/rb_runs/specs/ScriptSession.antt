@@ -38,10 +38,3 @@ pub record TakesCommand (asked : Option WorldEvent) (old new : SeenWorld) (reply
   pub is_command : asked ≡ Some command
   pub world : new ≡ next_world old command
   pub reply_is : reply ≡ next_reply old command
-
--- there is a command, the world took it, and the line of its reply is buffered
-pub record AnswersCommand (asked : Option WorldEvent) (old new : SeenWorld) (buffered buffered' : List ℕ) : Type 0 where
-  pub command : WorldEvent
-  pub is_command : asked ≡ Some command
-  pub world : new ≡ next_world old command
-  pub owes : buffered' ≡ buffered ++ line (next_reply old command)

@@ -29,19 +29,6 @@ pub struct Closing {
     auditor: Option<Auditor>,
 }
 
-/// The lines of a sealed file, each with its line feed.
-fn sealed_lines(file: &[u8]) -> Option<&[u8]>
-    ensures { MatchOption result (is_sealed file.now ≡ false)
-        (λ lines. (is_sealed file.now ≡ true) × (journal_lines file.now ≡ lines_of lines.now)
-        × (0 < length lines.now)) }
-{
-    if file.ends_with(b"\n\t") {
-        Some(&file[..file.len() - 1])
-    } else {
-        None
-    }
-}
-
 /// The first line, without its line feed, and the lines after it.
 pub fn split_line(lines: &[u8]) -> (&[u8], &[u8])
     requires some { 0 < length lines.now }
@@ -177,10 +164,10 @@ impl Closing {
         requires more { self.old.taken < self.old.journals }
         ensures { MatchResult result (λ _. TakesFile self.old self.new file.now) (EndsAtFile self.old file.now) }
     {
-        let Some(lines) = sealed_lines(file) else {
+        if !file.ends_with(b"\n\t") {
             return Err(JournalFault::NotSealed);
-        };
-        let (first, entries) = split_line(lines);
+        }
+        let (first, entries) = split_line(&file[..file.len() - 1]);
         self.take_head(first)?;
         let Some(auditor) = &mut self.auditor else {
             unreachable!();

@@ -11,6 +11,7 @@ ghost use Rattle.rb_runs.specs.Writing.{Writes};
 ghost use Rattle.rb_runs.specs.declared.recorded.unwritten.Unwritten.TheVariants.{Write};
 
 use crate::recorded::unwritten::Unwritten;
+use rb_history::write::append::append;
 use rb_history::{append_line, write_config};
 use rb_lines::{MOST_BUFFERED, Sink, flush};
 use rb_money::Config;
@@ -27,22 +28,8 @@ pub fn config_line(alloc: Global, config: &Config) -> Result<Vec<u8>, AllocError
     Ok(line)
 }
 
-/// Buffers the line of an entry.
-#[tactic(auto, unfolding(crate::specs::Texts::entry_line))]
-fn buffer_entry(
-    buffered: &mut Vec<u8>,
-    config: &Config,
-    site: u8,
-    entry: &Entry,
-) -> Result<(), AllocError>
-    ensures { OnOk result (buffered.new.items ≡ buffered.old.items ++ entry_line config.now site entry.now) }
-{
-    append_line(buffered, config, site, entry)?;
-    buffered.push(b'\n')?;
-    Ok(())
-}
-
 /// Writes the line of an entry, or buffers it until there is more.
+#[tactic(auto, unfolding(crate::specs::Texts::entry_line))]
 fn write_entry<W: Sink>(
     writer: &mut W,
     buffered: &mut Vec<u8>,
@@ -55,7 +42,8 @@ fn write_entry<W: Sink>(
         (buffered.old.items ++ entry_line config.now site entry.now) buffered.new.items }
     ensures write { (result ≡ Err Write) ↔ (W.failed writer.new ≡ true) }
 {
-    buffer_entry(buffered, config, site, entry)?;
+    append_line(buffered, config, site, entry)?;
+    append(buffered, "\n")?;
     if buffered.len() < MOST_BUFFERED {
         return Ok(());
     }
