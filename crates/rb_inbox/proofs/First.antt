@@ -1,5 +1,5 @@
 -- Which of the ready operations is the first.
-use Rattle.std.proofs.Common.{◌≡◌, ℕ, suc, zero, ◌+◌, ◌<◌, ◌≤◌, Bool, true, false, cond, List, [], length, drop, refl, ap, sym, ◌∙◌}
+use Rattle.std.proofs.Common.{◌≡◌, ℕ, suc, zero, ◌+◌, ◌<◌, ◌≤◌, Bool, true, false, cond, List, length, drop, refl, ap, sym, ◌∙◌}
 use Rattle.std.proofs.Common.{add-one, arith, ◌⊎◌, inl, inr, subst, get_or}
 use Rattle.std.specs.Prelude.{IfNone, IfSome, Option, Some, None, filter, nat_le, nat_lt, ◌==◌}
 use Rattle.std.proofs.lemmas.Bool.Decides.{nat_tests}
@@ -13,11 +13,11 @@ use Rattle.rb_shadow.specs.declared.shadow.Shadow.{Shadow}
 use Rattle.rb_shadow.proofs.Public.Lookups.{Among-index, found}
 use Rattle.rb_inbox.specs.Held.{IsFirstOf, IsFirstReady, IsInOrder, IsNumbered, IsReady, comes_before, is_applied_before, is_sooner}
 use Rattle.rb_inbox.specs.Rows.{AreHeldRows, IsFirstBlue, IsHeldRow, NoBlue, earlier_home, held_of}
-use Rattle.rb_inbox.proofs.Changes.{row_within}
-use Rattle.rb_inbox.proofs.Order.{Among-more, later_there}
+use Rattle.rb_inbox.proofs.Changes.{finds, row_within}
+use Rattle.rb_inbox.proofs.Order.{Among-find, Among-more, later_there}
 use Rattle.rb_inbox.proofs.Public.{home_before}
-use Rattle.rb_inbox.proofs.Readiness.{among_row, held_there}
-use Rattle.rb_inbox.proofs.Rows.{is_of, row_at, row_is}
+use Rattle.rb_inbox.proofs.Readiness.{Among-filter, among_row, held_found}
+use Rattle.rb_inbox.proofs.Rows.{is_of, is_of-yes, row_at}
 
 -- ---- the order of two operations
 
@@ -158,26 +158,34 @@ so_far_all row c i (Some f) h none = (
 
 -- ---- the first one of the blue rows
 
--- the row at an index, as what is held in it
-pub row_read : (lists : List (List Shadow)) (held slice : List Shadow) (r : ℕ) → AreHeldRows 0 lists → held_of lists ≡ held
-    → slice ≡ filter (λ u. row_of u.name == r) held → slice ≡ get_or lists r []
-row_read lists held slice r h same e = e ∙ ap (filter (is_of r)) (sym same) ∙ sym (row_is lists r h)
-
 -- what is held is numbered
-held_numbered : (lists : List (List Shadow)) (u : Shadow) → AreHeldRows 0 lists → Among u (held_of lists) → IsNumbered u
-held_numbered lists u h a = (row_at lists (row_of u.name) h).numbered u (among_row lists u h a)
+pub held_numbered : (lists : List (List Shadow)) (held : List Shadow) (u : Shadow) → AreHeldRows 0 lists → held_of lists ≡ held
+    → Among u held → IsNumbered u
+held_numbered lists held u h same a =
+    (row_at lists (row_of u.name) h).numbered u (among_row lists u h (subst (Among u) (sym same) a))
+
+-- what is held has a row
+pub held_within : (lists : List (List Shadow)) (held : List Shadow) (u : Shadow) → AreHeldRows 0 lists → held_of lists ≡ held
+    → Among u held → row_of u.name < length lists
+held_within lists held u h same a =
+    row_within lists u.name u (row_of u.name) refl h (held_found lists u h (subst (Among u) (sym same) a))
 
 -- what is held is in a row, if its name says that
-pub in_row : (lists : List (List Shadow)) (r : ℕ) (u : Shadow) → AreHeldRows 0 lists → Among u (held_of lists) → row_of u.name ≡ r
-    → Among u (get_or lists r [])
-in_row lists r u h a e = subst (λ k. Among u (get_or lists k [])) e (among_row lists u h a)
+pub in_row : (held row : List Shadow) (r : ℕ) (u : Shadow) → row ≡ filter (is_of r) held → Among u held → row_of u.name ≡ r → Among u row
+in_row held row r u same a e = subst (Among u) (sym same) (Among-filter (is_of r) held u a (is_of-yes r u e))
+
+-- what is in a row is found among all that is held
+found_there : (held row : List Shadow) (r : ℕ) (u : Shadow) → row ≡ filter (is_of r) held → IsHeldRow r row → Among u row
+    → find_in held u.name ≡ Some u
+found_there held row r u same h a = sym (finds row held u.name r (sym (h.placed u a)) same) ∙ Among-find row u h.in_order a
 
 -- the next row has a ready one
-pub blue_found : (lists : List (List Shadow)) (c : Deps) (k end : ℕ) (v : Shadow) → AreHeldRows 0 lists → 1 ≤ k → k < end
-    → NoBlue (held_of lists) c k → IsFirstOf (get_or lists k []) c v → IsFirstBlue (held_of lists) c end v.name
-blue_found lists c k end v h low high none f = record {
+pub blue_found : (held row : List Shadow) (c : Deps) (k end : ℕ) (v : Shadow) → row ≡ filter (is_of k) held → IsHeldRow k row
+    → ((u : Shadow) → Among u held → IsNumbered u) → 1 ≤ k → k < end → NoBlue held c k → IsFirstOf row c v
+    → IsFirstBlue held c end v.name
+blue_found held row c k end v same h numbered low high none f = record {
   blue = v;
-  found = held_there lists k v h f.among;
+  found = found_there held row k v same h f.among;
   ready = f.ready;
   low = let e = placed in omega arith;
   high = let e = placed in omega arith;
@@ -185,30 +193,27 @@ blue_found lists c k end v h low high none f = record {
 }
   where
     placed : row_of v.name ≡ k
-    placed = (row_at lists k h).placed v f.among
+    placed = h.placed v f.among
 
-    own : IsNumbered v
-    own = (row_at lists k h).numbered v f.among
-
-    at : (u : Shadow) → Among u (held_of lists) → IsReady c u → 1 ≤ row_of u.name → (b : Bool) → nat_lt k (row_of u.name) ≡ b
+    at : (u : Shadow) → Among u held → IsReady c u → 1 ≤ row_of u.name → (b : Bool) → nat_lt k (row_of u.name) ≡ b
         → (u ≡ v) ⊎ (is_applied_before v u ≡ true)
     at u a r l true e =
         let less : k < row_of u.name = grind (arith, nat_tests) in
-        let mine : row_of v.name ≡ v.home + 1 = home_of_row v own (let q = placed in omega arith) in
-        let other : row_of u.name ≡ u.home + 1 = home_of_row u (held_numbered lists u h a) l in
+        let mine : row_of v.name ≡ v.home + 1 = home_of_row v (h.numbered v f.among) (let q = placed in omega arith) in
+        let other : row_of u.name ≡ u.home + 1 = home_of_row u (numbered u a) l in
         inr (lesser_home v u (let q = placed in omega arith))
     at u a r l false e =
         let least : k ≤ row_of u.name = none u a r l in
         let most : row_of u.name ≤ k = grind (arith, nat_tests) in
-        f.first u (in_row lists k u h a (omega arith)) r
+        f.first u (in_row held row k u same a (omega arith)) r
 
 -- the next row has none
-pub blue_passed : (lists : List (List Shadow)) (c : Deps) (k : ℕ) → AreHeldRows 0 lists → NoBlue (held_of lists) c k
-    → ((u : Shadow) → Among u (get_or lists k []) → ¬ IsReady c u) → NoBlue (held_of lists) c (k + 1)
-blue_passed lists c k h none waits u a r l = at (row_of u.name == k) refl
+pub blue_passed : (held row : List Shadow) (c : Deps) (k : ℕ) → row ≡ filter (is_of k) held → NoBlue held c k
+    → ((u : Shadow) → Among u row → ¬ IsReady c u) → NoBlue held c (k + 1)
+blue_passed held row c k same none waits u a r l = at (row_of u.name == k) refl
   where
     at : (b : Bool) → (row_of u.name == k) ≡ b → k + 1 ≤ row_of u.name
-    at true e = absurd (waits u (in_row lists k u h a (grind (arith, nat_tests))) r)
+    at true e = absurd (waits u (in_row held row k u same a (grind (arith, nat_tests))) r)
     at false e = let least : k ≤ row_of u.name = none u a r l in grind (arith, nat_tests)
 
 -- ---- the first one of all
@@ -232,77 +237,76 @@ none_or_some zero = inl refl
 none_or_some (suc n) = inr (omega arith)
 
 -- no red one is ready
-pub first_blue : (lists : List (List Shadow)) (c : Deps) (end : ℕ) (x : OpName) → AreHeldRows 0 lists
-    → ((u : Shadow) → Among u (get_or lists 0 []) → ¬ IsReady c u) → IsFirstBlue (held_of lists) c end x
-    → IsFirstReady (held_of lists) c x
-first_blue lists c end x h none f = (
+pub first_blue : (held row : List Shadow) (c : Deps) (end : ℕ) (x : OpName) → row ≡ filter (is_of 0) held
+    → ((u : Shadow) → Among u row → ¬ IsReady c u) → IsFirstBlue held c end x → IsFirstReady held c x
+first_blue held row c end x same none f = (
   f.blue,
   f.found,
   record {
-    among = (found (held_of lists) x f.blue f.found).0;
+    among = (found held x f.blue f.found).0;
     ready = f.ready;
     first = λ u a r. elim (none_or_some (row_of u.name)) [
-      | inl e ↦ absurd (none u (in_row lists 0 u h a e) r)
+      | inl e ↦ absurd (none u (in_row held row 0 u same a e) r)
       | inr l ↦ f.first u a r l
     ];
   },
 )
 
 -- a red one is ready, and a blue one of its home or a lesser one
-pub first_before_red : (lists : List (List Shadow)) (c : Deps) (red : Shadow) (x : OpName) → AreHeldRows 0 lists
-    → IsFirstOf (get_or lists 0 []) c red → IsFirstBlue (held_of lists) c (red.home + 2) x → IsFirstReady (held_of lists) c x
-first_before_red lists c red x h first f = (
+pub first_before_red : (held row : List Shadow) (c : Deps) (end : ℕ) (red : Shadow) (x : OpName) → row ≡ filter (is_of 0) held
+    → ((u : Shadow) → Among u held → IsNumbered u) → end ≡ red.home + 2 → IsFirstOf row c red → IsFirstBlue held c end x
+    → IsFirstReady held c x
+first_before_red held row c end red x same numbered last first f = (
   f.blue,
   f.found,
   record {
     among = among;
     ready = f.ready;
     first = λ u a r. elim (none_or_some (row_of u.name)) [
-      | inl e ↦ inr (sooner_before f.blue u (low u (first.first u (in_row lists 0 u h a e) r)) (blue_sooner f.blue.name u.name f.low e))
+      | inl e ↦ inr (sooner_before f.blue u (low u (first.first u (in_row held row 0 u same a e) r))
+          (blue_sooner f.blue.name u.name f.low e))
       | inr l ↦ f.first u a r l
     ];
   },
 )
   where
-    among : Among f.blue (held_of lists)
-    among = (found (held_of lists) x f.blue f.found).0
+    among : Among f.blue held
+    among = (found held x f.blue f.found).0
 
     mine : row_of f.blue.name ≡ f.blue.home + 1
-    mine = home_of_row f.blue (held_numbered lists f.blue h among) f.low
+    mine = home_of_row f.blue (numbered f.blue among) f.low
 
     low : (u : Shadow) → (u ≡ red) ⊎ (is_applied_before red u ≡ true) → f.blue.home ≤ u.home
     low u (inl e) = let l = f.high in let m = mine in let s : u.home ≡ red.home = ap (λ (w : Shadow). w.home) e in omega arith
     low u (inr e) = let l = f.high in let m = mine in let s : red.home ≤ u.home = home_before red u e in omega arith
 
 -- a red one is ready, and no such blue one
-pub first_red : (lists : List (List Shadow)) (c : Deps) (red : Shadow) → AreHeldRows 0 lists
-    → IsFirstOf (get_or lists 0 []) c red → NoBlue (held_of lists) c (red.home + 2) → IsFirstReady (held_of lists) c red.name
-first_red lists c red h first none = (
+pub first_red : (held row : List Shadow) (c : Deps) (end : ℕ) (red : Shadow) → row ≡ filter (is_of 0) held → IsHeldRow 0 row
+    → ((u : Shadow) → Among u held → IsNumbered u) → end ≡ red.home + 2 → IsFirstOf row c red → NoBlue held c end
+    → IsFirstReady held c red.name
+first_red held row c end red same h numbered last first none = (
   red,
   there,
   record {
-    among = (found (held_of lists) red.name red there).0;
+    among = (found held red.name red there).0;
     ready = first.ready;
     first = λ u a r. elim (none_or_some (row_of u.name)) [
-      | inl e ↦ first.first u (in_row lists 0 u h a e) r
-      | inr l ↦ inr (lesser_home red u (let k : row_of u.name ≡ u.home + 1 = home_of_row u (held_numbered lists u h a) l in
-          let m : red.home + 2 ≤ row_of u.name = none u a r l in omega arith))
+      | inl e ↦ first.first u (in_row held row 0 u same a e) r
+      | inr l ↦ inr (lesser_home red u (let k : row_of u.name ≡ u.home + 1 = home_of_row u (numbered u a) l in
+          let m : end ≤ row_of u.name = none u a r l in omega arith))
     ];
   },
 )
   where
-    there : find_in (held_of lists) red.name ≡ Some red
-    there = held_there lists 0 red h first.among
+    there : find_in held red.name ≡ Some red
+    there = found_there held row 0 red same h first.among
 
 -- neither is ready
-pub none_first : (lists : List (List Shadow)) (c : Deps) → AreHeldRows 0 lists
-    → ((u : Shadow) → Among u (get_or lists 0 []) → ¬ IsReady c u) → (n : ℕ) → n ≡ length lists → NoBlue (held_of lists) c n
-    → (u : Shadow) → Among u (held_of lists) → ¬ IsReady c u
-none_first lists c h none n all blue u a r = at (none_or_some (row_of u.name))
+pub none_first : (held row : List Shadow) (c : Deps) (n : ℕ) → row ≡ filter (is_of 0) held
+    → ((u : Shadow) → Among u row → ¬ IsReady c u) → ((u : Shadow) → Among u held → row_of u.name < n) → NoBlue held c n
+    → (u : Shadow) → Among u held → ¬ IsReady c u
+none_first held row c n same none within blue u a r = at (none_or_some (row_of u.name))
   where
     at : (row_of u.name ≡ 0) ⊎ (1 ≤ row_of u.name) → ⊥
-    at (inl e) = none u (in_row lists 0 u h a e) r
-    at (inr l) =
-        let past : n ≤ row_of u.name = blue u a r l in
-        let within : row_of u.name < length lists = row_within lists u.name u (row_of u.name) refl h
-        (held_there lists (row_of u.name) u h (among_row lists u h a)) in omega arith
+    at (inl e) = none u (in_row held row 0 u same a e) r
+    at (inr l) = let past : n ≤ row_of u.name = blue u a r l in let low : row_of u.name < n = within u a in omega arith

@@ -50,7 +50,7 @@ none_from r us k d u c row within l a left ready = waits u c (row.numbered u a) 
         omega arith
 
 -- what is held is in its name's row
-Among-filter : (p : Shadow → Bool) (us : List Shadow) (u : Shadow) → Among u us → p u ≡ true → Among u (filter p us)
+pub Among-filter : (p : Shadow → Bool) (us : List Shadow) (u : Shadow) → Among u us → p u ≡ true → Among u (filter p us)
 Among-filter p [] u a e = elim a [ ]
 Among-filter p (v ∷ us) u (inl q) e = subst (Among u) (sym (ap (λ b. cond b (v ∷ filter p us) (filter p us)) (ap p (sym q) ∙ e))) (inl q)
 Among-filter p (v ∷ us) u (inr a) e = at (p v) (Among-filter p us u a e)
@@ -65,14 +65,8 @@ pub among_row : (rows : List (List Shadow)) (u : Shadow) → AreHeldRows 0 rows 
 among_row rows u h a = subst (Among u) (sym (row_is rows (row_of u.name) h))
     (Among-filter (is_of (row_of u.name)) (held_of rows) u a (is_of-yes (row_of u.name) u refl))
 
--- what is in a row is held
-pub held_there : (rows : List (List Shadow)) (r : ℕ) (u : Shadow) → AreHeldRows 0 rows → Among u (get_or rows r []) →
-    find_in (held_of rows) u.name ≡ Some u
-held_there rows r u h a =
-    let row : IsHeldRow r (get_or rows r []) = row_at rows r h in
-    sym (finds_at rows u.name r (sym (row.placed u a)) h) ∙ Among-find (get_or rows r []) u row.in_order a
-
 -- what is held is found under its name
 pub held_found : (rows : List (List Shadow)) (u : Shadow) → AreHeldRows 0 rows → Among u (held_of rows) →
     find_in (held_of rows) u.name ≡ Some u
-held_found rows u h a = held_there rows (row_of u.name) u h (among_row rows u h a)
+held_found rows u h a = sym (finds_at rows u.name (row_of u.name) refl h)
+    ∙ Among-find (get_or rows (row_of u.name) []) u (row_at rows (row_of u.name) h).in_order (among_row rows u h a)

@@ -38,7 +38,8 @@ before_all x (u ∷ us) h = (h u (inl refl), before_all x us (λ v a. h v (inr a
 
 -- ---- one row of several
 
-empty : (r : ℕ) → IsHeldRow r []
+-- an empty list is any row
+pub empty : (r : ℕ) → IsHeldRow r []
 empty r = record { placed = λ u a. elim a [ ]; in_order = tt; numbered = λ u a. elim a [ ] }
 
 -- a row past the last is empty

@@ -242,8 +242,6 @@ impl Inbox {
         ensures some { IfSome result (IsFirstBlue self.now.held clock.now end) }
         ensures none { IfNone result (NoBlue self.now.held clock.now end) }
     {
-        // For a fact alone: each row is one of its own names.
-        let _rows = &self.rows;
         for index in 1..end {
             if let Some(blue) = first_ready(self.row(index), clock) {
                 return Some(blue.name);
@@ -344,9 +342,8 @@ impl Inbox {
     /// The row at an index: the red one at 0, and then the blue ones by site.
     fn row(&self, index: usize) -> &[Shadow]
         ensures held { result.now ≡ filter (λ u. row_of u.name == index) self.now.held }
-        ensures in_order { IsInOrder result.now }
-        ensures numbered { (u : Shadow) → Among u result.now → IsNumbered u }
-        ensures placed { (u : Shadow) → Among u result.now → row_of u.name ≡ index }
+        ensures row { IsHeldRow index result.now }
+        ensures numbered { (u : Shadow) → Among u self.now.held → IsNumbered u }
     {
         match self.rows.get(index) {
             Some(row) => row.as_slice(),

@@ -12,4 +12,4 @@ pub returns-clause-held : goal.returns-clause-held
 returns-clause-held c = held c
 
 pub returns-clause-homes : goal.returns-clause-homes
-returns-clause-homes c = λ u a. of_home c.args.site c.args.self.now.held u (subst (Among u) (held c) a) (c.row.ensures.numbered u a)
+returns-clause-homes c = λ u a. of_home c.args.site c.args.self.now.held u (subst (Among u) (held c) a) (c.row.ensures.row.numbered u a)

@@ -1,10 +1,11 @@
 use Rattle.std.proofs.Common.{◌≡◌, ◌∙◌, ◌≤◌, [], ap, sym, subst, arith, get_or, length}
 use Rattle.std.specs.Prelude.{filter}
 use Rattle.std.proofs.lemmas.List.{get_or_past}
-use Rattle.rb_shadow.specs.Operations.{Among}
-use Rattle.rb_inbox.specs.Held.{Holding, IsInOrder}
+use Rattle.rb_inbox.specs.Held.{Holding}
+use Rattle.rb_inbox.specs.Rows.{IsHeldRow}
 use Rattle.rb_inbox.proofs.Changes.{slice_there}
-use Rattle.rb_inbox.proofs.Rows.{is_of, row_at, row_is}
+use Rattle.rb_inbox.proofs.First.{held_numbered}
+use Rattle.rb_inbox.proofs.Rows.{empty, is_of, row_at, row_is}
 use Rattle.rb_inbox.proofs.inbox.Inbox.row.Goals as goal
 
 -- the row is the one at the place
@@ -18,13 +19,12 @@ returns-in-Some-clause-held c =
     there c ∙ row_is c.self.inside.rows.items c.args.index c.self.invariant.each
     ∙ ap (λ (b : Holding). filter (is_of c.args.index) b.held) c.self.view_is
 
-pub returns-in-Some-clause-in_order : goal.returns-in-Some-clause-in_order
-returns-in-Some-clause-in_order c = subst IsInOrder (sym (there c)) (row_at c.self.inside.rows.items c.args.index
-    c.self.invariant.each).in_order
+pub returns-in-Some-clause-row : goal.returns-in-Some-clause-row
+returns-in-Some-clause-row c = subst (IsHeldRow c.args.index) (sym (there c)) (row_at c.self.inside.rows.items c.args.index
+    c.self.invariant.each)
 
 pub returns-in-Some-clause-numbered : goal.returns-in-Some-clause-numbered
-returns-in-Some-clause-numbered c = λ u a. (row_at c.self.inside.rows.items c.args.index c.self.invariant.each).numbered u
-    (subst (Among u) (there c) a)
+returns-in-Some-clause-numbered c = λ u. held_numbered _ _ u c.self.invariant.each (ap (λ (b : Holding). b.held) c.self.view_is)
 
 pub returns-in-None-clause-held : goal.returns-in-None-clause-held
 returns-in-None-clause-held c =
@@ -34,6 +34,8 @@ returns-in-None-clause-held c =
     ∙ row_is c.self.inside.rows.items c.args.index c.self.invariant.each
     ∙ ap (λ (b : Holding). filter (is_of c.args.index) b.held) c.self.view_is
 
-pub returns-in-Some-clause-placed : goal.returns-in-Some-clause-placed
-returns-in-Some-clause-placed c = λ u a. (row_at c.self.inside.rows.items c.args.index c.self.invariant.each).placed u
-    (subst (Among u) (there c) a)
+pub returns-in-None-clause-row : goal.returns-in-None-clause-row
+returns-in-None-clause-row c = empty c.args.index
+
+pub returns-in-None-clause-numbered : goal.returns-in-None-clause-numbered
+returns-in-None-clause-numbered c = λ u. held_numbered _ _ u c.self.invariant.each (ap (λ (b : Holding). b.held) c.self.view_is)
