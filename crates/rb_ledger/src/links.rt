@@ -4,6 +4,7 @@
 //! alone. A search as of a position begins at the position and, by links, at the next checkpoint.
 ghost use Rattle.std.specs.Prelude.{◌≡◌, ◌↔◌, ◌≤◌, ◌<◌, ◌-◌, length, take, IsTrue, Some, [], ◌∷◌, ◌++◌};
 ghost use Rattle.rb_money.specs.Settings.{IsConfigured};
+ghost use Rattle.rb_money.specs.declared.limits.TheConstants.{MOST_OPERATIONS};
 ghost use Rattle.rb_ledger.specs.Valid.{IsValid, parts_of};
 ghost use Rattle.rb_ledger.specs.OnAccount.{IsOn, IsLast, IsNoneAfter};
 ghost use Rattle.rb_ledger.specs.Index.{IsLink, IsLinked};
@@ -19,6 +20,7 @@ impl Ledger {
     pub fn last_on(&self, place: Place) -> u32
         ensures last { IsLast self.now.entries place result }
         ensures within { result ≤ length self.now.entries }
+        ensures few { result ≤ MOST_OPERATIONS }
     {
         match self.index.heads.get(usize::from(place.0)) {
             Some(head) => head.last,

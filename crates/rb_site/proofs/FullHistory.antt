@@ -5,14 +5,13 @@ use Rattle.std.specs.Prelude.{option_map, nat_lt, ◌==◌}
 use Rattle.rb_money.specs.Amounts.{cents}
 use Rattle.rb_money.specs.Refusals.{unless}
 use Rattle.rb_money.specs.Settings.{Settings, is_account}
-use Rattle.rb_money.specs.declared.limits.TheConstants.{MOST_SITES}
 use Rattle.rb_money.specs.declared.place.Place.{Place}
 use Rattle.rb_money.specs.declared.refusal.Refusal.{Refusal}
 use Rattle.rb_money.specs.declared.refusal.Refusal.TheVariants.{BadBatch, BadMessage, Conflict, HistoryFull, InboxFull, NotHeld, NotReady}
 use Rattle.rb_money.specs.declared.refusal.Refusal.TheVariants.{PositionBeyond, UnknownAccount}
+use Rattle.rb_ledger.specs.Book.{IsClocked}
 use Rattle.rb_ledger.specs.Checks.{refusal_of, refusal_of_sound}
-use Rattle.rb_ledger.specs.Valid.{IsValid}
-use Rattle.rb_shadow.specs.Operations.{bal, clock_of, find_in, is_eligible, red_count, same_shadow}
+use Rattle.rb_shadow.specs.Operations.{bal, find_in, is_eligible, red_count, same_shadow}
 use Rattle.rb_shadow.specs.Sound.{IsSound, fault_of}
 use Rattle.rb_shadow.specs.declared.deps.Deps.{Deps}
 use Rattle.rb_shadow.specs.declared.op_name.OpName.{OpName}
@@ -126,11 +125,10 @@ new_replied : (s : Settings) (t : ModelSite) (v : Shadow) (o : Outcome) (given :
 new_replied s t v o given comes is = is ∙ sym (ap (λ q. reply_of s t.ops (unless_full true q)) comes)
 
 -- a new one that the inbox welcomes would change the site
-pub new_welcome : (s : Settings) (t : ModelSite) (inbox : Holding) (c : Deps) (v : Shadow) (given : Reply) → s.sites ≤ MOST_SITES →
-    IsValid s t.ops → c ≡ clock_of t.ops → inbox.limit ≡ s.limits.inbox → inbox.held ≡ t.held → IsWelcome inbox c v
-    → given ≡ Refused HistoryFull → given ≡ reply_new s t v
-new_welcome s t inbox c v given few valid same limit held welcome is =
-    new_replied s t v (Holds v) given (welcome_comes s t inbox c v few valid same limit held welcome) is
+pub new_welcome : (s : Settings) (t : ModelSite) (inbox : Holding) (c : Deps) (v : Shadow) (given : Reply) → IsClocked s t.ops c →
+    inbox.limit ≡ s.limits.inbox → inbox.held ≡ t.held → IsWelcome inbox c v → given ≡ Refused HistoryFull → given ≡ reply_new s t v
+new_welcome s t inbox c v given clocked limit held welcome is =
+    new_replied s t v (Holds v) given (welcome_comes s t inbox c v clocked limit held welcome) is
 
 -- a new one that is held already
 pub new_already : (s : Settings) (t : ModelSite) (v : Shadow) (given : Reply) → find_in t.held v.name ≡ Some v → given ≡ Already v.name →
@@ -140,13 +138,12 @@ new_already s t v given found is =
 
 -- a new one that the inbox refuses
 pub new_refused : (s : Settings) (t : ModelSite) (inbox : Holding) (c : Deps) (v : Shadow) (why : Refusal) (given : Reply) →
-    s.sites ≤ MOST_SITES → IsValid s t.ops → c ≡ clock_of t.ops → inbox.limit ≡ s.limits.inbox → inbox.held ≡ t.held →
-    (why ≡ Conflict) ⊎ (why ≡ InboxFull) → (why ≡ Conflict → IsInConflict inbox v) → (why ≡ InboxFull → IsTooMany inbox c v)
-    → given ≡ Refused why → given ≡ reply_new s t v
-new_refused s t inbox c v why given few valid same limit held (inl e) conflict full is =
+    IsClocked s t.ops c → inbox.limit ≡ s.limits.inbox → inbox.held ≡ t.held → (why ≡ Conflict) ⊎ (why ≡ InboxFull) →
+    (why ≡ Conflict → IsInConflict inbox v) → (why ≡ InboxFull → IsTooMany inbox c v) → given ≡ Refused why → given ≡ reply_new s t v
+new_refused s t inbox c v why given clocked limit held (inl e) conflict full is =
     new_replied s t v (Refuses Conflict) given (conflict_comes s t inbox v held (conflict e)) (is ∙ ap Refused e)
-new_refused s t inbox c v why given few valid same limit held (inr e) conflict full is =
-    new_replied s t v (Refuses InboxFull) given (too_many_comes s t inbox c v few valid same limit held (full e)) (is ∙ ap Refused e)
+new_refused s t inbox c v why given clocked limit held (inr e) conflict full is =
+    new_replied s t v (Refuses InboxFull) given (too_many_comes s t inbox c v clocked limit held (full e)) (is ∙ ap Refused e)
 
 -- ---- a token message
 

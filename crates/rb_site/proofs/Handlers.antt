@@ -8,21 +8,20 @@ use Rattle.rb_money.specs.Amounts.{cents}
 use Rattle.rb_money.specs.Refusals.{and_then, unless}
 use Rattle.rb_money.specs.Settings.{Settings, is_account}
 use Rattle.rb_money.specs.declared.place.Place.{Place}
-use Rattle.rb_money.specs.declared.limits.TheConstants.{MOST_SITES}
 use Rattle.rb_money.specs.declared.refusal.Refusal.{Refusal}
 use Rattle.rb_money.specs.declared.refusal.Refusal.TheVariants.{BadMessage, NotHeld, NotReady, InboxFull, Conflict, OutOfMemory}
 use Rattle.rb_money.specs.declared.refusal.Refusal.TheVariants.{PositionBeyond, UnknownAccount}
 use Rattle.rb_shadow.proofs.Public.Eligible
 use Rattle.rb_shadow.proofs.Public.SameShadows
 use Rattle.rb_shadow.specs.Labels.{label_of}
-use Rattle.rb_shadow.specs.Operations.{Among, bal, find_in, is_eligible, names_of_clock, red_count, same_shadow, clock_of}
+use Rattle.rb_shadow.specs.Operations.{Among, bal, find_in, is_eligible, names, names_of_clock, red_count, same_shadow}
 use Rattle.rb_shadow.specs.Sound.{IsSound, fault_of}
 use Rattle.rb_shadow.specs.declared.op_name.OpName.{OpName}
 use Rattle.rb_shadow.specs.declared.deps.Deps.{Deps}
 use Rattle.rb_shadow.specs.declared.shadow.Shadow.{Shadow}
 use Rattle.rb_ledger.proofs.Public.ValidClocks
+use Rattle.rb_ledger.specs.Book.{IsClocked}
 use Rattle.rb_ledger.specs.Checks.{refusal_of, refusal_of_sound}
-use Rattle.rb_ledger.specs.Valid.{IsValid}
 use Rattle.rb_inbox.proofs.Public.{held_cases, kept_among}
 use Rattle.rb_shadow.proofs.Public.Lookups
 use Rattle.rb_inbox.specs.Held.{Holding, IsInConflict, IsReady, IsTooMany, IsWelcome, index_in_row, with_held, without}
@@ -397,20 +396,20 @@ new_received s t v sound none other = received_comes s t v None None false sound
 -- ---- a shadow is held
 
 -- the clock counts the names of a valid list
-pub ready_means : (s : Settings) (us : List Shadow) (c : Deps) (v : Shadow) → s.sites ≤ MOST_SITES → IsValid s us → c ≡ clock_of us →
-    IsReady c v → is_eligible us v ≡ true
-ready_means s us c v few valid same ready =
-    Eligible.eligible_from us v (λ x h. ValidClocks.valid_clock s us few valid x ∙ ap (λ d. names_of_clock d x) (sym same) ∙ ready x h)
+counted : (s : Settings) (us : List Shadow) (c : Deps) (x : OpName) → IsClocked s us c → names us x ≡ names_of_clock c x
+counted s us c x h = ValidClocks.valid_clock s us h.configured.few_sites h.valid x ∙ ap (λ d. names_of_clock d x) (sym h.clock)
 
--- what isn't ready at the clock of a valid list isn't eligible there
-pub waits_means : (s : Settings) (us : List Shadow) (c : Deps) (v : Shadow) → s.sites ≤ MOST_SITES → IsValid s us → c ≡ clock_of us →
-    ¬ IsReady c v → is_eligible us v ≡ false
-waits_means s us c v few valid same waits = by (is_eligible us v) refl
+-- what is ready at that clock is eligible
+ready_means : (s : Settings) (us : List Shadow) (c : Deps) (v : Shadow) → IsClocked s us c → IsReady c v → is_eligible us v ≡ true
+ready_means s us c v clocked ready = Eligible.eligible_from us v (λ x h. counted s us c x clocked ∙ ready x h)
+
+-- and what isn't ready there isn't
+waits_means : (s : Settings) (us : List Shadow) (c : Deps) (v : Shadow) → IsClocked s us c → ¬ IsReady c v → is_eligible us v ≡ false
+waits_means s us c v clocked waits = by (is_eligible us v) refl
   where
     by : (b : Bool) → is_eligible us v ≡ b → is_eligible us v ≡ false
     by false e = e
-    by true e = absurd (waits (λ x h. ap (λ d. names_of_clock d x) same ∙ sym (ValidClocks.valid_clock s us few valid x)
-        ∙ Eligible.eligible_means us v e x h))
+    by true e = absurd (waits (λ x h. sym (counted s us c x clocked) ∙ Eligible.eligible_means us v e x h))
 
 -- whether a new shadow must wait outside
 abbrev pub is_too_many : Settings → ModelSite → Shadow → Bool
@@ -431,9 +430,9 @@ known_comes s t v u b found test =
     ∙ ap (λ c. cond c (Answers (Already v.name)) (Refuses Conflict)) test
 
 -- a shadow that isn't applied, if the inbox welcomes it at the clock of a valid list, comes to be held
-pub welcome_comes : (s : Settings) (t : ModelSite) (inbox : Holding) (c : Deps) (v : Shadow) → s.sites ≤ MOST_SITES → IsValid s t.ops →
-    c ≡ clock_of t.ops → inbox.limit ≡ s.limits.inbox → inbox.held ≡ t.held → IsWelcome inbox c v → outcome_of_new s t v ≡ Holds v
-welcome_comes s t inbox c v few valid same limit held welcome =
+pub welcome_comes : (s : Settings) (t : ModelSite) (inbox : Holding) (c : Deps) (v : Shadow) → IsClocked s t.ops c →
+    inbox.limit ≡ s.limits.inbox → inbox.held ≡ t.held → IsWelcome inbox c v → outcome_of_new s t v ≡ Holds v
+welcome_comes s t inbox c v clocked limit held welcome =
     new_comes s t v false (ap (λ us. find_in us v.name) (sym held) ∙ welcome.new) test
   where
     by : (b : Bool) → nat_le s.limits.inbox (length t.held) ≡ b → (b && not (is_eligible t.ops v)) ≡ false
@@ -442,26 +441,25 @@ welcome_comes s t inbox c v few valid same limit held welcome =
         let low : s.limits.inbox ≤ length t.held = grind (arith, nat_tests) in
         let full : inbox.limit ≤ length inbox.held = subst (λ n. n ≤ length inbox.held) (sym limit)
         (subst (λ us. s.limits.inbox ≤ length us) (sym held) low) in
-        ap not (ready_means s t.ops c v few valid same (welcome.room full))
+        ap not (ready_means s t.ops c v clocked (welcome.room full))
 
     test : is_too_many s t v ≡ false
     test = by (nat_le s.limits.inbox (length t.held)) refl
 
 -- so it is held
 pub holds : (s : Settings) (me : ℕ) (ops : List Shadow) (inbox later : Holding) (token : Token) (c : Deps) (v : Shadow) (a : NotedReply) →
-    s.sites ≤ MOST_SITES → IsValid s ops → c ≡ clock_of ops → inbox.limit ≡ s.limits.inbox
-    → IsWelcome inbox c v → later ≡ record inbox { held = with_held v inbox.held } → Says true a (Held v.name)
+    IsClocked s ops c → inbox.limit ≡ s.limits.inbox → IsWelcome inbox c v → later ≡ record inbox { held = with_held v inbox.held }
+    → Says true a (Held v.name)
     → AnswersAlone (state_as s me ops inbox.held token) (state_as s me ops later.held token)
     (outcome_of_new s (site_as me ops inbox.held token) v) a
-holds s me ops inbox later token c v a few valid same limit welcome grown is =
-    answers_as _ _ _ _ a (welcome_comes s (site_as me ops inbox.held token) inbox c v few valid same limit refl welcome)
+holds s me ops inbox later token c v a clocked limit welcome grown is =
+    answers_as _ _ _ _ a (welcome_comes s (site_as me ops inbox.held token) inbox c v clocked limit refl welcome)
     (ap (λ (b : Holding). state_as s me ops b.held token) grown, is, refl)
 
 -- if the inbox is full and the shadow isn't ready, it comes to be refused
-pub too_many_comes : (s : Settings) (t : ModelSite) (inbox : Holding) (c : Deps) (v : Shadow) → s.sites ≤ MOST_SITES → IsValid s t.ops →
-    c ≡ clock_of t.ops → inbox.limit ≡ s.limits.inbox → inbox.held ≡ t.held → IsTooMany inbox c v
-    → outcome_of_new s t v ≡ Refuses InboxFull
-too_many_comes s t inbox c v few valid same limit held many =
+pub too_many_comes : (s : Settings) (t : ModelSite) (inbox : Holding) (c : Deps) (v : Shadow) → IsClocked s t.ops c →
+    inbox.limit ≡ s.limits.inbox → inbox.held ≡ t.held → IsTooMany inbox c v → outcome_of_new s t v ≡ Refuses InboxFull
+too_many_comes s t inbox c v clocked limit held many =
     new_comes s t v true (ap (λ us. find_in us v.name) (sym held) ∙ many.new) test
   where
     full : s.limits.inbox ≤ length t.held
@@ -470,16 +468,15 @@ too_many_comes s t inbox c v few valid same limit held many =
     test : is_too_many s t v ≡ true
     test =
         let first : nat_le s.limits.inbox (length t.held) ≡ true = grind (arith, nat_tests, full) in
-        ap (λ b. b && not (is_eligible t.ops v)) first ∙ ap not (waits_means s t.ops c v few valid same many.waits)
+        ap (λ b. b && not (is_eligible t.ops v)) first ∙ ap not (waits_means s t.ops c v clocked many.waits)
 
 -- so it is refused, and nothing changes
 pub too_many : (s : Settings) (me : ℕ) (ops : List Shadow) (inbox : Holding) (token : Token) (c : Deps) (v : Shadow) (a : NotedReply) →
-    s.sites ≤ MOST_SITES → IsValid s ops → c ≡ clock_of ops → inbox.limit ≡ s.limits.inbox
-    → IsTooMany inbox c v → Says true a (Refused InboxFull)
+    IsClocked s ops c → inbox.limit ≡ s.limits.inbox → IsTooMany inbox c v → Says true a (Refused InboxFull)
     → AnswersAlone (state_as s me ops inbox.held token) (state_as s me ops inbox.held token)
     (outcome_of_new s (site_as me ops inbox.held token) v) a
-too_many s me ops inbox token c v a few valid same limit many is =
-    answers_as _ _ _ _ a (too_many_comes s (site_as me ops inbox.held token) inbox c v few valid same limit refl many)
+too_many s me ops inbox token c v a clocked limit many is =
+    answers_as _ _ _ _ a (too_many_comes s (site_as me ops inbox.held token) inbox c v clocked limit refl many)
     (refl, is, refl)
 
 -- the same if it is held already: the answer is that, and nothing changes
@@ -511,12 +508,12 @@ conflicts s me ops inbox token v a conflict is =
 
 -- a shadow that the inbox refuses, but for running out of memory
 pub refused_put : (s : Settings) (me : ℕ) (ops : List Shadow) (inbox later : Holding) (token : Token) (c : Deps) (v : Shadow)
-    (why : Refusal) (a : NotedReply) → s.sites ≤ MOST_SITES → IsValid s ops → c ≡ clock_of ops → inbox.limit ≡ s.limits.inbox
+    (why : Refusal) (a : NotedReply) → IsClocked s ops c → inbox.limit ≡ s.limits.inbox
     → (why ≡ Conflict) ⊎ (why ≡ InboxFull) ⊎ (why ≡ OutOfMemory) → (why ≡ Conflict → IsInConflict inbox v) →
     (why ≡ InboxFull → IsTooMany inbox c v) → (why ≡ OutOfMemory → ⊥) → later ≡ inbox → Says true a (Refused why)
     → AnswersAlone (state_as s me ops inbox.held token) (state_as s me ops later.held token)
     (outcome_of_new s (site_as me ops inbox.held token) v) a
-refused_put s me ops inbox later token c v why a few valid same limit refusals conflict full memory stays is =
+refused_put s me ops inbox later token c v why a clocked limit refusals conflict full memory stays is =
     let P : Holding → Type 0 = λ b. AnswersAlone (state_as s me ops inbox.held token) (state_as s me ops b.held token)
     (outcome_of_new s (site_as me ops inbox.held token) v) a in
     subst P (sym stays) (by refusals)
@@ -524,7 +521,7 @@ refused_put s me ops inbox later token c v why a few valid same limit refusals c
     by : (why ≡ Conflict) ⊎ (why ≡ InboxFull) ⊎ (why ≡ OutOfMemory) → AnswersAlone (state_as s me ops inbox.held token)
         (state_as s me ops inbox.held token) (outcome_of_new s (site_as me ops inbox.held token) v) a
     by (inl e) = conflicts s me ops inbox token v a (conflict e) (subst (λ w. Says true a (Refused w)) e is)
-    by (inr (inl e)) = too_many s me ops inbox token c v a few valid same limit (full e) (subst (λ w. Says true a (Refused w)) e is)
+    by (inr (inl e)) = too_many s me ops inbox token c v a clocked limit (full e) (subst (λ w. Says true a (Refused w)) e is)
     by (inr (inr e)) = absurd (memory e)
 
 -- with one more that is sound, what is held is still tied to the rest

@@ -56,6 +56,7 @@ is_step keeps x old now before after e a free standing follows =
       reply = follows.1.0 ∙ given;
       sent = follows.2 ∙ ap (λ q. before ++ sent_by q) same ∙ sym (ap (λ b. before ++ cond b [] (sent_by o)) free);
       standing = subst (λ r. IsStanding (noted_in x e r) now) (sym noted_reply) (record {
+        configured = standing.configured;
         kept = Seen.replayed-stepped x e (room_left x standing.kept free) standing.kept;
         settings = ap (λ (z : SiteState). z.settings) follows.0 ∙ standing.settings;
         site =

@@ -1,6 +1,6 @@
 -- The state of a site between two events.
 use Rattle.std.specs.Prelude.{◌≡◌, ◌<◌, Bool, List, [], ◌++◌, Option, None}
-use Rattle.rb_money.specs.Settings.{Settings}
+use Rattle.rb_money.specs.Settings.{IsConfigured, Settings}
 use Rattle.rb_inbox.specs.Held.{Holding}
 use Rattle.rb_shadow.specs.declared.shadow.Shadow.{Shadow}
 use Rattle.rb_shadow.specs.Operations.{Among}
@@ -54,8 +54,9 @@ Follows keeps old new before after o answer =
     × Says keeps answer (reply_of old.settings old.site.ops o)
     × (after ≡ before ++ sent_by o)
 
--- a site's history replays, and its state is what the run of that leads to
+-- a configured site's history replays, and its state is what the run of that leads to
 pub record IsStanding (x : SeenSite) (now : SiteState) : Type 0 where
+  pub configured : IsConfigured x.settings
   pub kept : IsReplayed x
   pub settings : now.settings ≡ x.settings
   pub site : now.site ≡ without_history (state_of x)

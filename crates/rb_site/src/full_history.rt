@@ -121,10 +121,7 @@ impl State {
         ensures { reply.new ≡ reply_of self.now.settings self.now.site.ops
             (unless_full true (outcome_of_new self.now.settings self.now.site shadow.now)) }
     {
-        // For a fact alone: the operations are a valid list, of at most `MOST_SITES` sites.
-        let ledger = self.recorded.ledger();
-        let _sites = ledger.config().sites();
-        match self.inbox.check(shadow, ledger.clock()) {
+        match self.inbox.check(shadow, self.recorded.ledger().clock()) {
             Ok(PutAnswer::Held) => give(reply, Reply::Refused(Refusal::HistoryFull)),
             Ok(PutAnswer::Already) => give(reply, Reply::Already(shadow.name)),
             Err(why) => give(reply, Reply::Refused(why)),

@@ -318,10 +318,7 @@ impl State {
             (outcome_of_new self.old.settings self.old.site shadow.now) (plain reply.new)) }
         ensures err { OnErr result (self.new ≡ self.old) }
     {
-        // For a fact alone: the operations are a valid list, of at most `MOST_SITES` sites.
-        let ledger = self.recorded.ledger();
-        let _sites = ledger.config().sites();
-        let why = match self.inbox.put_copy(shadow, ledger.clock()) {
+        let why = match self.inbox.put_copy(shadow, self.recorded.ledger().clock()) {
             Ok(PutAnswer::Held) => {
                 give(reply, Reply::Held(shadow.name));
                 return Ok(());

@@ -19,7 +19,7 @@ returns-in_err-n-in-Blue c =
       arith,
       c.in_err-n-in-Blue.ensures.1,
       ap (λ (l : Limits). l.blue) limits,
-      Counts.counts_blue c.args.ledger.now.entries _ c.args.me (c.entries-counts.ensures ∙ c.clock.ensures) c.requires,
+      Counts.counts_blue c.args.ledger.now.entries _ c.args.me (c.entries-counts.ensures ∙ c.clock.ensures.clock) c.requires,
     ) in
     passed_on c.from_residual.result _ _ c.in_err-n-in-Blue.field-0.0 c.from_residual.ensures.1 (
       c.in_err-n-in-Blue.ensures.0,
@@ -30,7 +30,7 @@ returns-in_err-n-in-Blue c =
 pub returns-in_ok-n-in-Blue : goal.returns-in_ok-n-in-Blue
 returns-in_ok-n-in-Blue c =
     let limits = c.limits-limits.ensures ∙ ap (λ (s : Settings). s.limits) c.config.ensures.same in
-    let counted = Counts.counts_blue c.args.ledger.now.entries _ c.args.me (c.entries-counts.ensures ∙ c.clock.ensures) c.requires in (
+    let counted = Counts.counts_blue _ _ c.args.me (c.entries-counts.ensures ∙ c.clock.ensures.clock) c.requires in (
       ap (λ n. Blue c.args.me n) (c.in_ok-n-in-Blue.ensures.0 ∙ ap (λ k. k + 1) counted)
           ∙ ap (next_name c.args.me c.args.ledger.now.entries) (sym c.in-Blue.is),
       omega (arith, c.in_ok-n-in-Blue.ensures.0, c.in_ok-n-in-Blue.ensures.1, ap (λ (l : Limits). l.blue) limits),
@@ -45,7 +45,7 @@ returns-in_err-n-in-Red c =
       arith,
       c.in_err-n-in-Red.ensures.1,
       ap (λ (l : Limits). l.red) limits,
-      Counts.counts_red c.args.ledger.now.entries _ (c.entries-counts.ensures ∙ c.clock.ensures),
+      Counts.counts_red c.args.ledger.now.entries _ (c.entries-counts.ensures ∙ c.clock.ensures.clock),
     ) in
     passed_on c.from_residual-in_err-n-in-Red.result _ _ c.in_err-n-in-Red.field-0.0 c.from_residual-in_err-n-in-Red.ensures.1 (
       c.in_err-n-in-Red.ensures.0,
@@ -56,7 +56,7 @@ returns-in_err-n-in-Red c =
 pub returns-in_ok-n-in-Red : goal.returns-in_ok-n-in-Red
 returns-in_ok-n-in-Red c =
     let limits = c.limits-limits.ensures ∙ ap (λ (s : Settings). s.limits) c.config.ensures.same in
-    let counted = Counts.counts_red c.args.ledger.now.entries _ (c.entries-counts.ensures ∙ c.clock.ensures) in (
+    let counted = Counts.counts_red c.args.ledger.now.entries _ (c.entries-counts.ensures ∙ c.clock.ensures.clock) in (
       ap (λ n. Red n) (c.in_ok-n-in-Red.ensures.0 ∙ ap (λ k. k + 1) counted)
           ∙ ap (next_name c.args.me c.args.ledger.now.entries) (sym c.in-Red.is),
       omega (arith, c.in_ok-n-in-Red.ensures.0, c.in_ok-n-in-Red.ensures.1, ap (λ (l : Limits). l.red) limits),

@@ -13,8 +13,8 @@ loop-position-init c =
     record {
       on = last.on;
       rows = Steps.rows_start _ _ _ _ _ last c.in_ok-rows.ensures.items;
-      sum = c.requires.sum ∙ Steps.bal_start _ _ _ _ c.config-valid.ensures.valid last;
-      bounded = omega (arith, c.requires.bounded, c.last_on-position.ensures.within);
+      sum = c.requires.sum ∙ Steps.bal_start _ _ _ _ c.requires.valid last;
+      bounded = omega (arith, c.requires.bounded, c.last_on-position.ensures.few);
     }
 
 pub before-balance-requires : goal.before-balance-requires
@@ -22,7 +22,7 @@ before-balance-requires c =
     let fits : FitsSigned w64 c.row_at-row.result.moved = search rules in
     let same = sym (to_z-of_z w64 c.row_at-row.result.moved fits) in
     record {
-      covered = subst (λ z. z ≤ℤ pos c.loop-position.balance) same (Steps.covered _ _ _ _ _ _ c.config-valid.ensures.valid
+      covered = subst (λ z. z ≤ℤ pos c.loop-position.balance) same (Steps.covered _ _ _ _ _ _ c.requires.valid
           c.row_at-row.ensures.moved);
       least = subst (λ z. neg_ℤ (pos MOST_CENTS) ≤ℤ z) same c.row_at-row.ensures.least;
       bounded = omega (arith, c.loop-position.invariant.bounded);
@@ -37,7 +37,7 @@ loop-position-preserved c =
       on = OnAccount.on_taken _ _ c.args.place _ last.on;
       rows = Steps.rows_back _ _ _ _ _ c.row_at-row.result _ _ low last c.loop-position.invariant.rows c.row_at-row.ensures.row
           c.in_ok-push.ensures.items;
-      sum = Steps.bal_back _ _ _ _ _ _ _ _ c.config-valid.ensures.valid low last c.row_at-row.ensures.moved (c.before-balance.ensures.sum
+      sum = Steps.bal_back _ _ _ _ _ _ _ _ c.requires.valid low last c.row_at-row.ensures.moved (c.before-balance.ensures.sum
           ∙ ap (λ z. pos c.before-balance.result +ℤ z) (to_z-of_z w64 c.row_at-row.result.moved fits));
       bounded = omega (arith, c.loop-position.invariant.bounded, c.before-balance.ensures.bounded, c.earlier-position.ensures.before);
     }

@@ -1,5 +1,6 @@
 use Rattle.rb_ledger.proofs.Words.{length, ap, arith, refl, slice_get_read}
 use Rattle.rb_ledger.proofs.HeadReads
+use Rattle.rb_ledger.proofs.Lengths
 use Rattle.rb_ledger.proofs.SeenLists
 use Rattle.rb_ledger.proofs.ReadItems
 use Rattle.rb_ledger.proofs.Public.OnAccount
@@ -15,16 +16,15 @@ returns-in-None-clause-last c =
       c.in-None.ensures.lookup.3,
     ))
 
-pub returns-in-Some-clause-last : goal.returns-in-Some-clause-last
-returns-in-Some-clause-last c =
+pub returns-in-Some : goal.returns-in-Some
+returns-in-Some c =
     let index = SeenLists.seen _ _ _ _ c.self.invariant.index c.self.view_is in
-    HeadReads.head_last _ _ _ c.args.place _ index.heads
+    let last = HeadReads.head_last _ _ _ c.args.place _ index.heads
     (ReadItems.read_at _ _ _ _ _ c.deref.ensures.value c.from.ensures (slice_get_read _ _ _ _ refl c.in-Some.ensures.lookup.3.0
-    c.in-Some.ensures.lookup.1))
-
-pub returns-in-Some-clause-within : goal.returns-in-Some-clause-within
-returns-in-Some-clause-within c =
-    let index = SeenLists.seen _ _ _ _ c.self.invariant.index c.self.view_is in
-    OnAccount.on_within _ c.args.place _ (HeadReads.head_last _ _ _ c.args.place _ index.heads
-    (ReadItems.read_at _ _ _ _ _ c.deref.ensures.value c.from.ensures (slice_get_read _ _ _ _ refl c.in-Some.ensures.lookup.3.0
-    c.in-Some.ensures.lookup.1))).on
+    c.in-Some.ensures.lookup.1)) in
+    let within = OnAccount.on_within _ c.args.place _ last.on in
+    record {
+      last = last;
+      within = within;
+      few = omega (arith, within, Lengths.clocked_length _ _ _ index.clocked);
+    }

@@ -19,7 +19,7 @@ returns g c =
     let seen : c.self.inside.site ≡ x = ap (λ (v : SeenNode). v.site) c.self.view_is in
     let at : without_ids c.self.inside.site ≡ without_ids x = ap without_ids seen in
     let clock : c.entries.result.now ≡ clock_of (asked_state x).ops =
-    c.entries.ensures ∙ c.clock.ensures
+    c.entries.ensures ∙ c.clock.ensures.clock
     ∙ ap clock_of (c.ledger.ensures.entries ∙ ap (λ (y : SeenSite). (state_of y).ops) (c.site.ensures ∙ at)) in
     let version : c.version.result ≡ x.settings.version =
     c.version.ensures.same ∙ sym (ap (λ s. s.version) c.self.invariant) ∙ ap (λ (y : SeenAsked). y.settings.version) seen in

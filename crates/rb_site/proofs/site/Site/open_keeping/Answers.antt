@@ -1,7 +1,7 @@
 -- A site before any event is as the model says.
 use Rattle.std.proofs.Common.{◌≡◌, ◌∙◌, ℕ, ◌<◌, ◌≤◌, List, [], length, map, ap, arith, subst, sym}
 use Rattle.std.proofs.lemmas.Result.{IfOk-from_err}
-use Rattle.rb_money.specs.Settings.{Settings}
+use Rattle.rb_money.specs.Settings.{IsConfigured, Settings}
 use Rattle.rb_site.specs.declared.entry.Entry.{Entry}
 use Rattle.rb_site.specs.Events.{first_site}
 use Rattle.rb_site.specs.Reports.{IsEnough, RoomFor}
@@ -19,9 +19,10 @@ opened f xs s me now none same at =
     ∙ ap (λ t. seen_as s t.me []) at
 
 -- its history replays, and its state is what the run of that leads to
-as_opened : (s : Settings) (me : ℕ) (now : SiteState) → me < s.sites → now.settings ≡ s → now.site ≡ first_site me →
+as_opened : (s : Settings) (me : ℕ) (now : SiteState) → IsConfigured s → me < s.sites → now.settings ≡ s → now.site ≡ first_site me →
     IsStanding (first_seen s me) now
-as_opened s me now within same at = record {
+as_opened s me now configured within same at = record {
+  configured = configured;
   kept = record { within = within; replays = tt; room = omega arith };
   settings = same;
   site = at;
@@ -43,7 +44,8 @@ invariant_of-result g c = (
   let P : SeenSite → Type 0 = λ x. IsStanding x c.in_ok-state.state in
       subst P (sym (opened g.E.KeepsEntry.entry c.new.result.items c.args.config.now c.args.me c.in_ok-state.state c.new.ensures.items
       c.in_ok-state.ensures.0 c.in_ok-state.ensures.1))
-      (as_opened c.args.config.now c.args.me c.in_ok-state.state c.requires c.in_ok-state.ensures.0 c.in_ok-state.ensures.1),
+      (as_opened c.args.config.now c.args.me c.in_ok-state.state c.accounts.ensures.configured c.requires c.in_ok-state.ensures.0
+      c.in_ok-state.ensures.1),
   λ keeps. enough c.in_ok-report_lists.report_lists c.args.config.now c.args.me c.in_ok-state.state
       (subst (λ n. n ≤ c.in_ok-report_lists.report_lists.accounts) (c.len.ensures.starts ∙ ap length c.accounts.ensures.starts)
       (c.in_ok-report_lists.ensures (c.KEEPS.ensures ∙ keeps)))

@@ -1,11 +1,7 @@
 -- A shadow is held as the model says.
-use Rattle.std.proofs.Common.{◌∙◌, ◌≤◌, Ok, Err, sym, ap, subst}
-use Rattle.rb_money.specs.Settings.{Settings}
-use Rattle.rb_money.specs.declared.limits.TheConstants.{MOST_SITES}
+use Rattle.std.proofs.Common.{◌∙◌, Ok, Err, sym, ap, subst}
 use Rattle.rb_inbox.proofs.Public.{sound_numbered}
 use Rattle.rb_inbox.specs.Held.{Holding}
-use Rattle.rb_ledger.specs.Valid.{IsValid}
-use Rattle.rb_shadow.specs.Operations.{clock_of}
 use Rattle.rb_shadow.specs.Sound.{IsSound}
 use Rattle.rb_site.specs.Events.{outcome_of_new}
 use Rattle.rb_site.specs.States.{SiteState, plain}
@@ -24,19 +20,13 @@ invariant_of-self c =
 
 pub returns-in-Ok-Held-clause-ok : goal.returns-in-Ok-Held-clause-ok
 returns-in-Ok-Held-clause-ok c =
-    let few : c.self.inside.recorded.settings.sites ≤ MOST_SITES = subst (λ n. n ≤ MOST_SITES) (c.sites-sites.ensures.same
-    ∙ ap (λ (z : Settings). z.sites) (c.config.ensures.same ∙ c.ledger-ledger.ensures.settings)) c.sites-sites.ensures.few in
-    let valid : IsValid c.self.inside.recorded.settings c.self.inside.recorded.ops =
-    subst (IsValid c.self.inside.recorded.settings) c.ledger-ledger.ensures.entries
-    (subst (λ s. IsValid s c.ledger-ledger.result.now.entries) c.ledger-ledger.ensures.settings c.config.ensures.valid) in
-    let counted = c.clock.ensures ∙ ap clock_of c.ledger-ledger.ensures.entries in
+    let clocked = rw (c.ledger.ensures.settings, c.ledger.ensures.entries) at c.clock.ensures in
     let P : SiteState → Type 0 = λ z. AnswersAlone z (state_as c.self.inside.recorded.settings c.self.inside.token.me
     c.self.inside.recorded.ops c.put_copy.new.self.held c.self.inside.token.token) (outcome_of_new z.settings z.site c.args.shadow.now)
     (plain c.give.new.place) in
     subst P c.self.view_is
     (holds c.self.inside.recorded.settings c.self.inside.token.me c.self.inside.recorded.ops c.self.inside.inbox c.put_copy.new.self
-    c.self.inside.token.token c.clock.result.now c.args.shadow.now (plain c.give.new.place) few valid counted
-    c.self.invariant.limit
+    c.self.inside.token.token c.clock.result.now c.args.shadow.now (plain c.give.new.place) clocked c.self.invariant.limit
     (c.put_copy.ensures.welcome (c.in-Ok-Held.is ∙ ap Ok c.in-Ok-Held.field-0-is)) (c.put_copy.ensures.held (c.in-Ok-Held.is
     ∙ ap Ok c.in-Ok-Held.field-0-is)) c.give.ensures)
 
@@ -59,20 +49,14 @@ returns-in-Ok-Already-clause-ok c =
 
 pub returns-clause-ok : goal.returns-clause-ok
 returns-clause-ok c =
-    let few : c.self.inside.recorded.settings.sites ≤ MOST_SITES = subst (λ n. n ≤ MOST_SITES) (c.sites-sites.ensures.same
-    ∙ ap (λ (z : Settings). z.sites) (c.config.ensures.same ∙ c.ledger-ledger.ensures.settings)) c.sites-sites.ensures.few in
-    let valid : IsValid c.self.inside.recorded.settings c.self.inside.recorded.ops =
-    subst (IsValid c.self.inside.recorded.settings) c.ledger-ledger.ensures.entries
-    (subst (λ s. IsValid s c.ledger-ledger.result.now.entries) c.ledger-ledger.ensures.settings c.config.ensures.valid) in
-    let counted = c.clock.ensures ∙ ap clock_of c.ledger-ledger.ensures.entries in
+    let clocked = rw (c.ledger.ensures.settings, c.ledger.ensures.entries) at c.clock.ensures in
     let now : SiteState = state_as c.self.inside.recorded.settings c.self.inside.token.me c.self.inside.recorded.ops
     c.put_copy.new.self.held c.self.inside.token.token in
     let P : SiteState → Type 0 = λ z. AnswersAlone z now (outcome_of_new z.settings z.site c.args.shadow.now) (plain c.give-2.new.place) in
     subst P c.self.view_is
     (refused_put c.self.inside.recorded.settings c.self.inside.token.me c.self.inside.recorded.ops c.self.inside.inbox c.put_copy.new.self
     c.self.inside.token.token c.clock.result.now c.args.shadow.now c.in-Err.why
-    (plain c.give-2.new.place) few valid counted
-    c.self.invariant.limit
+    (plain c.give-2.new.place) clocked c.self.invariant.limit
     c.in-Err.ensures.refusals (λ e. c.put_copy.ensures.conflict (c.in-Err.is ∙ ap Err e)) (λ e. c.put_copy.ensures.full (c.in-Err.is
     ∙ ap Err e)) c.in_default.not-OutOfMemory c.in-Err.ensures.err c.give-2.ensures)
 

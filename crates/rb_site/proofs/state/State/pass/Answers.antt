@@ -35,7 +35,7 @@ returns-clause-ok c =
     (sym c.self.invariant.limits)
     ∙ ap (λ (seen : SeenToken). refusal_of_pass seen.sites seen.limits seen.me seen.token c.args.to) (sym c.copy-passed.ensures)
     ∙ c.in-Ok.ensures.allowed)
-    (ap (λ (d : Deps). d.red) c.clock.ensures ∙ ap (λ us. (clock_of us).red) c.ledger.ensures.entries)
+    (ap (λ (d : Deps). d.red) c.clock.ensures.clock ∙ ap (λ us. (clock_of us).red) c.ledger.ensures.entries)
     (c.in-Ok.ensures.sent ∙ ap (λ (seen : SeenToken). pass_message seen.token c.args.to c.clock.result.now.red) c.copy-passed.ensures)
     refl c.give-2.ensures
     (c.push_reserved.ensures.items ∙ ap (λ ms. ms ++ TokenOnItsWay c.in-Ok.message ∷ []) c.in_ok-reserve.ensures.items)))
