@@ -25,7 +25,7 @@ use Rattle.rb_token.specs.Token.{Token}
 use Rattle.rb_scratch.specs.Requests.{Plan, next_name}
 use Rattle.rb_scratch.proofs.Public.Made.{IsAllowed}
 use Rattle.rb_scratch.proofs.Planned.{Cancels, IsPlanned}
-use Rattle.rb_scratch.proofs.Public.Tokens.{enough}
+use Rattle.rb_scratch.proofs.Tokens.{enough}
 use Rattle.rb_ledger.proofs.Public.OnAccount
 use Rattle.rb_scratch.proofs.Public.Fits.{shadow_of, uncancelled, blue_gives, not_overdrawn, turned, directed}
 

@@ -4,4 +4,3 @@ pub mod Errors
 pub mod Fits
 pub mod Made
 pub mod Makes
-pub mod Tokens

@@ -1,38 +1,33 @@
 -- Trials on a ledger, operation by operation.
-use Rattle.std.proofs.Common.{◌≡◌, ℕ, ◌-◌, List, [], ◌∷◌, ◌++◌, length, drop, refl, ap, sym, ◌∙◌, arith, append_assoc, length-append, ◌⊎◌}
+use Rattle.std.proofs.Common.{◌≡◌, List, [], ◌∷◌, ◌++◌, length, refl, ap, sym, ◌∙◌, arith, append_assoc, ◌⊎◌}
 use Rattle.std.proofs.Common.{inl, inr}
 use Rattle.std.proofs.lemmas.List.{append-nil}
-use Rattle.std.proofs.Math.Seq.{drop-append_seam}
-use Rattle.rb_money.specs.Settings.{Settings}
 use Rattle.rb_shadow.specs.declared.shadow.Shadow.{Shadow}
 use Rattle.rb_undo.specs.declared.parts.UndoParts.{UndoParts}
 use Rattle.rb_ledger.specs.Book.{Book}
 use Rattle.rb_ledger.specs.Records.{logged}
-use Rattle.rb_ledger.specs.Valid.{parts_of, IsValid}
-use Rattle.rb_money.specs.declared.refusal.Refusal.{Refusal}
-use Rattle.rb_money.specs.declared.refusal.Refusal.TheVariants.{OutOfMemory}
-use Rattle.std.specs.Prelude.{Some, None}
-use Rattle.rb_ledger.specs.Checks.{refusal_of}
-use Rattle.rb_ledger.proofs.Public.Legal
+use Rattle.rb_ledger.specs.Valid.{parts_of}
 use Rattle.rb_ledger.proofs.Public.Records
 use Rattle.rb_scratch.specs.Tried.{IsTried, IsAdded}
 use Rattle.rb_scratch.proofs.Public.Batches.{tried_length}
 
 -- one operation more
-pub added : (was now : Book) (records more : List UndoParts) (v : Shadow) → now.settings ≡ was.settings →
-    now.entries ≡ was.entries ++ v ∷ [] → more ≡ records ++ parts_of was.settings was.entries v ∷ [] → IsAdded was now records more v
-added was now records more v same longer recorded =
+pub added : (was now : Book) (vs longer : List Shadow) (records more : List UndoParts) (v : Shadow) → now.settings ≡ was.settings →
+    now.entries ≡ was.entries ++ v ∷ [] → longer ≡ vs ++ v ∷ [] → more ≡ records ++ parts_of was.settings was.entries v ∷ []
+    → IsAdded was now vs longer records more v
+added was now vs longer records more v same grown listed recorded =
     record {
       settings = same;
-      entries = longer;
+      entries = grown;
+      made = listed;
       records = recorded;
-      tried = λ base made tried. record {
-        entries = longer ∙ ap (λ us. us ++ v ∷ []) tried.entries ∙ append_assoc base made (v ∷ []);
+      tried = λ base tried. record {
+        entries = grown ∙ ap (λ us. us ++ v ∷ []) tried.entries ∙ append_assoc base vs (v ∷ []) ∙ ap (λ us. base ++ us) (sym listed);
         records =
             recorded ∙ ap (λ ps. ps ++ parts_of was.settings was.entries v ∷ []) tried.records
-            ∙ ap (λ us. logged was.settings base made ++ parts_of was.settings us v ∷ []) tried.entries
-            ∙ sym (Records.logged-append was.settings base made (v ∷ []))
-            ∙ ap (λ s. logged s base (made ++ v ∷ [])) (sym same);
+            ∙ ap (λ us. logged was.settings base vs ++ parts_of was.settings us v ∷ []) tried.entries
+            ∙ sym (Records.logged-append was.settings base vs (v ∷ []))
+            ∙ ap (logged was.settings base) (sym listed) ∙ ap (λ s. logged s base longer) (sym same);
       };
     }
 
@@ -95,26 +90,3 @@ tried_all base made book records tried e =
     empty : (us : List Shadow) → length us ≡ 0 → us ≡ []
     empty [] e = refl
     empty (u ∷ us) e = absurd (omega arith)
-
--- the operations that were made are the last
-pub last_made : (base made : List Shadow) (book : Book) (records : List UndoParts) (n : ℕ) → IsTried base made book records →
-    n ≡ length book.entries - length records → drop n book.entries ≡ made
-last_made base made book records n tried e =
-    let at : n ≡ length base = omega (arith, tried_length base made book records tried, ap length tried.entries, length-append base made, e)
-    in
-    ap (drop n) tried.entries ∙ ap (λ k. drop k (base ++ made)) at ∙ drop-append_seam base made
-
--- what may be added is refused only if memory runs out
-pub no_memory : (s : Settings) (us : List Shadow) (h : Shadow) (why : Refusal) (n : ℕ) → IsValid s (us ++ h ∷ []) →
-    (refusal_of s us h ≡ Some why) ⊎ ((why ≡ OutOfMemory) × (refusal_of s us h ≡ None) × (n ≡ 0)) → why ≡ OutOfMemory
-no_memory s us h why n valid (inl e) =
-    let fine : refusal_of s us h ≡ None = (Legal.refuses_rightly s us h (Legal.IsValid-front s us (h ∷ []) valid)).1 valid in
-    let clash : Some why ≡ None = sym e ∙ fine in
-    cc
-no_memory s us h why n valid (inr k) = k.0
-
--- without records nothing was tried
-pub none_tried : (base made : List Shadow) (book : Book) (parts : List UndoParts) → IsTried base made book parts → length parts ≡ 0 →
-    made ≡ []
-none_tried base [] book parts tried e = refl
-none_tried base (v ∷ vs) book parts tried e = absurd (omega (arith, tried_length base (v ∷ vs) book parts tried, e))

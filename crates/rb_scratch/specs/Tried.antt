@@ -20,24 +20,27 @@ pub record IsTried (base made : List Shadow) (book : Book) (parts : List UndoPar
   pub entries : book.entries ≡ base ++ made
   pub records : parts ≡ logged book.settings base made
 
--- the records are those of the last operations
-abbrev pub IsOfTheLast : Book → List UndoParts → Type 0
-IsOfTheLast book parts = (base : List Shadow) × (made : List Shadow) × IsTried base made book parts
+-- what was made are the last operations, and the records are theirs
+abbrev pub IsOfTheLast : Book → List Shadow → List UndoParts → Type 0
+IsOfTheLast book made parts = (base : List Shadow) × IsTried base made book parts
 
 -- one operation more, with its record
-pub record IsAdded (was now : Book) (parts more : List UndoParts) (v : Shadow) : Type 0 where
+pub record IsAdded (was now : Book) (vs longer : List Shadow) (parts more : List UndoParts) (v : Shadow) : Type 0 where
   pub settings : now.settings ≡ was.settings
   pub entries : now.entries ≡ was.entries ++ v ∷ []
+  pub made : longer ≡ vs ++ v ∷ []
   pub records : more ≡ parts ++ parts_of was.settings was.entries v ∷ []
-  -- so the records are still those of the last operations
-  pub tried : (base made : List Shadow) → IsTried base made was parts → IsTried base (made ++ v ∷ []) now more
+  -- so what was made are still the last operations
+  pub tried : (base : List Shadow) → IsTried base vs was parts → IsTried base longer now more
 
 -- why a request of a batch is not made: there are the most already, or it makes nothing, or there is no memory, and
--- then the ledger has no spare capacity
-pub record IsFault (book : Book) (parts : List UndoParts) (me : ℕ) (known : Token) (r : Request) (fault : RunFault) : Type 0 where
+-- then the ledger has no spare capacity, or the list of what was made has none
+pub record IsFault (book : Book) (spare : ℕ) (parts : List UndoParts) (me : ℕ) (known : Token) (r : Request) (fault : RunFault)
+    : Type 0 where
   pub many : MOST_REQUESTS ≤ length parts → fault ≡ RefusedFault BadBatch
   pub few : length parts < MOST_REQUESTS → (made_in_batch book.settings me book.entries known r ≡ Err fault)
-      ⊎ ((v : Shadow) × (made_in_batch book.settings me book.entries known r ≡ Ok v) × (fault ≡ RefusedFault OutOfMemory) × (book.room ≡ 0))
+      ⊎ ((v : Shadow) × (made_in_batch book.settings me book.entries known r ≡ Ok v) × (fault ≡ RefusedFault OutOfMemory)
+      × ((book.room ≡ 0) ⊎ (spare ≡ 0)))
 
 -- a name at an error
 abbrev pub name_if_err : {A E : Type 0} → (E → GName) → Result A E → maybe.Option GName

@@ -13,11 +13,7 @@ use Rattle.rb_ledger.specs.Book.{Book}
 use Rattle.rb_ledger.specs.Records.{logged, records_of}
 use Rattle.rb_ledger.proofs.Public.Records
 use Rattle.rb_token.specs.Token.{Token}
-use Rattle.rb_token.specs.Seen.{Shows}
-use Rattle.rb_token.specs.declared.view.TokenView.{TokenView}
-use Rattle.rb_scratch.proofs.Public.Tokens.{seen, seen_shows}
 use Rattle.rb_scratch.proofs.Public.Batches.{batch_more, batch_stopped, tried_length}
-use Rattle.rb_scratch.proofs.Public.Made.{batch_length}
 use Rattle.rb_scratch.specs.Batches.{batch_of, cause_of, made_in_batch, names_of_all}
 use Rattle.rb_scratch.specs.Tried.{IsFault, IsTried}
 use Rattle.rb_scratch.specs.declared.request.Request.{Request}
@@ -66,23 +62,18 @@ run_stopped s now me here us them vs known rs k d fault there same at list far m
     ∙ ap (λ n. Err (BatchRefused n (cause_of fault))) index
 
 -- among the first requests, what isn't *out of memory* is the request's own fault
-pub fault_made : (base vs : List Shadow) (book : Book) (parts : List UndoParts) (me : ℕ) (known : Token) (rs : List Request) (r : Request)
-    (fault : RunFault) → IsTried base vs book parts → length vs < length rs → length rs ≤ MOST_REQUESTS
-    → IsFault book parts me known r fault → (fault ≡ RefusedFault OutOfMemory → ⊥) →
+pub fault_made : (base vs : List Shadow) (book : Book) (spare : ℕ) (parts : List UndoParts) (me : ℕ) (known : Token) (rs : List Request)
+    (r : Request) (fault : RunFault) → IsTried base vs book parts → length vs < length rs → length rs ≤ MOST_REQUESTS
+    → IsFault book spare parts me known r fault → (fault ≡ RefusedFault OutOfMemory → ⊥) →
     made_in_batch book.settings me book.entries known r ≡ Err fault
-fault_made base vs book parts me known rs r fault tried more few is other =
+fault_made base vs book spare parts me known rs r fault tried more few is other =
     by (is.few (omega (arith, tried_length base vs book parts tried, more, few)))
   where
     by : (made_in_batch book.settings me book.entries known r ≡ Err fault)
         ⊎ ((v : Shadow) × (made_in_batch book.settings me book.entries known r ≡ Ok v) × (fault ≡ RefusedFault OutOfMemory)
-        × (book.room ≡ 0)) → made_in_batch book.settings me book.entries known r ≡ Err fault
+        × ((book.room ≡ 0) ⊎ (spare ≡ 0))) → made_in_batch book.settings me book.entries known r ≡ Err fault
     by (inl e) = e
     by (inr (v, made, e, room)) = absurd (other e)
-
--- there are as many operations as requests
-pub as_many : (s : Settings) (me : ℕ) (base vs : List Shadow) (view : TokenView) (rs : List Request) →
-    ((known : Token) → Shows view known → batch_of s me base known 0 rs ≡ Ok vs) → length vs ≡ length rs
-as_many s me base vs view rs runs = batch_length s me base (seen view) 0 rs vs (runs (seen view) (seen_shows view))
 
 -- ---- the records of a batch
 

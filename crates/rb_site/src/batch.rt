@@ -36,15 +36,17 @@ fn why_stopped(index: u8, fault: RunFault) -> Refusal
 /// Runs the requests in order. If one is at fault, what those before it made is in the scratch.
 fn run_all(scratch: &mut Scratch, requests: &[Request]) -> Result<(), Refusal>
     requires here { scratch.old.token.me < scratch.old.ledger.now.settings.sites }
+    requires empty { scratch.old.made.items ≡ [] }
     requires none { IsTried scratch.old.ledger.now.entries [] scratch.old.ledger.now scratch.old.undos.parts }
     requires few { length requests.now ≤ MOST_REQUESTS }
     ensures same_reference { scratch.new.ledger.ghost_name ≡ scratch.old.ledger.ghost_name }
     ensures settings { scratch.new.ledger.now.settings ≡ scratch.old.ledger.now.settings }
-    ensures tried { (made : List TheShadow) × IsTried scratch.old.ledger.now.entries made scratch.new.ledger.now
-        scratch.new.undos.parts
-        × OnOk result ((known : Token) → Shows scratch.old.token known →
+    ensures tried { IsTried scratch.old.ledger.now.entries scratch.new.made.items scratch.new.ledger.now
+        scratch.new.undos.parts }
+    ensures all { OnOk result (length scratch.new.made.items ≡ length requests.now) }
+    ensures made { OnOk result ((known : Token) → Shows scratch.old.token known →
         batch_of scratch.old.ledger.now.settings scratch.old.token.me scratch.old.ledger.now.entries known 0
-        requests.now ≡ Ok made) }
+        requests.now ≡ Ok scratch.new.made.items) }
     ensures refused { IfErr result (λ why. (why ≡ Refusal.OutOfMemory)
         ⊎ ((known : Token) → Shows scratch.old.token known →
         batch_of scratch.old.ledger.now.settings scratch.old.token.me scratch.old.ledger.now.entries known 0

@@ -95,7 +95,7 @@ pub fn tried_and_aborted(
         × ((known : Token) → Shows token known → made_in_batch ledger.old.settings token.me ledger.old.entries known
         request.now ≡ Ok v)) }
     ensures fault { IfErr result (λ fault. (known : Token) → Shows token known →
-        IsFault ledger.old [] token.me known request.now fault) }
+        IsFault ledger.old 0 [] token.me known request.now fault) }
 {
     let mut scratch = Scratch::open(alloc, ledger, token);
     let answer = scratch.run(request);

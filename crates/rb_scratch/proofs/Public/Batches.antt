@@ -1,5 +1,5 @@
 -- Batches, operation by operation.
-use Rattle.std.proofs.Common.{◌≡◌, ℕ, ◌+◌, List, [], ◌∷◌, ◌++◌, length, refl, ap, sym, ◌∙◌, arith, append_assoc, ◌≤◌, length-append}
+use Rattle.std.proofs.Common.{◌≡◌, ℕ, ◌+◌, List, [], ◌∷◌, ◌++◌, length, refl, ap, sym, ◌∙◌, arith, append_assoc}
 use Rattle.std.specs.Prelude.{Result, Ok, Err}
 use Rattle.std.proofs.lemmas.List.{append-nil}
 use Rattle.rb_money.specs.Refusals.{and_then}
@@ -88,13 +88,3 @@ batch_stopped s me us token index (q ∷ rs) r more vs fault e made =
 pub tried_length : (base made : List Shadow) (book : Book) (records : List UndoParts) → IsTried base made book records →
     length records ≡ length made
 tried_length base made book records tried = ap length tried.records ∙ Records.logged-length book.settings base made
-
--- there are no more records than operations
-pub tried_within : (base made : List Shadow) (book : Book) (records : List UndoParts) → IsTried base made book records →
-    length records ≤ length book.entries
-tried_within base made book records tried = omega (
-  arith,
-  tried_length base made book records tried,
-  ap length tried.entries,
-  length-append base made,
-)

@@ -36,7 +36,7 @@ use Rattle.rb_token.specs.Token.{Token}
 use Rattle.rb_scratch.specs.Requests.{Plan, next_name, operation_of}
 use Rattle.rb_scratch.proofs.Public.Made.{IsAllowed}
 use Rattle.rb_scratch.proofs.Planned.{Cancels, IsPlanned}
-use Rattle.rb_scratch.proofs.Public.Tokens.{shows, enough}
+use Rattle.rb_scratch.proofs.Tokens.{shows, enough}
 
 -- what a plan makes at a site that applied us
 abbrev pub shadow_of : ℕ → List Shadow → Plan → Shadow

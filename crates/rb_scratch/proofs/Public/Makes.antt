@@ -20,7 +20,7 @@ use Rattle.rb_scratch.proofs.Public.Made
 use Rattle.rb_scratch.proofs.Public.Made.{IsAllowed, IsMadeAt}
 use Rattle.rb_scratch.proofs.Planned
 use Rattle.rb_scratch.proofs.Planned.{Cancels, IsPlanned}
-use Rattle.rb_scratch.proofs.Public.Tokens.{shows}
+use Rattle.rb_scratch.proofs.Tokens.{shows}
 use Rattle.rb_scratch.proofs.Covered.{covered}
 use Rattle.rb_scratch.proofs.Public.Fits.{IsFit, fit, fresh_name, operation_is, plan_follows, plan_sound, seen_past, shadow_of}
 

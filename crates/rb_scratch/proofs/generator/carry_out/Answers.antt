@@ -9,7 +9,7 @@ use Rattle.rb_shadow.specs.declared.colour.Colour.TheVariants.{Blue as BlueColou
 use Rattle.rb_scratch.specs.Effects.{plan_of_effect}
 use Rattle.rb_scratch.proofs.Public.Errors.{error_is}
 use Rattle.rb_scratch.proofs.Generated
-use Rattle.rb_scratch.proofs.Public.Tokens
+use Rattle.rb_scratch.proofs.Tokens
 use Rattle.rb_scratch.proofs.Public.Makes
 use Rattle.rb_scratch.proofs.Originals
 use Rattle.rb_scratch.proofs.generator.carry_out.Goals as goal

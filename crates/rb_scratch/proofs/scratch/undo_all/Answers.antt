@@ -4,7 +4,7 @@ use Rattle.rb_scratch.proofs.scratch.undo_all.Goals as goal
 
 pub undo-requires : goal.undo-requires
 undo-requires c =
-    let (base, made, tried) = c.requires in
+    let (made, (base, tried)) = c.requires in
     let (left, now) = c.undos.invariant.tried base made tried in
     let last = Tries.last_record base left c.undos.ledger c.undos.undos.parts c.pop.new.self.parts c.in-Some.undo now c.in-Some.ensures in
     (base ++ last.left, last.last, last.entries, last.record_is)

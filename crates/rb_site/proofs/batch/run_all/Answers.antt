@@ -1,5 +1,5 @@
 -- One request more, or what stops the batch.
-use Rattle.std.proofs.Common.{◌∙◌, ◌+◌, ◌<◌, inl, inr, [], ◌∷◌, ◌++◌, ap, length, length-append, refl, subst, sym, Err}
+use Rattle.std.proofs.Common.{◌∙◌, ◌+◌, ◌<◌, inl, inr, [], ◌∷◌, ap, length, length-append, refl, subst, sym, Ok, Err}
 use Rattle.rb_money.specs.Settings.{Settings}
 use Rattle.rb_token.specs.Seen.{Shows}
 use Rattle.rb_token.specs.declared.view.TokenView.{TokenView}
@@ -14,12 +14,13 @@ requests-init c = record {
   same_reference = refl;
   token = refl;
   settings = refl;
-  made = ([], c.requires.none, refl, λ known shows. refl);
+  tried = rw c.requires.empty c.requires.none;
+  all = ap length c.requires.empty;
+  made = λ known shows. ap Ok (sym c.requires.empty);
 }
 
 pub requests-preserved : goal.requests-preserved
 requests-preserved c =
-    let (vs, tried, count, runs) = c.requests.invariant.made in
     let (v, name, added, makes) = c.in-Ok.ensures.ran in
     let P : Settings → Type 0 = λ z. c.run.new.self.token.me < z.sites in
     let Q : TokenView → Type 0 = λ t. t.me < c.requests.scratch.ledger.now.settings.sites in
@@ -28,24 +29,24 @@ requests-preserved c =
       same_reference = c.run.ensures.same_reference ∙ c.requests.invariant.same_reference;
       token = c.run.ensures.token ∙ c.requests.invariant.token;
       settings = c.run.ensures.settings ∙ c.requests.invariant.settings;
-      made = (
-        vs ++ v ∷ [],
-        added.tried c.args.scratch.now.ledger.now.entries vs tried,
-        length-append vs (v ∷ []) ∙ ap (λ n. n + 1) count,
-        λ known shows.
-            run_more c.args.scratch.now.ledger.now.settings c.requests.scratch.ledger.now.settings c.args.scratch.now.token.me
-            c.requests.scratch.token.me c.args.scratch.now.ledger.now.entries c.requests.scratch.ledger.now.entries vs known
-            c.args.requests.now c.requests.index _ v
-            c.requests-test.true c.requests.invariant.settings (ap (λ (t : TokenView). t.me) c.requests.invariant.token) tried.entries
-            (runs known shows)
-            (makes known (subst (λ (t : TokenView). Shows t known) (sym c.requests.invariant.token) shows)),
-      );
+      tried = added.tried c.args.scratch.now.ledger.now.entries c.requests.invariant.tried;
+      all = ap length added.made ∙ length-append c.requests.scratch.made.items (v ∷ []) ∙ ap (λ n. n + 1) c.requests.invariant.all;
+      made = λ known shows.
+          run_more c.args.scratch.now.ledger.now.settings c.requests.scratch.ledger.now.settings c.args.scratch.now.token.me
+          c.requests.scratch.token.me c.args.scratch.now.ledger.now.entries c.requests.scratch.ledger.now.entries
+          c.requests.scratch.made.items known c.args.requests.now c.requests.index _ v
+          c.requests-test.true c.requests.invariant.settings (ap (λ (t : TokenView). t.me) c.requests.invariant.token)
+          c.requests.invariant.tried.entries (c.requests.invariant.made known shows)
+          (makes known (subst (λ (t : TokenView). Shows t known) (sym c.requests.invariant.token) shows))
+          ∙ ap Ok (sym added.made);
     }
 
 pub returns-in-Err-clause-refused : goal.returns-in-Err-clause-refused
 returns-in-Err-clause-refused c =
-    let (vs, tried, count, runs) = c.requests.invariant.made in
-    let more : length vs < length c.args.requests.now = subst (λ n. n < length c.args.requests.now) (sym count) c.requests-test.true in
+    let vs = c.requests.scratch.made.items in
+    let tried = c.requests.invariant.tried in
+    let more : length vs < length c.args.requests.now =
+    subst (λ n. n < length c.args.requests.now) (sym c.requests.invariant.all) c.requests-test.true in
     elim c.why_stopped.ensures [
       | inl e ↦ inl e.1
       | inr e ↦ inr (λ known shows.
@@ -53,8 +54,8 @@ returns-in-Err-clause-refused c =
           c.requests.scratch.token.me c.args.scratch.now.ledger.now.entries c.requests.scratch.ledger.now.entries vs known
           c.args.requests.now c.requests.index _ c.in-Err.fault
           c.requests-test.true c.requests.invariant.settings (ap (λ (t : TokenView). t.me) c.requests.invariant.token) tried.entries
-          (runs known shows)
-          (fault_made c.args.scratch.now.ledger.now.entries vs c.requests.scratch.ledger.now c.requests.scratch.undos.parts
+          (c.requests.invariant.made known shows)
+          (fault_made c.args.scratch.now.ledger.now.entries vs c.requests.scratch.ledger.now _ c.requests.scratch.undos.parts
           c.requests.scratch.token.me known c.args.requests.now _ c.in-Err.fault tried more c.requires.few
           (c.in-Err.ensures.fault known (subst (λ (t : TokenView). Shows t known) (sym c.requests.invariant.token) shows)) e.0)
           ∙ ap Err (sym e.1))

@@ -1,6 +1,5 @@
 -- So far the requests below are made.
-use Rattle.std.proofs.Common.{◌≡◌, ◌<◌, List, length, take, Ok}
-use Rattle.rb_shadow.specs.declared.shadow.Shadow.{Shadow}
+use Rattle.std.proofs.Common.{◌≡◌, ◌<◌, length, take, Ok}
 use Rattle.rb_token.specs.Token.{Token}
 use Rattle.rb_token.specs.Seen.{Shows}
 use Rattle.rb_scratch.specs.Batches.{batch_of}
@@ -13,9 +12,9 @@ invariant-requests l = record {
   same_reference : l.scratch.ledger.ghost_name ≡ l.initial.scratch.ledger.ghost_name;
   token : l.scratch.token ≡ l.initial.scratch.token;
   settings : l.scratch.ledger.now.settings ≡ l.initial.scratch.ledger.now.settings;
-  made : (vs : List Shadow) × IsTried l.initial.scratch.ledger.now.entries vs l.scratch.ledger.now l.scratch.undos.parts
-      × (length vs ≡ l.index)
-      × ((known : Token) → Shows l.initial.scratch.token known
-      → batch_of l.initial.scratch.ledger.now.settings l.initial.scratch.token.me l.initial.scratch.ledger.now.entries known 0
-      (take l.index l.requests) ≡ Ok vs);
+  tried : IsTried l.initial.scratch.ledger.now.entries l.scratch.made.items l.scratch.ledger.now l.scratch.undos.parts;
+  all : length l.scratch.made.items ≡ l.index;
+  made : (known : Token) → Shows l.initial.scratch.token known →
+      batch_of l.initial.scratch.ledger.now.settings l.initial.scratch.token.me l.initial.scratch.ledger.now.entries known 0
+      (take l.index l.requests) ≡ Ok l.scratch.made.items;
 }
