@@ -45,7 +45,7 @@ pub use question::{Question, read_question_to};
 pub use read::config::read_config;
 pub use write::banked::append_sent_message;
 pub use write::config::write_config;
-pub use write::entry::{append_asked_line, append_line, write_line};
+pub use write::entry::{append_asked_line, append_line, append_line_with, write_line};
 pub use write::event::append_event;
 pub use write::reply::{append_reply, append_value, write_reply};
 pub use write::shadow::append_deps;

@@ -1,9 +1,10 @@
 //! Lines of histories, written.
-ghost use Rattle.std.specs.Prelude.{◌≡◌, ◌<◌, ◌++◌, string_bytes, IfOk, OnErr, OnOk};
+ghost use Rattle.std.specs.Prelude.{◌≡◌, ◌<◌, ◌++◌, codes, string_bytes, IfOk, OnErr, OnOk};
 ghost use Rattle.serde_json.specs.Written.{compact_text};
 ghost use Rattle.rb_history.specs.Adds.{Adds};
-ghost use Rattle.rb_history.specs.Entries.{asked_entry_json, entry_json};
-ghost use Rattle.rb_history.specs.Ids.{IsIdOrNone};
+ghost use Rattle.rb_history.specs.Entries.{asked_entry_json, entry_json, event_json};
+ghost use Rattle.rb_history.specs.Ids.{IsIdOrNone, between_if_any};
+ghost use Rattle.rb_history.specs.Replies.{reply_json};
 
 use crate::id::RequestId;
 use crate::keys::spell;
@@ -13,8 +14,25 @@ use crate::write::id::append_id;
 use crate::write::reply::append_value;
 use rb_lines::whole_or_none;
 use rb_money::Config;
-use rb_site::Entry;
+use rb_site::{Entry, Event};
 use std::alloc::{AllocError, Global};
+
+/// The JSON object of an entry with its id, or no bytes, up to its reply.
+fn append_front(
+    out: &mut Vec<u8>,
+    config: &Config,
+    id: &[u8],
+    event: &Event,
+) -> Result<(), AllocError>
+    ensures { Adds result out.old.items out.new.items (codes "{\"event\":"
+        ++ (compact_text (event_json config.now event.now)
+        ++ (between_if_any (codes ",\"id\":\"") id.now (codes "\"") ++ codes ",\"reply\":"))) }
+{
+    append(out, spell!("{" event ":"))?;
+    append_event(out, config, event)?;
+    append_id(out, spell!("," id ":\""), id, "\"")?;
+    append(out, spell!("," reply ":"))
+}
 
 /// The JSON object of an entry with its id, or no bytes, on one line.
 fn append_entry(
@@ -28,11 +46,28 @@ fn append_entry(
     ensures { Adds result out.old.items out.new.items
         (compact_text (asked_entry_json config.now site (record { id = id.now; entry = entry.now }))) }
 {
-    append(out, spell!("{" event ":"))?;
-    append_event(out, config, &entry.event)?;
-    append_id(out, spell!("," id ":\""), id, "\"")?;
-    append(out, spell!("," reply ":"))?;
+    append_front(out, config, id, &entry.event)?;
     append_value(out, &entry.reply)?;
+    append_number(out, spell!("," site ":"), site as u64, "}")
+}
+
+/// The line of an entry with its id, or no bytes, without a line feed. The text of its reply is at hand and is copied,
+/// not written again. An `Err` means out of memory: what was there stays, and more may follow it.
+pub fn append_line_with(
+    out: &mut Vec<u8>,
+    config: &Config,
+    site: u8,
+    id: &[u8],
+    entry: &Entry,
+    reply: &[u8],
+) -> Result<(), AllocError>
+    requires id { IsIdOrNone id.now }
+    requires reply { reply.now ≡ compact_text (reply_json entry.now.reply) }
+    ensures { Adds result out.old.items out.new.items
+        (compact_text (asked_entry_json config.now site (record { id = id.now; entry = entry.now }))) }
+{
+    append_front(out, config, id, &entry.event)?;
+    out.extend_from_slice(reply)?;
     append_number(out, spell!("," site ":"), site as u64, "}")
 }
 
