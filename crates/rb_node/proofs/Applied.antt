@@ -1,5 +1,5 @@
 -- The operations that are ready are applied, one after another, and an answer is written around that.
-use Rattle.std.proofs.Common.{◌≡◌, ℕ, ◌+◌, ◌-◌, ◌<◌, Bool, false, List, [], ◌∷◌, ◌++◌, codes, length, take, arith}
+use Rattle.std.proofs.Common.{◌≡◌, ℕ, ◌+◌, ◌-◌, ◌<◌, Bool, true, false, List, [], ◌∷◌, ◌++◌, codes, length, take, arith}
 use Rattle.std.proofs.Common.{length-append, refl, sym, ap, subst, ◌∙◌, append_assoc, append-nil, inl}
 use Rattle.std.proofs.lemmas.Bool.Decides.{nat_tests}
 use Rattle.std.specs.Prelude.{map, nat_le, None, Result, Ok, Err, MatchResult}
@@ -29,9 +29,9 @@ use Rattle.rb_node.specs.Answers.{AppliesAll, AreReadyInTurn, IsAllApplied, aske
 use Rattle.rb_node.specs.Answers.{reply_kept}
 use Rattle.rb_node.specs.Asked.{SeenAsked, asked_state, known_of, without_ids, with_id, with_more}
 use Rattle.rb_node.specs.LineAnswers.{AddsEvent}
-use Rattle.rb_node.specs.Steps.{Applies, AppliesOne, Steps, StepsKept, without_id}
+use Rattle.rb_node.specs.Steps.{Applies, AppliesOne, Notes, Steps, StepsKept, without_id}
 use Rattle.rb_node.proofs.AnswerTexts.{answer_line, head_text, rest_of_front}
-use Rattle.rb_node.proofs.Recorded.{more-alone, more-none}
+use Rattle.rb_node.proofs.Recorded.{more-alone, more-none, recorded}
 
 -- what is ready is applied: the replies behind a text, the first behind this comma, and the lines of the entries,
 -- none of which may have an id
@@ -141,12 +141,20 @@ spare_falls old mid e reply k l free step =
     let less : length t.history < s.limits.history = below s.limits.history (length t.history) free in
     omega arith
 
--- the operation was applied, and its reply written
-pub applied_one : {A E : Type 0} (r : Result A E) (old new : SeenAsked) (x : OpName) (reply : Reply) (comma a b k l : List ℕ)
-    → Steps old new (Apply x) reply k l → Adds r a b (comma ++ compact_text (reply_json reply))
-    → MatchResult r (λ _. AppliesOne old new x comma a b k l) (λ _. (take (length a) b ≡ a) × (take (length k) l ≡ k))
-applied_one (Ok y) old new x reply comma a b k l step added = record { reply = reply; step = step; text_is = added }
-applied_one (Err y) old new x reply comma a b k l step added = (added, front_of_sum k l _ step.entries_are)
+-- the operation was applied, and its reply written behind the comma
+pub applied_one : {A E : Type 0} (Q : Type 0) (r : Result A E) (all : Bool) (old mid new : SeenAsked) (id : List ℕ) (x : OpName)
+    (reply : Reply) (comma a b c k l : List ℕ) → id ≡ [] → is_full old.settings (asked_state old) ≡ false
+    → mid ≡ with_more old (with_id id (entry (Apply x) reply) ∷ []) → reply ≡ reply_to old.settings (asked_state old) (Apply x)
+    → b ≡ a ++ comma
+    → MatchResult r (λ _. Notes true all mid new id (entry (Apply x) reply) k l × (c ≡ b ++ compact_text (reply_json reply)) × Q)
+    (λ _. (take (length b) c ≡ b) × (take (length k) l ≡ k))
+    → MatchResult r (λ _. AppliesOne old new x comma a c k l) (λ _. (take (length a) c ≡ a) × (take (length k) l ≡ k))
+applied_one Q (Ok y) all old mid new id x reply comma a b c k l none free is given begun h = record {
+  reply = reply;
+  step = recorded all old mid new id (Apply x) reply k l none free is given h.0;
+  text_is = both a b c comma (compact_text (reply_json reply)) begun h.1;
+}
+applied_one Q (Err y) all old mid new id x reply comma a b c k l none free is given begun h = (front_stays a b c comma begun h.0, h.1)
 
 -- all that is ready was applied, and the line ended
 pub closed : {A E : Type 0} (r : Result A E) (old new : SeenAsked) (a b c k l : List ℕ) → AppliesOn [] old new a b k l

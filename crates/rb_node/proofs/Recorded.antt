@@ -29,6 +29,7 @@ use Rattle.rb_site.specs.Seen.{SeenSite, entry, next_site, next_sites, state_of,
 use Rattle.rb_site.specs.Unchanging.{changes_site, reply_if_changes}
 use Rattle.rb_history.specs.Entries.{asked_entry_json, entry_json}
 use Rattle.rb_history.specs.Adds.{Adds}
+use Rattle.rb_history.specs.Replies.{reply_json}
 use Rattle.rb_history.proofs.Public.Appended.{both, front_of_sum, front_stays}
 use Rattle.rb_history.specs.Ids.{AskedEntry, is_refusal, may_be_asked}
 use Rattle.rb_node.specs.Answers.{entry_lines, is_kept, kept_events, line_of, reply_kept}
@@ -379,38 +380,43 @@ stepped-by false false old mid new id e reply entries after h spare noted =
     subst (λ y. StepsKept false old y id e reply entries after) (sym noted.0)
     (subst (λ l. StepsKept false old mid id e reply entries l) (sym noted.1) (step-left-out old mid id e reply entries h))
 
+-- and behind its reply's text
+pub told-step : {A E : Type 0} (F : Type 0) (r : Result A E) (all now : Bool) (old mid new : SeenAsked) (id : List ℕ) (e : Event)
+    (reply : Reply) (before sent messages : List Message) (a b k l : List ℕ)
+    → RecordsIf old mid id e reply now → false ≡ (all && is_full old.settings (asked_state old)) → before ≡ messages
+    → MatchResult r (λ _. Notes now all mid new id (entry e reply) k l × (b ≡ a ++ compact_text (reply_json reply))
+    × (sent ≡ before)) (λ _. F)
+    → MatchResult r (λ _. (y : Reply) × StepsKept all old new id e y k l × (b ≡ a ++ compact_text (reply_json y)) × (sent ≡ messages))
+    (λ _. F)
+told-step F (Ok v) all now old mid new id e reply before sent messages a b k l is spare posted h =
+    (reply, stepped-by all now old mid new id e reply k l is spare h.0, h.1, h.2 ∙ posted)
+told-step F (Err v) all now old mid new id e reply before sent messages a b k l is spare posted h = h
+
 -- if all are recorded and the history is full, each is refused
 pub refused-by : (all : Bool) (old : SeenAsked) (id : List ℕ) (e : Event) (entries : List ℕ)
     → true ≡ (all && is_full old.settings (asked_state old)) → StepsKept all old old id e (Refused HistoryFull) entries entries
 refused-by true old id e entries full = step-full old id e entries (sym full)
 refused-by false old id e entries full = absurd (cc)
 
+-- the reply of a step that adds no entry, behind a text
+pub told : {A E Q : Type 0} (r : Result A E) (P : Reply → Type 0) (reply : Reply) (a b k : List ℕ) → P reply → Q
+    → Adds r a b (compact_text (reply_json reply))
+    → MatchResult r (λ _. (y : Reply) × P y × (b ≡ a ++ compact_text (reply_json y)) × Q)
+    (λ _. (take (length a) b ≡ a) × (take (length k) k ≡ k))
+told (Ok v) P reply a b k p q h = (reply, p, h, q)
+told (Err v) P reply a b k p q h = (h, stayed k)
+
 -- and sends nothing
 pub sends-none : (all : Bool) (s : Settings) (t : ModelSite) (e : Event) → true ≡ (all && is_full s t) → sent_at s t e ≡ []
 sends-none true s t e full = ap (λ b. cond b [] (sent_by (outcome_of s t e))) (sym full)
 sends-none false s t e full = absurd (cc)
 
--- a text that is added, or nothing is
-pub whole-adds : {A E : Type 0} (r : Result A E) (old new text : List ℕ) → OnOk r (new ≡ old ++ text) → OnErr r (new ≡ old)
-    → Adds r old new text
-whole-adds (Ok x) old new text h k = h
-whole-adds (Err x) old new text h k = ap (take (length old)) k ∙ stayed old
-
--- the line of an entry that may have an id
-pub may-tagged : {A E : Type 0} (r : Result A E) (s : Settings) (me : ℕ) (id : List ℕ) (x : Entry) (old new : List ℕ)
-    → true ≡ may_be_asked x → OnOk r (new ≡ old ++ compact_text (asked_entry_json s me (record { id = id; entry = x })))
-    → OnErr r (new ≡ old) → Adds r old new (compact_text (asked_entry_json s me (with_id id x)))
-may-tagged r s me id x old new may h k =
-    let same : with_id id x ≡ tagged-by id x = ap (λ b. tagged-by (cond b id []) x) (sym may) in
-    subst (λ y. Adds r old new (compact_text (asked_entry_json s me y))) (sym same) (whole-adds r old new _ h k)
-
--- and of one that may have none
-pub none-tagged : {A E : Type 0} (r : Result A E) (s : Settings) (me : ℕ) (id : List ℕ) (x : Entry) (old new : List ℕ)
-    → false ≡ may_be_asked x → OnOk r (new ≡ old ++ compact_text (entry_json s me x))
-    → OnErr r (new ≡ old) → Adds r old new (compact_text (asked_entry_json s me (with_id id x)))
-none-tagged r s me id x old new none h k =
-    subst (λ y. Adds r old new (compact_text (asked_entry_json s me y))) (sym (with-unasked id x (sym none)))
-    (whole-adds r old new (compact_text (entry_json s me x)) h k)
+-- the line of an entry, by whether it may have an id
+pub tagged : {A E : Type 0} (r : Result A E) (s : Settings) (me : ℕ) (id : List ℕ) (x : Entry) (old new : List ℕ) (may : Bool)
+    → may ≡ may_be_asked x → Adds r old new (compact_text (asked_entry_json s me (tagged-by (cond may id []) x)))
+    → Adds r old new (compact_text (asked_entry_json s me (with_id id x)))
+tagged r s me id x old new may is h =
+    subst (λ (b : Bool). Adds r old new (compact_text (asked_entry_json s me (tagged-by (cond b id []) x)))) is h
 
 -- the line of a recorded event's entry, with its line feed
 pub noted-line : {A E : Type 0} (r : Result A E) (recorded all : Bool) (old new : SeenAsked) (id : List ℕ) (x : Entry) (config : Settings)
@@ -459,3 +465,10 @@ recorded-short (Ok v) inside old new x config me before sent entries added after
 )
 recorded-short (Err v) inside old new x config me before sent entries added after seen kept is number line short fed now =
     front_of_sum entries after _ (both entries added after _ _ line fed)
+
+-- the line of an entry was added behind its reply's text
+pub finished : {A E : Type 0} (r : Result A E) (P Q : Type 0) (a b text k l : List ℕ) → b ≡ a ++ text
+    → MatchResult r (λ _. P × Q) (λ _. take (length k) l ≡ k)
+    → MatchResult r (λ _. P × (b ≡ a ++ text) × Q) (λ _. (take (length a) b ≡ a) × (take (length k) l ≡ k))
+finished (Ok v) P Q a b text k l is h = (h.0, is, h.1)
+finished (Err v) P Q a b text k l is h = (front_of_sum a b text is, h)

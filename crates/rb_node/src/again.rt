@@ -14,7 +14,7 @@ use crate::known_request::KnownRequest;
 use crate::resend::push_operations;
 use crate::{Node, Records};
 use rb_history::write::append::{append, append_number};
-use rb_history::{LineFault, RequestId, spell};
+use rb_history::{LineFault, RequestId, append_value, spell};
 use rb_kit::List;
 use rb_lines::whole_or_none;
 use rb_money::{OTHER_BANK_REFUSED, OTHER_REQUEST_REFUSED};
@@ -93,13 +93,8 @@ impl<M: Records> Node<M> {
             spell!("{" again ":true," reply ":"),
             id,
         )?;
-        append_rest(
-            out,
-            &self.config,
-            self.site.bank(),
-            &reply,
-            messages.as_slice(),
-        )?;
+        append_value(out, &reply)?;
+        append_rest(out, &self.config, self.site.bank(), messages.as_slice())?;
         append(out, "]}\n")
     }
 

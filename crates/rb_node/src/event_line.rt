@@ -1,6 +1,6 @@
 //! The line of an event, answered. The answer is written after those before it, in the order in which its parts come
-//! about, and not made apart and copied. If memory runs out on the way, answers and entries are cut back to what they
-//! were.
+//! about, and not made apart and copied; the entry's line copies the reply out of it. If memory runs out on the way,
+//! answers and entries are cut back to what they were.
 ghost use Rattle.std.specs.Prelude.{◌≡◌, ◌++◌, codes, List, ℕ, Some, None, false, map, length, take, Err, IfErr};
 ghost use Rattle.std.specs.Prelude.{IfNone, IfSome};
 ghost use Rattle.std.specs.Prelude.{OnErr, OnOk, MatchOption, MatchResult, true};
@@ -10,7 +10,6 @@ ghost use Rattle.serde_json.specs.View.{items_of};
 ghost use Rattle.serde_json.specs.Written.{compact_text, items_text};
 ghost use Rattle.rb_site.specs.Events.{is_full};
 ghost use Rattle.rb_history.specs.Adds.{Adds};
-ghost use Rattle.rb_history.specs.Replies.{reply_json};
 ghost use Rattle.rb_history.specs.Banks.{sent_json};
 ghost use Rattle.rb_history.specs.Ids.{IsIdOrNone, between_if_any};
 ghost use Rattle.rb_node.specs.Answers.{IsAllApplied, asked_event_on, messages_json};
@@ -18,18 +17,16 @@ ghost use Rattle.rb_site.specs.Ready.{IsNextName};
 ghost use Rattle.rb_node.specs.Answers.{other_bank_on};
 ghost use Rattle.rb_node.specs.Asked.{asked_state, known_of};
 ghost use Rattle.rb_node.specs.LineAnswers.{AddsEvent, IsLineAnswer, question_on};
-ghost use Rattle.rb_node.specs.Steps.{Applies, AppliesOne};
+ghost use Rattle.rb_node.specs.Steps.{Applies};
 
 use crate::again::append_other_bank;
 use crate::{Node, Records};
 use rb_history::write::append::append;
-use rb_history::{
-    BankName, LineFault, RequestId, append_sent_message, append_value, read_event_to, spell,
-};
+use rb_history::{BankName, LineFault, RequestId, append_sent_message, read_event_to, spell};
 use rb_lines::{text_on, whole_or_none};
 use rb_money::Config;
 use rb_shadow::OpName;
-use rb_site::{Event, Message, Reply};
+use rb_site::{Event, Message};
 use std::alloc::AllocError;
 
 /// The messages, each as the event of the sites that it goes to, with the closing bracket of their list.
@@ -75,19 +72,16 @@ pub(crate) fn append_answer_head(
     append(out, spell!("\"," reply ":"))
 }
 
-/// The reply of an answer, the messages, and the bracket that opens the list of what follows.
+/// What follows the reply of an answer: the messages, and the bracket that opens the list of what is applied then.
 pub(crate) fn append_rest(
     out: &mut Vec<u8>,
     config: &Config,
     bank: &BankName,
-    reply: &Reply,
     sent: &[Message],
 ) -> Result<(), AllocError>
-    ensures { Adds result out.old.items out.new.items (compact_text (reply_json reply.now)
-        ++ (codes ",\"sends\":" ++ (compact_text (messages_json config.now bank.now sent.now)
-        ++ codes ",\"then\":["))) }
+    ensures { Adds result out.old.items out.new.items (codes ",\"sends\":"
+        ++ (compact_text (messages_json config.now bank.now sent.now) ++ codes ",\"then\":[")) }
 {
-    append_value(out, reply)?;
     if sent.is_empty() {
         return append(out, spell!("," sends ":[]," then ":["));
     }
@@ -130,26 +124,6 @@ impl<M: Records> Node<M> {
         append(text, "]}\n")
     }
 
-    /// Applies the operation of a name, adds its reply after a text, and adds the line of its entry.
-    fn apply_one(
-        &mut self,
-        name: OpName,
-        comma: &str,
-        text: &mut Vec<u8>,
-        entries: &mut Vec<u8>,
-    ) -> Result<(), AllocError>
-        requires { is_full self.old.site.settings (asked_state self.old.site) ≡ false }
-        ensures { MatchResult result
-            (λ _. AppliesOne self.old.site self.new.site name comma.now text.old.items text.new.items entries.old.items
-            entries.new.items)
-            (λ _. (take (length text.old.items) text.new.items ≡ text.old.items)
-            × (take (length entries.old.items) entries.new.items ≡ entries.old.items)) }
-    {
-        let reply = self.step_within_limit(Event::Apply(name), entries)?;
-        append(text, comma)?;
-        append_value(text, &reply)
-    }
-
     /// The name of the operation that is to be applied next: the first, by home, colour and number, of those that are
     /// held and whose past is applied. `None` if no operation is ready, or the history is full.
     fn ready(&mut self) -> Option<OpName>
@@ -179,15 +153,9 @@ impl<M: Records> Node<M> {
             (λ _. (take (length text.old.items) text.new.items ≡ text.old.items)
             × (take (length entries.old.items) entries.new.items ≡ entries.old.items)) }
     {
-        let reply = self.step(id, event, entries)?;
         append_answer_head(text, "{", spell!("{" reply ":"), id)?;
-        append_rest(
-            text,
-            &self.config,
-            self.site.bank(),
-            &reply,
-            self.sent.as_slice(),
-        )?;
+        self.step(id, event, text, entries)?;
+        append_rest(text, &self.config, self.site.bank(), self.sent.as_slice())?;
         self.apply_ready(text, entries)
     }
 

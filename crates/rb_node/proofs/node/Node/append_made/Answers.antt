@@ -12,10 +12,16 @@ use Rattle.rb_node.specs.declared.sent_entry.Sending.TheVariants.{Operations}
 use Rattle.rb_node.proofs.AnswerTexts.{again_line, head_text, rest_of_front}
 use Rattle.rb_node.proofs.node.Node.append_made.Goals as goal
 
+pub returns-in_err-append_value : goal.returns-in_err-append_value
+returns-in_err-append_value g c = failed c.from_residual-in_err-append_value.result c.args.out.now.items
+    c.append_answer_head.new.out.items c.append_value.new.out.items _ _ c.from_residual-in_err-append_value.ensures.0
+    c.in_ok-append_answer_head.ensures.added c.in_err-append_value.ensures
+
 pub returns-in_err-append_rest : goal.returns-in_err-append_rest
 returns-in_err-append_rest g c = failed c.from_residual-in_err-append_rest.result c.args.out.now.items
-    c.append_answer_head.new.out.items c.append_rest.new.out.items _ _ c.from_residual-in_err-append_rest.ensures.0
-    c.in_ok-append_answer_head.ensures.added c.in_err-append_rest.ensures
+    c.append_value.new.out.items c.append_rest.new.out.items _ _ c.from_residual-in_err-append_rest.ensures.0
+    (both c.args.out.now.items c.append_answer_head.new.out.items c.append_value.new.out.items _ _
+    c.in_ok-append_answer_head.ensures.added c.in_ok-append_value.ensures) c.in_err-append_rest.ensures
 
 pub returns : goal.returns
 returns g c =
@@ -38,7 +44,8 @@ returns g c =
     let head = head_text (codes "{\"again\":true,") id in
     let two = both old c.append_answer_head.new.out.items c.append_rest.new.out.items head
     (rest_of_front c.self.inside.config c.bank.result.now c.in_ok-reply.reply c.as_slice-2.result.now)
-    c.in_ok-append_answer_head.ensures.added c.in_ok-append_rest.ensures in
+    c.in_ok-append_answer_head.ensures.added (both c.append_answer_head.new.out.items c.append_value.new.out.items
+    c.append_rest.new.out.items _ _ c.in_ok-append_value.ensures c.in_ok-append_rest.ensures) in
     then c.append.result old c.append_rest.new.out.items c.append.new.out.items
     (head ++ rest_of_front c.self.inside.config c.bank.result.now c.in_ok-reply.reply c.as_slice-2.result.now)
     (codes "]}\n") _ two c.append.ensures
