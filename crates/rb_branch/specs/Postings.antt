@@ -38,8 +38,7 @@ given t = (t.to, t.message)
 abbrev pub ArePosted : ℕ → ℕ → List Message → List Tried → Type 0
 ArePosted home sites posted ts = map given ts ≡ flat_map (λ m. for_each m (addressees home sites m)) posted
 
--- the links' refusals are counted, and there is memory for all tries of a call
-pub record IsPosting (ts : List Tried) (capacity unsent : ℕ) : Type 0 where
+-- the links' refusals are counted, and there are no more tries than a call has
+pub record IsPosting (ts : List Tried) (unsent : ℕ) : Type 0 where
   pub counted : unsent ≡ refusals ts
   pub few : length ts ≤ MOST_TRIES
-  pub room : MOST_TRIES ≤ capacity

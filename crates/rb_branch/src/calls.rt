@@ -3,7 +3,6 @@ ghost use Rattle.std.specs.Prelude.{◌≡◌, Err, IfOk, OnErr};
 ghost use Rattle.rb_branch.specs.Seats.{CannotCall, HasOneMore};
 ghost use Rattle.rb_branch.specs.declared.call_fault.CallFault.TheVariants.{HistoryFull};
 
-use crate::posting::Posting;
 use crate::{Branch, CallFault, Entries, Gate, Outbox, Seat};
 use rb_kit::List;
 use rb_money::Place;
@@ -88,15 +87,8 @@ impl<E: Entries, R: Ledger, G: Gate + Drop> Branch<E, R, G> {
         ensures err { OnErr result (seat.new ≡ seat.old) }
         ensures full { result ≡ Err HistoryFull → CannotCall E.settings seat.old }
     {
-        let mut posting = Posting::open(self.alloc)?;
         let (number, posted) = self.call(rt, seat, event)?;
-        outbox.post(
-            rt,
-            seat.site(),
-            self.sites(),
-            posted.as_slice(),
-            &mut posting,
-        );
+        let posting = outbox.post(rt, seat.site(), self.sites(), posted.as_slice());
         seat.set_unsent(posting.unsent());
         Ok(number)
     }

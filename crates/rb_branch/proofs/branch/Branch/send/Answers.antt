@@ -9,9 +9,9 @@ returns-clause-ok g c =
     one_with_unsent c.args.seat.now c.call.new.seat c.set_unsent.new.self (λ e. e ≡ c.args.event) _ c.unsent.result
     one c.set_unsent.ensures
 
-pub post-requires-clause-letters : goal.post-requires-clause-letters
-post-requires-clause-letters g c = rw c.as_slice.ensures.value (call_sends _ _ _ _ _ _ c.in_ok-number.ensures.ok)
+pub post-posting-requires-clause-letters : goal.post-posting-requires-clause-letters
+post-posting-requires-clause-letters g c = rw c.as_slice.ensures.value (call_sends _ _ _ _ _ _ c.in_ok-number.ensures.ok)
 
-pub post-requires-clause-few : goal.post-requires-clause-few
-post-requires-clause-few g c =
+pub post-posting-requires-clause-few : goal.post-posting-requires-clause-few
+post-posting-requires-clause-few g c =
     (rw c.as_slice.ensures.value (call_few _ _ _ _ _ _ c.in_ok-number.ensures.ok), c.sites.ensures.few)
