@@ -1,18 +1,21 @@
 -- A desk with one event more, and a seat with its receipt.
-use Rattle.std.proofs.Common.{◌≡◌, ◌∙◌, ◌<◌, ◌≤◌, ◌+◌, ◌-◌, ℕ, List, All, length, length-append, sym, ap, subst, arith, [], ◌∷◌, ◌++◌}
-use Rattle.std.proofs.Common.{get_or, set, zero, suc, refl, inl, inr}
+use Rattle.std.proofs.Common.{◌≡◌, ◌∙◌, ◌<◌, ◌≤◌, ◌+◌, ◌-◌, ◌^◌, ℕ, List, All, length, length-append, sym, ap, subst, arith, [], ◌∷◌, ◌++◌}
+use Rattle.std.proofs.Common.{get_or, set, zero, suc, false, refl, inl, inr}
 use Rattle.std.proofs.lemmas.List.{length-set}
-use Rattle.std.proofs.lemmas.List.Elements.{All-append, All-cons, All-nil, All-set}
+use Rattle.std.proofs.lemmas.List.Elements.{All-push, All-set}
 use Rattle.rb_money.specs.Settings.{Settings}
 use Rattle.rb_site.specs.declared.event.Event.{Event}
+use Rattle.rb_site.specs.declared.event.Event.TheVariants.{Receive}
 use Rattle.rb_site.specs.declared.message.Message.{Message}
-use Rattle.rb_site.specs.Events.{first_site, reply_to, sent_at}
-use Rattle.rb_site.specs.Seen.{SeenSite, Replays, state_of, stepped}
+use Rattle.rb_site.specs.Events.{is_full, reply_to, sent_at}
+use Rattle.rb_site.specs.Seen.{SeenSite, state_of, stepped}
 use Rattle.rb_branch.specs.Seats.{HasOneMore, IsCall, IsDesk, IsOneOf, IsSeat, IsSiteMessage, IsSiteReply, Records, SeenSeat, SetsUnsent}
 use Rattle.rb_branch.specs.Seats.{receipt}
 use Rattle.rb_branch.specs.declared.limits.TheConstants.{MOST_RECEIPTS}
 use Rattle.rb_scratch.specs.declared.request.TheConstants.{MOST_REQUESTS}
-use Rattle.rb_site.proofs.Public.Outcomes.{sent_few}
+use Rattle.rb_site.proofs.Public.Outcomes.{room_left, sent_few}
+use Rattle.rb_site.proofs.Public.Seen
+use Rattle.rb_branch.proofs.ClosedReports.{kept}
 use Rattle.rb_branch.specs.declared.receipt.Receipt.{Receipt}
 
 -- a seat as clients see it
@@ -45,18 +48,19 @@ one_receipt x y e rs rs' n m is before now =
 
 -- one event more at the desk
 pub desk_more : (s : Settings) (x y : SeenSite) (p a p' a' : ℕ) (e : Event) → IsDesk s x p a → y ≡ stepped x e
-    → Replays y.settings (first_site y.me) y.entries → length y.entries ≤ y.settings.limits.history
-    → a' ≡ a + 1 → p' ≡ p → IsDesk s y p' a'
-desk_more s x y p a p' a' e desk step replays room more part =
-    let same : y.settings ≡ s = ap (λ (z : SeenSite). z.settings) step ∙ desk.settings in
-    let len = ap (λ (z : SeenSite). length z.entries) step ∙ length-append x.entries (_ ∷ []) in record {
-      settings = same;
-      within = rw (ap (λ (z : SeenSite). z.me) step) desk.within;
-      replays = subst (λ (t : Settings). Replays t (first_site y.me) y.entries) same replays;
-      room = subst (λ (t : Settings). length y.entries ≤ t.limits.history) same room;
+    → is_full x.settings (state_of x) ≡ false → length y.entries < 2 ^ 32 → a' ≡ a + 1 → p' ≡ p → IsDesk s y p' a'
+desk_more s x y p a p' a' e desk step free few more part =
+    let was = kept s x p a desk in
+    let now = Seen.replayed-stepped x e (room_left x was free) was in
+    subst (λ (t : Settings). IsDesk t y p' a') desk.settings (subst (λ (z : SeenSite). IsDesk x.settings z p' a') (sym step) (record {
+      settings = refl;
+      within = now.within;
+      replays = now.replays;
+      room = now.room;
+      few = subst (λ (z : SeenSite). length z.entries < 2 ^ 32) step few;
       one_part = part ∙ desk.one_part;
-      counted = omega (arith, more, desk.counted, len);
-    }
+      counted = more ∙ ap (λ n. n + 1) desk.counted ∙ sym (length-append x.entries (_ ∷ []));
+    }))
 
 -- one receipt more at the seat, which has what the site answers
 pub seat_more : (s : Settings) (x y : SeenSite) (site p a p' a' q b : ℕ) (e : Event) (rs rs' : List Receipt)
@@ -78,7 +82,7 @@ seat_more s x y site p a p' a' q b e rs rs' desk seat me few step is more part =
       one_part = part ∙ seat.one_part;
       counted = omega (arith, more, seat.counted, len);
       few = omega (arith, len, few);
-      answered = subst (All P) (sym is) (All-append P rs (last ∷ []) seat.answered (All-cons P last [] one (All-nil P)));
+      answered = subst (All P) (sym is) (All-push P rs last seat.answered one);
     }
 
 -- the event and its receipt, as clients see them
@@ -106,6 +110,11 @@ records_one x y e a b n posted P h p = record {
   event_is = p;
   number_is = h.number_is;
 }
+
+-- a message that came is one receipt more
+pub received : {x y : SeenSite} {m : Message} {a b : SeenSeat} {n : ℕ} {sent : List Message} → Records x y (Receive m) a b n sent
+    → HasOneMore a b (λ e. e ≡ Receive m) n
+received {x} {y} {m} {a} {b} {n} {sent} h = records_one x y (Receive m) a b n sent (λ e. e ≡ Receive m) h refl
 
 -- an event that is recorded at some site of the configuration is one receipt more
 pub call_one : (s : Settings) (e : Event) (a b : SeenSeat) (n : ℕ) (sent : List Message) (P : Event → Type 0)

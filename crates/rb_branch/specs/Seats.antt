@@ -1,5 +1,5 @@
 -- The effect of a call on a desk and on a seat.
-use Rattle.std.specs.Prelude.{◌≡◌, ◌≢◌, ◌⊎◌, ℕ, ◌+◌, ◌≤◌, ◌<◌, Bool, true, false, Option, Some, None, zero, suc}
+use Rattle.std.specs.Prelude.{◌≡◌, ◌≢◌, ◌⊎◌, ℕ, ◌+◌, ◌≤◌, ◌<◌, ◌^◌, Bool, true, false, Option, Some, None, zero, suc}
 use Rattle.std.specs.Prelude.{slice_get, drop, List, [], ◌∷◌, ◌++◌, length, All}
 use Rattle.rb_money.specs.Settings.{Settings}
 use Rattle.rb_money.specs.declared.limits.TheConstants.{MOST_SITES}
@@ -24,13 +24,14 @@ pub record SeenSeat : Type 0 where
   pub site : ℕ
   pub receipts : List Receipt
 
--- a desk's site is one of the branch's configuration, its history replays and is within its limit; its share of the
--- entries is one part, whose amount is their number
+-- a desk's site is one of the branch's configuration, its history replays, is within its limit and has a length of 32
+-- bits; its share of the entries is one part, whose amount is their number
 pub record IsDesk (s : Settings) (site : SeenSite) (parts amount : ℕ) : Type 0 where
   pub settings : site.settings ≡ s
   pub within : site.me < s.sites
   pub replays : Replays s (first_site site.me) site.entries
   pub room : length site.entries ≤ s.limits.history
+  pub few : length site.entries < 2 ^ 32
   pub one_part : parts ≡ 1
   pub counted : amount ≡ length site.entries
 

@@ -110,8 +110,7 @@ fn note(
     ensures here { IfOk result (λ _. me ≡ site.old.me) }
     ensures few { IfOk result (λ _. length receipts.old.items < MOST_RECEIPTS) }
     ensures step { IfOk result (λ _. site.new ≡ stepped site.old event) }
-    ensures replays { IfOk result (λ _. Replays site.new.settings (first_site site.new.me) site.new.entries) }
-    ensures room { IfOk result (λ _. length site.new.entries ≤ site.new.settings.limits.history) }
+    ensures room { IfOk result (λ _. is_full site.old.settings (state_of site.old) ≡ false) }
     ensures receipt { IfOk result (λ _. receipts.new.items ≡ receipts.old.items
         ++ receipt (length site.new.entries) event (reply_to site.old.settings (state_of site.old) event) 0 ∷ []) }
     ensures posted { IfOk result (λ p. p.items ≡ sent_at site.old.settings (state_of site.old) event) }
@@ -126,8 +125,6 @@ fn note(
     let mut posted = Vec::new(*receipts.allocator());
     let mut reply = Reply::Refused(Refusal::HistoryFull);
     site.answer(&event, &mut posted, &mut reply)?;
-    // For a fact alone: the history replays.
-    let _replays = site.history();
     let number = site.len();
     receipts.push_reserved(Receipt {
         number,
@@ -210,9 +207,6 @@ impl<E: Entries> Desk<E> {
         ensures share { (result.1.parts ≡ 1) × (result.1.amount ≡ length result.0.history.items) }
     {
         let Desk { site, share } = self;
-        // For facts alone: the history's length is a u32, and the history replays.
-        let _len = site.len();
-        let _history = site.history();
         (site.close(), share)
     }
 }

@@ -48,9 +48,7 @@ impl ReturnedSeat {
         ensures here { result.now ≡ slice_index_or self.now.receipts index result.now }
         ensures fits { index + 1 < 2 ^ 64 }
     {
-        // For a fact alone: there are fewer than 2 ^ 64 receipts.
-        let _len = self.receipts.len();
-        &self.receipts[index]
+        &self.receipts()[index]
     }
 
     /// Whether the seat is of this site, and its receipt at this index has the number.

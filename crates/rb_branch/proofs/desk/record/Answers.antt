@@ -17,7 +17,7 @@ invariant_of-desk-2 g c =
     c.from-made.ensures ∙ one_entry c.desk.inside.site c.note.new.site c.args.event _ _ c.in_ok-posted.ensures.step
     c.len-entries.ensures c.len.ensures in
     desk_more g.E.Entries.settings c.desk.inside.site c.note.new.site _ _ _ _ c.args.event c.desk.invariant c.in_ok-posted.ensures.step
-    c.in_ok-posted.ensures.replays c.in_ok-posted.ensures.room
+    c.in_ok-posted.ensures.room (rw (← c.len.ensures) c.len.type_inv)
     (c.count.ensures.entry.0 ∙ ap (λ n. c.desk.inside.share.amount + n) one) c.count.ensures.entry.1
 
 pub invariant_of-seat-2 : goal.invariant_of-seat-2
