@@ -11,7 +11,7 @@ use Rattle.rb_branch.specs.Gathered.{IsGathered, IsInterleaving, claim, claims, 
 use Rattle.rb_branch.specs.Owners.{AreDistinct, AreOwners, HoldsReceipt, HasWithin, IsHolder, OwnedWithin, PutsAll, has_number, is_next}
 use Rattle.rb_branch.specs.Seats.{SeenSeat}
 use Rattle.rb_site.proofs.Public.Lists.{map_at}
-use Rattle.rb_branch.proofs.Merging.{get_set_other}
+use Rattle.rb_site.proofs.Public.Places.{get_set_other, get_set_same}
 
 -- ---- the table with one seat more
 
@@ -97,11 +97,6 @@ none_holds site i seats next owners v all at not distinct k h =
 
 -- ---- numbers of an interleaving are there once
 
-get_set_now : {X : Type 0} (xs : List X) (i : ℕ) (x y : X) → slice_get xs i ≡ Some y → slice_get (set xs i x) i ≡ Some x
-get_set_now [] i x y at = cc
-get_set_now (z ∷ xs) zero x y at = refl
-get_set_now (z ∷ xs) (suc i) x y at = get_set_now xs i x y at
-
 -- an item that is in the list at this place
 pub record Occurs {X : Type 0} (lists : List (List X)) (j : ℕ) (x : X) : Type 0 where
   pub items : List X
@@ -121,14 +116,14 @@ left_or_head {X} lists k head rest j x at h =
           let same : h.items ≡ head ∷ rest = cc (there, at) in
           let Q : List X → Type 0 = λ l. slice_get l h.index ≡ Some x in
           by e.1 h.index (subst Q same h.at))
-      | inr e ↦ inr (record { items = h.items; index = h.index; there = get_set_other lists k j rest h.items e.1 h.there; at = h.at })
+      | inr e ↦ inr (record { items = h.items; index = h.index; there = get_set_other lists k j rest e.1 ∙ h.there; at = h.at })
     ]
   where
     by : j ≡ k → (p : ℕ) → slice_get (head ∷ rest) p ≡ Some x → ((j ≡ k) × (x ≡ head)) ⊎ Occurs (set lists k rest) j x
     by e zero q = inl (e, (cc))
     by e (suc p) q =
         let P : ℕ → Type 0 = λ n. slice_get (set lists k rest) n ≡ Some rest in
-        inr (record { items = rest; index = p; there = subst P (sym e) (get_set_now lists k rest (head ∷ rest) at); at = q })
+        inr (record { items = rest; index = p; there = subst P (sym e) (get_set_same lists k (head ∷ rest) rest at); at = q })
 
 numbers_from : (lists : List (List (ℕ × Entry))) (m : ℕ) (es : List Entry) (j : ℕ) (x : ℕ × Entry) → IsInterleaving lists (numbered m es)
     → Occurs lists j x → m ≤ x.0

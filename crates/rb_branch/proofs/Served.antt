@@ -3,13 +3,16 @@ use Rattle.std.proofs.Common.{◌≡◌, ℕ, zero, suc, ◌+◌, ◌-◌, ◌<�
 use Rattle.std.proofs.Common.{length-append, append_assoc, append-nil, get_or, set, remove, Bool, true, false, true≢false, Some, ◌⊎◌, inl}
 use Rattle.std.proofs.Common.{None, inr}
 use Rattle.std.specs.Prelude.{All, OnErr, IfNone, MatchBool, MatchOption, Option, Result, Ok, Err, slice_get, drop}
+use Rattle.std.proofs.lemmas.Bool.Decides.{eqb_tells}
 use Rattle.std.proofs.lemmas.List.{drop-append-le}
+use Rattle.std.proofs.lemmas.Option.{slice_get-get_or}
 use Rattle.std.proofs.lemmas.List.Elements.{All-append, All-cons, All-nil}
 use Rattle.std.proofs.Math.Seq.{set-append_seam, get_or-append_seam}
 use Rattle.rb_money.specs.Settings.{Settings}
 use Rattle.rb_site.specs.declared.event.Event.{Event}
 use Rattle.rb_site.specs.declared.event.Event.TheVariants as ev
 use Rattle.rb_site.specs.declared.message.Message.{Message}
+use Rattle.rb_site.proofs.Public.Lists.{get_front}
 use Rattle.rb_branch.specs.declared.receipt.Receipt.{Receipt}
 use Rattle.rb_branch.specs.Seats.{Any, AreRefused, HasOneMore, HasServed, IsApply, IsOfSiteMessage, IsOneOf, IsServed, IsSiteMessage}
 use Rattle.rb_branch.specs.Seats.{NoneLost, SeenSeat, WasReceived}
@@ -27,15 +30,8 @@ same_message m n h = cc
 abbrev Served : Receipt → Type 0
 Served r = IsServed r.event
 
-served_nothing : All Served []
-served_nothing k d h = absurd (omega arith)
-
-served_single : (r : Receipt) → Served r → All Served (r ∷ [])
-served_single r s zero d h = s
-served_single r s (suc k) d h = absurd (omega arith)
-
-sent_single : {s : Settings} (r : Receipt) → IsOfSiteMessage s r → All (IsOfSiteMessage s) (r ∷ [])
-sent_single {s} r h = All-cons (IsOfSiteMessage s) r [] h (All-nil (IsOfSiteMessage s))
+single : {X : Type 0} (P : X → Type 0) (x : X) → P x → All P (x ∷ [])
+single P x h = All-cons P x [] h (All-nil P)
 
 -- an item of one of two lists
 some_left : {X : Type 0} (P : X → Type 0) (xs ys : List X) → Any P xs → Any P (xs ++ ys)
@@ -143,7 +139,7 @@ none_more : {s : Settings} (a : SeenSeat) (k l : List Message) → NoneLost k l 
 none_more {s} a k l lost = record {
   more = [];
   seat = ap (λ (xs : List Receipt). record a { receipts = xs }) (sym (append-nil a.receipts));
-  served = served_nothing;
+  served = All-nil Served;
   sent = All-nil (IsOfSiteMessage s);
   count_is = refl;
   none_lost = lost;
@@ -168,11 +164,11 @@ serves_taken a b k l m false h taken = serves_same a b b k l m h refl taken
 
 -- the receipt of an application
 served_apply : {s : Settings} (b c : SeenSeat) (kept : List Message) (n : ℕ) → HasOneMore b c IsApply n → HasServed s b c kept kept 1
-served_apply b c kept n h = record {
+served_apply {s} b c kept n h = record {
   more = h.last ∷ [];
   seat = h.seat;
-  served = served_single h.last (applied h.last.event h.event_is);
-  sent = sent_single h.last (λ m same. absurd (apart h.last.event m h.event_is same));
+  served = single Served h.last (applied h.last.event h.event_is);
+  sent = single (IsOfSiteMessage s) h.last (λ m same. absurd (apart h.last.event m h.event_is same));
   count_is = refl;
   none_lost = record {
     kept = λ m i. inl i;
@@ -199,8 +195,8 @@ served_message : {s : Settings} (b c : SeenSeat) (old new : List Message) (m : M
 served_message {s} b c old new m n h sent lost = record {
   more = h.last ∷ [];
   seat = h.seat;
-  served = served_single h.last (subst IsServed (sym h.event_is) tt);
-  sent = sent_single h.last (λ x same. subst (IsSiteMessage s) (same_message m x (sym h.event_is ∙ same)) sent);
+  served = single Served h.last (subst IsServed (sym h.event_is) tt);
+  sent = single (IsOfSiteMessage s) h.last (λ x same. subst (IsSiteMessage s) (same_message m x (sym h.event_is ∙ same)) sent);
   count_is = refl;
   none_lost = lost;
 }
@@ -269,26 +265,15 @@ pub refuses_next : (k n : ℕ) (kept : List Message) (b c : SeenSeat) (m : Messa
 refuses_next k n kept b c m full at h found is from few all i x within here =
     let rs = drop from b.receipts in
     let now = since_one b c (λ e. e ≡ ev.Receive m) n from few h in
-    elim (lt_or_same i k within) [
-      | inl less ↦ subst (Any (Refuses x)) (sym now) (some_left (Refuses x) rs (h.last ∷ []) (all i x less here))
-      | inr same ↦
-          let one : x ≡ m = some_same (sym here ∙ ap (slice_get kept) same ∙ at) in
+    elim (eqb_tells i k) [
+      | inl same ↦
+          let one : m ≡ x = cc (here, at, same.1) in
           let reply : is_full_inbox h.last.reply ≡ true = sym (last_reply b c (λ e. e ≡ ev.Receive m) n full h found) ∙ is in
-          subst (Any (Refuses x)) (sym now)
-          (some_right (Refuses x) rs (h.last ∷ []) (inl (h.event_is ∙ ap ev.Receive (sym one), reply)))
+          subst (Any (Refuses x)) (sym now) (some_right (Refuses x) rs (h.last ∷ []) (inl (h.event_is ∙ ap ev.Receive one, reply)))
+      | inr apart ↦
+          let less : i < k = omega (arith, within, apart.1) in
+          subst (Any (Refuses x)) (sym now) (some_left (Refuses x) rs (h.last ∷ []) (all i x less here))
     ]
-  where
-    lt_or_same : (i k : ℕ) → i < k + 1 → (i < k) ⊎ (i ≡ k)
-    lt_or_same zero zero h = inr refl
-    lt_or_same zero (suc k) h = inl (omega arith)
-    lt_or_same (suc i) zero h = absurd (omega arith)
-    lt_or_same (suc i) (suc k) h = elim (lt_or_same i k (omega arith)) [
-      | inl less ↦ inl (omega (arith, less))
-      | inr same ↦ inr (ap suc same)
-    ]
-
-    some_same : {x y : Message} → Some x ≡ Some y → x ≡ y
-    some_same is = cc is
 
 -- one that was received with another reply goes, and those before it are still refused
 pub refuses_received : (k n : ℕ) (kept new : List Message) (b c : SeenSeat) (m : Message) → HasOneMore b c (λ e. e ≡ ev.Receive m) n
@@ -313,12 +298,8 @@ refused_taken n kept new rs false all is same i m within at =
     all i m (omega (arith, within, is)) (ap (λ (l : List Message). slice_get l i) (sym same) ∙ at)
 refused_taken n kept new rs true all is taken i m within at =
     let inside : i < length kept = omega (arith, within, is) in
-    all i m inside (sym (before kept (taken.0 ∷ []) i inside) ∙ ap (λ (l : List Message). slice_get l i) (sym taken.1) ∙ at)
-  where
-    before : (xs ys : List Message) (i : ℕ) → i < length xs → slice_get (xs ++ ys) i ≡ slice_get xs i
-    before [] ys i h = absurd (omega arith)
-    before (x ∷ xs) ys zero h = refl
-    before (x ∷ xs) ys (suc i) h = before xs ys i (omega arith)
+    let was = slice_get-get_or kept i m inside in
+    all i m inside (was ∙ sym (get_front kept (taken.0 ∷ []) i _ was) ∙ ap (λ (l : List Message). slice_get l i) (sym taken.1) ∙ at)
 
 -- a message is taken, if one was
 pub refuses_taken : (n : ℕ) (kept new : List Message) (a : SeenSeat) (t : Bool) → n ≡ length kept
