@@ -30,7 +30,7 @@ ROOT = os.path.dirname(os.path.dirname(os.path.abspath(__file__)))
 MUTANTS = os.path.join(ROOT, "tests", "mutants")
 CRATES = os.path.join(ROOT, "crates")
 # how many mutants there are, those of must-fail/ among them, so that none is lost with a change
-MUTANTS_IN_ALL = 924
+MUTANTS_IN_ALL = 925
 # a file has to be tried again when the last change of its crate's code or contracts is this many commits after its run
 MOST_COMMITS = 10
 RUN = re.compile(r"Last tried as a whole: (\d{4}-\d\d-\d\d) at ([0-9a-f]{8}), (\d+) refused\n")
