@@ -1,10 +1,11 @@
 -- The next bank starts with the balances.
-use Rattle.rb_runs.proofs.Words.{◌≡◌, ◌≤◌, ℕ, zero, suc, ◌+◌, Bool, true, false, cond, List, ◌++◌, length, Option, Some, None, refl, sym}
+use Rattle.rb_runs.proofs.Words.{◌≡◌, ◌≤◌, ℕ, zero, suc, ◌+◌, false, cond, List, ◌++◌, length, Option, Some, None, refl, sym}
 use Rattle.rb_runs.proofs.Words.{ap, ◌∙◌, arith, map, ℤ, pos, negsuc, ◌+ℤ◌, ◌≤ℤ◌, ◌==◌, nat_le, replicate, slice_index, sum}
 use Rattle.rb_runs.proofs.Words.{range_with_len, nat_tests, ints, get_or_past, sum_by-cons, cents, IsConfigured, Settings, start_of, Place}
 use Rattle.rb_runs.proofs.Words.{Shadow, Agree, arrived, delta, kept, moved, receiver_of, total, is_misdirected, IsValid, covers}
 use Rattle.rb_runs.proofs.Words.{member_sound, get_front, balances_of, NextBank, next_settings}
 use Rattle.rb_runs.proofs.Words.{next_with, CarriedForward, IsCarriedForward, sum_of_accounts}
+use Rattle.std.proofs.lemmas.Bool.{cond_both}
 use Rattle.rb_shadow.specs.Operations.{bal}
 use Rattle.rb_shadow.proofs.Public.Balances.{bal-worth, is_kept, worth}
 use Rattle.rb_shadow.proofs.Public.SoundFacts.{SoundFacts}
@@ -38,11 +39,8 @@ nothing_beyond s us a valid h =
     bal-worth s us a
     ∙ ap (λ n. pos n +ℤ total (worth us a) us) (get_or_past s.starts a.0 0 h)
     ∙ ap (λ z. pos 0 +ℤ z) (Totals.total-same (worth us a) (λ _. pos 0) us
-    (λ u k. by (is_kept us u) (delta u a) (moves_nothing s u a (member_sound s us u valid k) h)) ∙ Totals.total-none us)
-  where
-    by : (b : Bool) (z : ℤ) → z ≡ pos 0 → cond b z (pos 0) ≡ pos 0
-    by true z e = e
-    by false z e = refl
+    (λ u k. cond_both (is_kept us u) (delta u a) (pos 0) (λ z. z ≡ pos 0)
+    (λ _. moves_nothing s u a (member_sound s us u valid k) h) (λ _. refl)) ∙ Totals.total-none us)
 
 -- ---- starts
 

@@ -3,19 +3,17 @@ use Rattle.rb_runs.proofs.Words.{◌≡◌, ◌<◌, ◌≤◌, ℕ, ◌+◌, Li
 use Rattle.rb_runs.proofs.Words.{append_assoc, drop-cons, eq-eqb, ne_eqb, slice_get, Some, suc, Bool, true, false, not, ◌&&◌, nat_le}
 use Rattle.rb_runs.proofs.Words.{nat_lt, IfSome, Option, None, zero, replicate, zip, if◌then◌else◌, get_or-map, length-append, length-map}
 use Rattle.rb_runs.proofs.Words.{length-replicate, length-zip, get_or_from_slice_get, Account, account_fault, are_limits, config_fault}
-use Rattle.rb_runs.proofs.Words.{is_among, settings_of, IsConfigured, Settings, in_version_2, is_account_name, version_of, MOST_CENTS}
+use Rattle.rb_runs.proofs.Words.{is_among, settings_of, IsConfigured, Settings, in_version_2, is_account_name, MOST_CENTS}
 use Rattle.rb_runs.proofs.Words.{MOST_ACCOUNTS, MOST_SITES, option_or, nat_tests, Limits, NextBank, next_accounts, sites_of_next}
-use Rattle.rb_runs.proofs.Words.{next_version, next_with}
+use Rattle.rb_runs.proofs.Words.{next_with, ap₂, map-append, firsts-zip, seconds-zip}
+use Rattle.std.proofs.lemmas.List.{map-id}
+use Rattle.std.proofs.lemmas.Simd.{map-map, splat_is_map}
 use Rattle.rb_money.specs.declared.fault.ConfigFault.{ConfigFault}
 use Rattle.rb_money.specs.declared.fault.ConfigFault.TheVariants.{Accounts, Limit, Name, Sites, Start, Twice}
 
 -- the added accounts, each of which starts with 0
 abbrev pub added_from : List (List ℕ) → List Account
 added_from names = map (λ name. (name, 0)) names
-
--- settings of these parts
-abbrev of_parts : ℕ → List ℕ → Limits → ℕ → List (List ℕ) → Settings
-of_parts n starts limits version names = record { sites = n; names = names; starts = starts; limits = limits; version = version }
 
 -- one account more is listed, and one fewer is left
 pub one_more : (done done' rest : List Account) (a : Account) → done' ≡ done ++ a ∷ [] → done' ++ rest ≡ done ++ (a ∷ rest)
@@ -43,30 +41,20 @@ added_at f items added i d e lt =
     rw add-one (drop-cons added i (f d) n ∙ ap (λ x. x ∷ drop (suc i) added) at) in
     ap added_from ns
 
--- the added accounts have the names that are asked for
-names_added : (added : List (List ℕ)) → map (λ (a : Account). a.0) (added_from added) ≡ added
-names_added [] = refl
-names_added (n ∷ ns) = ap (λ l. n ∷ l) (names_added ns)
-
--- the added accounts start with 0
-starts_added : (added : List (List ℕ)) → map (λ (a : Account). a.1) (added_from added) ≡ replicate (length added) 0
-starts_added [] = refl
-starts_added (n ∷ ns) = ap (λ l. 0 ∷ l) (starts_added ns)
-
 -- the names of the accounts
 pub names_listed : (names : List (List ℕ)) (balances : List ℕ) (added : List (List ℕ)) → length balances ≡ length names
     → map (λ (a : Account). a.0) (zip names balances ++ added_from added) ≡ names ++ added
-names_listed [] balances added e = names_added added
-names_listed (n ∷ ns) [] added e = absurd (omega arith)
-names_listed (n ∷ ns) (b ∷ bs) added e = ap (λ l. n ∷ l) (names_listed ns bs added (omega arith))
+names_listed names balances added e =
+    map-append (λ (a : Account). a.0) (zip names balances) (added_from added)
+    ∙ ap₂ (λ x y. x ++ y) (firsts-zip names balances e) (map-map (λ (a : Account). a.0) _ added ∙ map-id added)
 
 -- what they start with
 pub starts_listed : (names : List (List ℕ)) (balances : List ℕ) (added : List (List ℕ)) → length balances ≡ length names
     → map (λ (a : Account). a.1) (zip names balances ++ added_from added) ≡ balances ++ replicate (length added) 0
-starts_listed [] [] added e = starts_added added
-starts_listed [] (b ∷ bs) added e = absurd (omega arith)
-starts_listed (n ∷ ns) [] added e = absurd (omega arith)
-starts_listed (n ∷ ns) (b ∷ bs) added e = ap (λ l. b ∷ l) (starts_listed ns bs added (omega arith))
+starts_listed names balances added e =
+    map-append (λ (a : Account). a.1) (zip names balances) (added_from added)
+    ∙ ap₂ (λ x y. x ++ y) (seconds-zip names balances e)
+    (map-map (λ (a : Account). a.1) _ added ∙ sym (splat_is_map added (length added) 0 refl))
 
 -- the settings of these accounts, in version 2, are the next bank's where it was in version 2
 pub made_second : (s : Settings) (balances : List ℕ) (ask : NextBank) (n : ℕ) (accounts : List Account) (limits : Limits)
@@ -74,16 +62,7 @@ pub made_second : (s : Settings) (balances : List ℕ) (ask : NextBank) (n : ℕ
     → limits ≡ s.limits → s.version ≡ 2
     → in_version_2 (settings_of n accounts limits) ≡ next_with s balances ask
 made_second s balances ask n accounts limits e en ea el ev =
-    let m = sites_of_next s ask.sites in
-    let whole = next_accounts s balances ask in
-    let starts = map (λ (a : Account). a.1) whole in
-    let two : 2 ≡ next_version s m = sym (ap (λ b. if b then 2 else version_of m) (eq-eqb s.version 2 ev)) in
-    ap (λ k. in_version_2 (settings_of k accounts limits)) en
-    ∙ ap (λ l. in_version_2 (settings_of m l limits)) ea
-    ∙ ap (λ l. in_version_2 (settings_of m whole l)) el
-    ∙ ap (of_parts m starts s.limits 2) (names_listed s.names balances ask.added e)
-    ∙ ap (λ l. of_parts m l s.limits 2 (s.names ++ ask.added)) (starts_listed s.names balances ask.added e)
-    ∙ ap (λ v. of_parts m (balances ++ replicate (length ask.added) 0) s.limits v (s.names ++ ask.added)) two
+    rw (en, ea, el, eq-eqb s.version 2 ev, names_listed s.names balances ask.added e, starts_listed s.names balances ask.added e) refl
 
 -- the settings of these accounts are the next bank's where it wasn't
 pub made_first : (s : Settings) (balances : List ℕ) (ask : NextBank) (n : ℕ) (accounts : List Account) (limits : Limits)
@@ -91,16 +70,7 @@ pub made_first : (s : Settings) (balances : List ℕ) (ask : NextBank) (n : ℕ)
     → limits ≡ s.limits → (s.version ≡ 2 → ⊥)
     → settings_of n accounts limits ≡ next_with s balances ask
 made_first s balances ask n accounts limits e en ea el ev =
-    let m = sites_of_next s ask.sites in
-    let whole = next_accounts s balances ask in
-    let starts = map (λ (a : Account). a.1) whole in
-    let other : version_of m ≡ next_version s m = sym (ap (λ b. if b then 2 else version_of m) (ne_eqb s.version 2 ev)) in
-    ap (λ k. settings_of k accounts limits) en
-    ∙ ap (λ l. settings_of m l limits) ea
-    ∙ ap (λ l. settings_of m whole l) el
-    ∙ ap (of_parts m starts s.limits (version_of m)) (names_listed s.names balances ask.added e)
-    ∙ ap (λ l. of_parts m l s.limits (version_of m) (s.names ++ ask.added)) (starts_listed s.names balances ask.added e)
-    ∙ ap (λ v. of_parts m (balances ++ replicate (length ask.added) 0) s.limits v (s.names ++ ask.added)) other
+    rw (en, ea, el, ne_eqb s.version 2 ev, names_listed s.names balances ask.added e, starts_listed s.names balances ask.added e) refl
 
 -- ---- nothing is wrong with the next bank
 

@@ -6,6 +6,7 @@ use Rattle.rb_runs.proofs.Words.{Applies, Makes, MakesAll, ModelSite, Outcome, a
 use Rattle.rb_runs.proofs.Words.{outcome_of, sent_at, sent_by, AreOneWorlds, history_of, state_of, World, first_world, made_in, message_at}
 use Rattle.rb_runs.proofs.Words.{shadows_in, world_after, world_after_all, world_at, world_of_run, get_set_other, get_set_same}
 use Rattle.rb_runs.proofs.Words.{same_number, me_after, IsRunOfItsHistory, noted, run_goes_on, first_sites, applied_from}
+use Rattle.std.proofs.lemmas.Bool.{cond_both}
 use Rattle.rb_site.proofs.Public.Seen.{events_from}
 use Rattle.rb_shadow.proofs.Public.Members
 
@@ -45,11 +46,8 @@ sent_here t _ v h = absurd h
 
 -- the same of an event
 grows_event : (s : Settings) (t : ModelSite) (e : Event) (v : Shadow) → Among v t.ops → Among v (after_event s t e).ops
-grows_event s t e v h = by (is_full s t)
-  where
-    by : (b : Bool) → Among v (cond b t (noted s t e)).ops
-    by true = h
-    by false = grows t (outcome_of s t e) v h
+grows_event s t e v h =
+    cond_both (is_full s t) t (noted s t e) (λ (u : ModelSite). Among v u.ops) (λ _. h) (λ _. grows t (outcome_of s t e) v h)
 
 sent_event : (s : Settings) (t : ModelSite) (e : Event) (v : Shadow) → Among v (shadows_in (sent_at s t e)) →
     Among v (after_event s t e).ops
@@ -104,19 +102,23 @@ at_site s w i e t at h = record {
   ];
 }
 
-brought : (s : Settings) (w : World) (i : ℕ) (o : Option Event) → AreRuns s w → AreRuns s (world_at s w i o (slice_get w.sites i))
-brought s w i None h = h
-brought s w i (Some e) h = by (slice_get w.sites i) refl
+-- what holds of a world still does, if it holds once a site that is there took the event, if there is one
+pub brought : (P : World → Type 0) (s : Settings) (w : World) (i : ℕ) (o : Option Event) → P w
+    → ((e : Event) (t : ModelSite) → o ≡ Some e → slice_get w.sites i ≡ Some t → P (world_at s w i (Some e) (Some t)))
+    → P (world_at s w i o (slice_get w.sites i))
+brought P s w i None h each = h
+brought P s w i (Some e) h each = by (slice_get w.sites i) refl
   where
-    by : (t : Option ModelSite) → slice_get w.sites i ≡ t → AreRuns s (world_at s w i (Some e) t)
+    by : (t : Option ModelSite) → slice_get w.sites i ≡ t → P (world_at s w i (Some e) t)
     by None at = h
-    by (Some t) at = at_site s w i e t at h
+    by (Some t) at = each e t refl at
 
 -- ---- a whole run
 
 next_runs : (s : Settings) (w : World) (e : WorldEvent) → AreRuns s w → AreRuns s (world_after s w e)
-next_runs s w (At i e) h = brought s w i (Some e) h
-next_runs s w (Deliver i k) h = brought s w i (option_map Receive (message_at w.messages k)) h
+next_runs s w (At i e) h = brought (AreRuns s) s w i (Some e) h (λ e t _ at. at_site s w i e t at h)
+next_runs s w (Deliver i k) h =
+    brought (AreRuns s) s w i (option_map Receive (message_at w.messages k)) h (λ e t _ at. at_site s w i e t at h)
 
 all_run : (s : Settings) (es : List WorldEvent) (w : World) → AreRuns s w → AreRuns s (world_after_all s w es)
 all_run s [] w h = h

@@ -124,116 +124,49 @@ has_up_to s uss us vs j (Red n) valid valid' there has none =
     let (k, at) = left (lacks uss us) (next_names s.sites us) s.sites x (next_red s.sites us) (is_lacking uss us vs j x there has' none') in
     (k, x, at, refl, (omega arith))
 
--- ---- the histories of one world
+-- ---- lists without a name
 
--- what a site has applied is valid
-pub valid_list : AllLaws → (s : Settings) (hs : List (List Entry)) → IsConfigured s → (one : AreOneWorlds s hs) (i : ℕ)
-    (us : List Shadow) → slice_get (applied_from s 0 hs) i ≡ Some us → IsValid s us
-valid_list laws s hs c one i us at =
-    let h : IsSiteWith (world_of_run s one.events) i us = site_with s hs one i us at in
-    subst (IsValid s) h.ops ((others_of laws s hs c one).valid_lists i h.site h.at)
+-- a site that lacks nothing has all that another has
+no_other : (s : Settings) (uss : List (List Shadow)) (us vs : List Shadow) (j : ℕ) (y : OpName) → IsValid s us → IsValid s vs →
+    slice_get uss j ≡ Some vs → lacked s.sites uss us ≡ [] → names vs y ≡ true → names us y ≡ false → ⊥
+no_other s uss us vs j y valid valid' there none has missing =
+    let (k, x, at, _, _) = subst (λ xs. HasUpTo xs y) none (has_up_to s uss us vs j y valid valid' there has missing) in cc
 
--- what is in a list is made and not applied
-listed : AllLaws → (s : Settings) (hs : List (List Entry)) → IsConfigured s → (one : AreOneWorlds s hs) (us : List Shadow) (k : ℕ)
-    (x : OpName) → slice_get (lacked s.sites (applied_from s 0 hs) us) k ≡ Some x →
-    (names (made_in (world_of_run s one.events)) x ≡ true) × (names us x ≡ false)
-listed laws s hs c one us k x at =
-    let uss : List (List Shadow) = applied_from s 0 hs in
-    let p = and_parts (list_any (λ vs. names vs x) uss) (not (names us x)) (passes (lacks uss us) (next_names s.sites us) k x at) in
-    let (j, vs, there, has) = any_there (λ vs. names vs x) uss p.0 in
-    let (v, among, named) = Members.find_named vs x has in (
-      ap (names (made_in (world_of_run s one.events))) (sym named)
-          ∙ Members.named (made_in (world_of_run s one.events)) v (was_made laws s hs c one j vs there v among),
-      not-true (names us x) p.1,
-    )
-
--- what is made and not applied has a name of its row in the list
-first_listed : AllLaws → (s : Settings) (hs : List (List Entry)) → IsConfigured s → (one : AreOneWorlds s hs) (i : ℕ)
-    (us : List Shadow) → slice_get (applied_from s 0 hs) i ≡ Some us → (y : OpName) →
-    names (made_in (world_of_run s one.events)) y ≡ true → names us y ≡ false → HasUpTo (lacked s.sites (applied_from s 0 hs) us) y
-first_listed laws s hs c one i us at y made none =
-    let (v, among, named) = Members.find_named (made_in (world_of_run s one.events)) y made in
-    let (j, t, there, k) = (run_of s one.events).made v among in
-    let at' : slice_get (applied_from s 0 hs) j ≡ Some t.ops = list_of s hs one j t there in
-    has_up_to s (applied_from s 0 hs) us t.ops j y (valid_list laws s hs c one i us at) (valid_list laws s hs c one j t.ops at') at'
-    (ap (names t.ops) (sym named) ∙ Members.named t.ops v k) none
-
--- ---- closed books
-
--- if the books may be closed no site lacks anything
-nothing_open : AllLaws → (s : Settings) (hs : List (List Entry)) → IsConfigured s → (one : AreOneWorlds s hs) →
-    MayBeClosed (applied_from s 0 hs) → (i : ℕ) (us : List Shadow) → slice_get (applied_from s 0 hs) i ≡ Some us →
-    lacked s.sites (applied_from s 0 hs) us ≡ []
-nothing_open laws s hs c one closed i us at =
-    none_left (lacks uss us) (next_names s.sites us) (λ x. by x (Members.bool_cases (lacks uss us x)))
+-- a count is at most another if the number after that isn't counted
+at_most : (m n : ℕ) → ((nat_le 1 (n + 1) && nat_le (n + 1) m) ≡ true → ⊥) → m ≤ n
+at_most m n above = by (Members.bool_cases (nat_le m n))
   where
-    uss : List (List Shadow)
-    uss = applied_from s 0 hs
-
-    by : (x : OpName) → (lacks uss us x ≡ true) ⊎ (lacks uss us x ≡ false) → lacks uss us x ≡ false
-    by x (inr e) = e
-    by x (inl e) =
-        let p = and_parts (list_any (λ vs. names vs x) uss) (not (names us x)) e in
-        let (j, vs, there, has) = any_there (λ vs. names vs x) uss p.0 in
-        let here : names us x ≡ true = same_names laws s hs c one closed i j us vs at there x ∙ has in
-        absurd (Members.true≢false (sym p.1 ∙ ap not here))
-
-empty_has_none : (y : OpName) → HasUpTo [] y → ⊥
-empty_has_none y (k, x, at, _, _) = cc
-
--- a site that lacks nothing has as many operations of each row as any other
-blue_most : (s : Settings) (uss : List (List Shadow)) (us vs : List Shadow) (j k : ℕ) → IsValid s us → IsValid s vs →
-    slice_get uss j ≡ Some vs → lacked s.sites uss us ≡ [] → blue_count vs k ≤ blue_count us k
-blue_most s uss us vs j k valid valid' there none = by (Members.bool_cases (nat_le (blue_count vs k) (blue_count us k)))
-  where
-    by : (nat_le (blue_count vs k) (blue_count us k) ≡ true) ⊎ (nat_le (blue_count vs k) (blue_count us k) ≡ false) →
-        blue_count vs k ≤ blue_count us k
+    by : (nat_le m n ≡ true) ⊎ (nat_le m n ≡ false) → m ≤ n
     by (inl e) = grind (arith, nat_tests)
     by (inr e) =
-        let more : blue_count us k < blue_count vs k = grind (arith, nat_tests) in
-        let y : OpName = Blue k (blue_count us k + 1) in
-        absurd (empty_has_none y (subst (λ xs. HasUpTo xs y) none (has_up_to s uss us vs j y valid valid' there
-        (valid_counted s vs valid' y ∙ in_range (blue_count us k + 1) (blue_count vs k) (omega arith) (omega arith))
-        (valid_counted s us valid y ∙ past_count (blue_count us k)))))
+        let more : n < m = grind (arith, nat_tests) in
+        absurd (above (in_range (n + 1) m (omega arith) (omega arith)))
+
+-- so it has as many operations of each row
+blue_most : (s : Settings) (uss : List (List Shadow)) (us vs : List Shadow) (j k : ℕ) → IsValid s us → IsValid s vs →
+    slice_get uss j ≡ Some vs → lacked s.sites uss us ≡ [] → blue_count vs k ≤ blue_count us k
+blue_most s uss us vs j k valid valid' there none = at_most (blue_count vs k) (blue_count us k) (λ counted.
+    let y : OpName = Blue k (blue_count us k + 1) in
+    no_other s uss us vs j y valid valid' there none (valid_counted s vs valid' y ∙ counted)
+    (valid_counted s us valid y ∙ past_count (blue_count us k)))
 
 red_most : (s : Settings) (uss : List (List Shadow)) (us vs : List Shadow) (j : ℕ) → IsValid s us → IsValid s vs →
     slice_get uss j ≡ Some vs → lacked s.sites uss us ≡ [] → red_count vs ≤ red_count us
-red_most s uss us vs j valid valid' there none = by (Members.bool_cases (nat_le (red_count vs) (red_count us)))
-  where
-    by : (nat_le (red_count vs) (red_count us) ≡ true) ⊎ (nat_le (red_count vs) (red_count us) ≡ false) → red_count vs ≤ red_count us
-    by (inl e) = grind (arith, nat_tests)
-    by (inr e) =
-        let more : red_count us < red_count vs = grind (arith, nat_tests) in
-        let y : OpName = Red (red_count us + 1) in
-        absurd (empty_has_none y (subst (λ xs. HasUpTo xs y) none (has_up_to s uss us vs j y valid valid' there
-        (valid_counted s vs valid' y ∙ in_range (red_count us + 1) (red_count vs) (omega arith) (omega arith))
-        (valid_counted s us valid y ∙ past_count (red_count us)))))
-
-both : (m n : ℕ) → m ≤ n → n ≤ m → m ≡ n
-both m n h k = omega arith
+red_most s uss us vs j valid valid' there none = at_most (red_count vs) (red_count us) (λ counted.
+    let y : OpName = Red (red_count us + 1) in
+    no_other s uss us vs j y valid valid' there none (valid_counted s vs valid' y ∙ counted)
+    (valid_counted s us valid y ∙ past_count (red_count us)))
 
 deps_same : (a b : List ℕ) (m n : ℕ) → a ≡ b → m ≡ n → ◌≡◌ {A = Deps} (record { blue = a; red = m }) (record { blue = b; red = n })
 deps_same a b m n h k = cc
 
--- equal counts make equal clocks
-same_clock : (us vs : List Shadow) → ((k : ℕ) → blue_count us k ≡ blue_count vs k) → red_count us ≡ red_count vs → clock_of us ≡ clock_of vs
+-- counts that are at most each other make equal clocks
+same_clock : (us vs : List Shadow) → ((k : ℕ) → (blue_count us k ≤ blue_count vs k) × (blue_count vs k ≤ blue_count us k))
+    → red_count us ≤ red_count vs → red_count vs ≤ red_count us → clock_of us ≡ clock_of vs
 unfolding clock_of
-same_clock us vs blue red = deps_same (map (blue_count us) (range_with_len 0 MOST_SITES))
-    (map (blue_count vs) (range_with_len 0 MOST_SITES))
-    (red_count us) (red_count vs) (map_same (blue_count us) (blue_count vs) (range_with_len 0 MOST_SITES) blue) red
-
--- if no site lacks anything the books may be closed
-nothing_lacked : AllLaws → (s : Settings) (hs : List (List Entry)) → IsConfigured s → (one : AreOneWorlds s hs) →
-    ((i : ℕ) (us : List Shadow) → slice_get (applied_from s 0 hs) i ≡ Some us → lacked s.sites (applied_from s 0 hs) us ≡ []) →
-    MayBeClosed (applied_from s 0 hs)
-nothing_lacked laws s hs c one none i j us vs at there =
-    let uss : List (List Shadow) = applied_from s 0 hs in
-    let valid : IsValid s us = valid_list laws s hs c one i us at in
-    let valid' : IsValid s vs = valid_list laws s hs c one j vs there in
-    same_clock us vs
-    (λ k. both _ _ (blue_most s uss vs us i k valid' valid at (none j vs there))
-    (blue_most s uss us vs j k valid valid' there (none i us at)))
-    (both _ _ (red_most s uss vs us i valid' valid at (none j vs there)) (red_most s uss us vs j valid valid' there (none i us at)))
+same_clock us vs blue low high = deps_same (map (blue_count us) (range_with_len 0 MOST_SITES))
+    (map (blue_count vs) (range_with_len 0 MOST_SITES)) (red_count us) (red_count vs)
+    (map_same (blue_count us) (blue_count vs) (range_with_len 0 MOST_SITES) (λ k. let p = blue k in omega arith)) (omega arith)
 
 -- each list is empty, or one isn't
 none_or_some : (f : List Shadow → List OpName) (uss : List (List Shadow)) →
@@ -256,14 +189,71 @@ none_or_some f (vs ∷ uss) = by (f vs) refl (none_or_some f uss)
     by [] e (inl none) = inl (both_none e none)
     by [] e (inr (i, us, x, at, q)) = inr (suc i, us, x, at, q)
 
--- if the books may not be closed, some site lacks something
-something_open : AllLaws → (s : Settings) (hs : List (List Entry)) → IsConfigured s → (one : AreOneWorlds s hs) →
-    ¬ MayBeClosed (applied_from s 0 hs) → (i : ℕ) × (us : List Shadow) × (x : OpName) × (slice_get (applied_from s 0 hs) i ≡ Some us)
-    × (slice_get (lacked s.sites (applied_from s 0 hs) us) 0 ≡ Some x)
-something_open laws s hs c one unclosed = elim (none_or_some (lacked s.sites (applied_from s 0 hs)) (applied_from s 0 hs)) [
-  | inl none ↦ absurd (unclosed (nothing_lacked laws s hs c one none))
-  | inr some ↦ some
-]
+-- ---- the histories of one world
+
+module _ (laws : AllLaws) (s : Settings) (hs : List (List Entry)) (c : IsConfigured s) (one : AreOneWorlds s hs) where
+  -- what the sites have applied, and what was made
+  abbrev uss : List (List Shadow)
+  uss = applied_from s 0 hs
+
+  abbrev made : List Shadow
+  made = made_in (world_of_run s one.events)
+
+  -- what a site has applied is valid
+  pub valid_list : (i : ℕ) (us : List Shadow) → slice_get uss i ≡ Some us → IsValid s us
+  valid_list i us at =
+      let h : IsSiteWith (world_of_run s one.events) i us = site_with s hs one i us at in
+      subst (IsValid s) h.ops ((others_of laws s hs c one).valid_lists i h.site h.at)
+
+  -- what is in a list is made and not applied
+  listed : (us : List Shadow) (k : ℕ) (x : OpName) → slice_get (lacked s.sites uss us) k ≡ Some x
+      → (names made x ≡ true) × (names us x ≡ false)
+  listed us k x at =
+      let p = and_parts (list_any (λ vs. names vs x) uss) (not (names us x)) (passes (lacks uss us) (next_names s.sites us) k x at) in
+      let (j, vs, there, has) = any_there (λ vs. names vs x) uss p.0 in
+      let (v, among, named) = Members.find_named vs x has in
+      (ap (names made) (sym named) ∙ Members.named made v (was_made laws s hs c one j vs there v among), not-true (names us x) p.1)
+
+  -- what is made and not applied has a name of its row in the list
+  first_listed : (i : ℕ) (us : List Shadow) → slice_get uss i ≡ Some us → (y : OpName) → names made y ≡ true → names us y ≡ false
+      → HasUpTo (lacked s.sites uss us) y
+  first_listed i us at y has missing =
+      let (v, among, named) = Members.find_named made y has in
+      let (j, t, there, k) = (run_of s one.events).made v among in
+      let at' : slice_get uss j ≡ Some t.ops = list_of s hs one j t there in
+      has_up_to s uss us t.ops j y (valid_list i us at) (valid_list j t.ops at') at'
+      (ap (names t.ops) (sym named) ∙ Members.named t.ops v k) missing
+
+  -- if the books may be closed no site lacks anything
+  nothing_open : MayBeClosed uss → (i : ℕ) (us : List Shadow) → slice_get uss i ≡ Some us → lacked s.sites uss us ≡ []
+  nothing_open closed i us at =
+      none_left (lacks uss us) (next_names s.sites us) (λ x. by x (Members.bool_cases (lacks uss us x)))
+    where
+      by : (x : OpName) → (lacks uss us x ≡ true) ⊎ (lacks uss us x ≡ false) → lacks uss us x ≡ false
+      by x (inr e) = e
+      by x (inl e) =
+          let p = and_parts (list_any (λ vs. names vs x) uss) (not (names us x)) e in
+          let (j, vs, there, has) = any_there (λ vs. names vs x) uss p.0 in
+          let here : names us x ≡ true = same_names laws s hs c one closed i j us vs at there x ∙ has in
+          absurd (Members.true≢false (sym p.1 ∙ ap not here))
+
+  -- if no site lacks anything the books may be closed
+  nothing_lacked : ((i : ℕ) (us : List Shadow) → slice_get uss i ≡ Some us → lacked s.sites uss us ≡ []) → MayBeClosed uss
+  nothing_lacked none i j us vs at there =
+      let valid : IsValid s us = valid_list i us at in
+      let valid' : IsValid s vs = valid_list j vs there in
+      same_clock us vs (λ k. (
+        blue_most s uss vs us i k valid' valid at (none j vs there),
+        blue_most s uss us vs j k valid valid' there (none i us at),
+      )) (red_most s uss vs us i valid' valid at (none j vs there)) (red_most s uss us vs j valid valid' there (none i us at))
+
+  -- if the books may not be closed, some site lacks something
+  something_open : ¬ MayBeClosed uss → (i : ℕ) × (us : List Shadow) × (x : OpName) × (slice_get uss i ≡ Some us)
+      × (slice_get (lacked s.sites uss us) 0 ≡ Some x)
+  something_open unclosed = elim (none_or_some (lacked s.sites uss) uss) [
+    | inl none ↦ absurd (unclosed (nothing_lacked none))
+    | inr some ↦ some
+  ]
 
 -- the lists of an `open` line are what the sites lack
 pub open_lists : AllLaws → OpenListsAreLacking

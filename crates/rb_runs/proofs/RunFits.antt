@@ -1,12 +1,13 @@
 -- The entries that the sites of a world record fit their lines if the world's commands do.
-use Rattle.rb_runs.proofs.Words.{◌≡◌, ℕ, ◌+◌, ◌<◌, Bool, true, false, cond, List, [], ◌∷◌, ◌++◌, length, Option, Some, None, refl, sym, ap}
-use Rattle.rb_runs.proofs.Words.{◌∙◌, subst, inl, inr, arith, append-nil, IfSome, option_map, slice_get, length-map-range_with_len}
+use Rattle.rb_runs.proofs.Words.{◌≡◌, ℕ, ◌+◌, ◌<◌, List, [], ◌∷◌, ◌++◌, length, Option, Some, None, refl, sym, ap}
+use Rattle.rb_runs.proofs.Words.{◌∙◌, subst, inl, inr, arith, append-nil, option_map, slice_get, length-map-range_with_len}
 use Rattle.rb_runs.proofs.Words.{slice_get_within, Settings, Event, Receive, Message, WorldEvent, At, Deliver, ModelSite, after_event}
 use Rattle.rb_runs.proofs.Words.{after_events, first_site, is_full, sent_at, IsAmong, sends_of, World, first_world, message_at}
 use Rattle.rb_runs.proofs.Words.{world_after, world_after_all, world_at, world_of_run, me_after, placed, IsRunOfItsHistory, noted}
 use Rattle.rb_runs.proofs.Words.{run_goes_on, among-cases, among-right, first_sites, sends-append, Each, IsEvent, IsFittingCommand}
 use Rattle.rb_runs.proofs.Words.{each_both}
-use Rattle.rb_runs.proofs.OneWorlds.{all_still}
+use Rattle.std.proofs.lemmas.Bool.{cond_both}
+use Rattle.rb_runs.proofs.OneWorlds.{all_still, brought}
 
 -- a site of the configuration sent the message
 pub record IsSentBySite (s : Settings) (m : Message) : Type 0 where
@@ -34,11 +35,9 @@ pub record IsFittingWorld (s : Settings) (w : World) : Type 0 where
 
 noted_fits : (s : Settings) (t : ModelSite) (e : Event) → IsEvent s e → Each (IsEvent s) t.history
     → Each (IsEvent s) (after_event s t e).history
-noted_fits s t e fits old = by (is_full s t)
-  where
-    by : (b : Bool) → Each (IsEvent s) (cond b t (noted s t e)).history
-    by true = old
-    by false = each_both (IsEvent s) t.history (e ∷ []) old (fits, tt)
+noted_fits s t e fits old =
+    cond_both (is_full s t) t (noted s t e) (λ (u : ModelSite). Each (IsEvent s) u.history) (λ _. old)
+    (λ _. each_both (IsEvent s) t.history (e ∷ []) old (fits, tt))
 
 site_fits : (s : Settings) (i : ℕ) (t : ModelSite) (e : Event) → IsEvent s e → HasFitting s i t → HasFitting s i (after_event s t e)
 site_fits s i t e fits h = record {
@@ -74,29 +73,23 @@ at_site s w i e t at fits h = record {
   ];
 }
 
-brought : (s : Settings) (w : World) (i : ℕ) (o : Option Event) → IfSome o (IsEvent s) → IsFittingWorld s w
-    → IsFittingWorld s (world_at s w i o (slice_get w.sites i))
-brought s w i None fits h = h
-brought s w i (Some e) fits h = by (slice_get w.sites i) refl
-  where
-    by : (t : Option ModelSite) → slice_get w.sites i ≡ t → IsFittingWorld s (world_at s w i (Some e) t)
-    by None at = h
-    by (Some t) at = at_site s w i e t at fits h
-
 -- ---- a world's commands
 
-received : (s : Settings) (w : World) (k : ℕ) → ReceiptsFit s → IsFittingWorld s w
-    → IfSome (option_map Receive (message_at w.messages k)) (IsEvent s)
-received s w k receipts h = by (message_at w.messages k) refl
+received : (s : Settings) (w : World) (k : ℕ) (e : Event) → ReceiptsFit s → IsFittingWorld s w
+    → option_map Receive (message_at w.messages k) ≡ Some e → IsEvent s e
+received s w k e receipts h = by (message_at w.messages k) refl
   where
-    by : (o : Option Message) → message_at w.messages k ≡ o → IfSome (option_map Receive o) (IsEvent s)
-    by None is = tt
-    by (Some m) is = receipts m (h.messages m (placed w.messages k m is))
+    by : (o : Option Message) → message_at w.messages k ≡ o → option_map Receive o ≡ Some e → IsEvent s e
+    by None is some = cc
+    by (Some m) is some =
+        let same : Receive m ≡ e = cc in subst (IsEvent s) same (receipts m (h.messages m (placed w.messages k m is)))
 
 next_fits : (s : Settings) (w : World) (c : WorldEvent) → ReceiptsFit s → IsFittingCommand s c → IsFittingWorld s w
     → IsFittingWorld s (world_after s w c)
-next_fits s w (At i e) receipts fits h = brought s w i (Some e) fits.1 h
-next_fits s w (Deliver i k) receipts fits h = brought s w i (option_map Receive (message_at w.messages k)) (received s w k receipts h) h
+next_fits s w (At i e) receipts fits h = brought (IsFittingWorld s) s w i (Some e) h
+    (λ f t some at. at_site s w i f t at (let same : e ≡ f = cc some in subst (IsEvent s) same fits.1) h)
+next_fits s w (Deliver i k) receipts fits h = brought (IsFittingWorld s) s w i (option_map Receive (message_at w.messages k)) h
+    (λ e t some at. at_site s w i e t at (received s w k e receipts h some) h)
 
 all_fit : (s : Settings) (cs : List WorldEvent) (w : World) → ReceiptsFit s → Each (IsFittingCommand s) cs → IsFittingWorld s w
     → IsFittingWorld s (world_after_all s w cs)

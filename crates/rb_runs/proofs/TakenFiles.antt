@@ -1,9 +1,10 @@
 -- Journals that are taken one after another, and what closing the books says where it stops.
 use Rattle.rb_runs.proofs.Words.{◌≡◌, ◌∙◌, ◌⊎◌, ◌<◌, ◌≤◌, ℕ, ◌+◌, List, [], ◌∷◌, ◌++◌, length, refl, ap, sym, subst, arith, inl, inr}
-use Rattle.rb_runs.proofs.Words.{option_map_or, Bool, true, false, if◌then◌else◌, ◌==◌, IfSome, MatchOption, None, Option, Some, Result}
+use Rattle.rb_runs.proofs.Words.{option_map_or, ◌==◌, IfSome, MatchOption, None, Option, Some, Result}
 use Rattle.rb_runs.proofs.Words.{Ok, Err, option_map, suc, length-append, Audited, IsAddedFault, added_fault, NextBank, Settings, Entry}
 use Rattle.rb_runs.proofs.Words.{with_entry, EndsAtFile, TakesFile, counted, entry_of_site, is_head, is_sealed, journal_lines, next}
 use Rattle.rb_runs.proofs.Words.{with_files, with_journal, with_journal_lines, with_lines, with_next, ClosesAs, HasTaken}
+use Rattle.std.proofs.lemmas.Bool.{cond_both}
 use Rattle.rb_runs.specs.declared.books.added_fault.AddedFault.{AddedFault}
 use Rattle.rb_runs.specs.declared.books.close_fault.CloseFault.TheVariants.{Added, Journal, Unread}
 use Rattle.rb_runs.specs.declared.books.journal_fault.JournalFault.TheVariants.{AnotherBank, Count, NotSealed, OutOfMemory}
@@ -39,15 +40,19 @@ nothing-taken c ask files none empty unread = record {
   added = subst (λ o. IfSome o (λ (bank : Audited). added_fault (Some bank.settings) ask.added ≡ None)) (sym empty) tt;
 }
 
--- what the files say with one more that was taken
+-- what the files say with one more after those that were taken
+said-next : (c : Closing) (ask : NextBank) (files : List (List ℕ)) (file : List ℕ) → HasTaken c ask files
+    → with_files c.journals 0 None (files ++ file ∷ []) ≡ next (with_next c.journals c.taken c.auditor file) (λ a. Ok (Some a))
+said-next c ask files file taken =
+    let place : 0 + length files ≡ c.taken = omega (arith, taken.count) in
+    with-one-more c.journals 0 None files file
+    ∙ ap (λ r. next r (λ b. next (with_next c.journals (0 + length files) b file) (λ a. Ok (Some a)))) taken.said
+    ∙ ap (λ n. next (with_next c.journals n c.auditor file) (λ a. Ok (Some a))) place
+
+-- what they say with one more that was taken
 said-more : (old new : Closing) (ask : NextBank) (files : List (List ℕ)) (file : List ℕ) → HasTaken old ask files
     → (took : TakesFile old new file) → with_files old.journals 0 None (files ++ file ∷ []) ≡ Ok (Some took.bank)
-said-more old new ask files file taken took =
-    let place : 0 + length files ≡ old.taken = omega (arith, taken.count) in
-    with-one-more old.journals 0 None files file
-    ∙ ap (λ r. next r (λ b. next (with_next old.journals (0 + length files) b file) (λ a. Ok (Some a)))) taken.said
-    ∙ ap (λ n. next (with_next old.journals n old.auditor file) (λ a. Ok (Some a))) place
-    ∙ ap (λ r. next r (λ a. Ok (Some a))) took.said
+said-more old new ask files file taken took = said-next old ask files file taken ∙ ap (λ r. next r (λ a. Ok (Some a))) took.said
 
 -- one more file was taken, and the accounts may be added
 pub one-more-taken : (old new : Closing) (ask : NextBank) (files all : List (List ℕ)) (file : List ℕ) → all ≡ files ++ file ∷ []
@@ -69,41 +74,36 @@ abbrev settings-or : Settings → Result Audited JournalFault → Settings
 settings-or s (Ok a) = a.settings
 settings-or s (Err why) = s
 
+-- what holds of each outcome of what comes next, and of each fault
+next-all : {A B : Type 0} (P : Result B JournalFault → Type 0) (r : Result A JournalFault) (more : A → Result B JournalFault)
+    → ((x : A) → P (more x)) → ((why : JournalFault) → P (Err why)) → P (next r more)
+next-all P (Ok x) more each faults = each x
+next-all P (Err why) more each faults = faults why
+
 lines-keep : (s : Settings) (site : ℕ) (hs : List (List Entry)) (n : ℕ) (ls : List (List ℕ)) → settings-or s (with_lines s site hs n ls) ≡ s
 lines-keep s site hs n [] = refl
-lines-keep s site hs n (l ∷ ls) = by (λ x. lines-keep s site (with_entry site x hs) (n + 1) ls) (entry_of_site s site n l)
-  where
-    by : ((x : Entry) → settings-or s (with_lines s site (with_entry site x hs) (n + 1) ls) ≡ s) → (r : Result Entry JournalFault)
-        → settings-or s (next r (λ x. with_lines s site (with_entry site x hs) (n + 1) ls)) ≡ s
-    by keep (Ok x) = keep x
-    by keep (Err why) = refl
+lines-keep s site hs n (l ∷ ls) =
+    next-all (λ r. settings-or s r ≡ s) (entry_of_site s site n l) (λ x. with_lines s site (with_entry site x hs) (n + 1) ls)
+    (λ x. lines-keep s site (with_entry site x hs) (n + 1) ls) (λ why. refl)
 
 journal-lines-keep : (a : Audited) (site : ℕ) (ls : List (List ℕ))
     → settings-or a.settings (with_journal_lines site (Some a) ls) ≡ a.settings
 journal-lines-keep a site [] = refl
-journal-lines-keep a site (l ∷ ls) = by (is_head a.settings l)
-  where
-    by : (b : Bool) → settings-or a.settings (option_map_or (λ (x : Audited). with_lines x.settings site x.histories 2 ls)
-        (if b then Some a else None) (Err AnotherBank)) ≡ a.settings
-    by true = lines-keep a.settings site a.histories 2 ls
-    by false = refl
+journal-lines-keep a site (l ∷ ls) =
+    cond_both (is_head a.settings l) (Some a) None
+    (λ o. settings-or a.settings (option_map_or (λ (x : Audited). with_lines x.settings site x.histories 2 ls) o (Err AnotherBank))
+    ≡ a.settings) (λ _. lines-keep a.settings site a.histories 2 ls) (λ _. refl)
 
 journal-keeps : (a : Audited) (site : ℕ) (file : List ℕ) → settings-or a.settings (with_journal site (Some a) file) ≡ a.settings
-journal-keeps a site file = by (is_sealed file)
-  where
-    by : (b : Bool)
-        → settings-or a.settings (if b then with_journal_lines site (Some a) (journal_lines file) else Err NotSealed) ≡ a.settings
-    by true = journal-lines-keep a site (journal_lines file)
-    by false = refl
+journal-keeps a site file =
+    cond_both (is_sealed file) (with_journal_lines site (Some a) (journal_lines file)) (Err NotSealed)
+    (λ r. settings-or a.settings r ≡ a.settings) (λ _. journal-lines-keep a site (journal_lines file)) (λ _. refl)
 
 count-keeps : (s : Settings) (journals : ℕ) (r : Result Audited JournalFault) → settings-or s r ≡ s
     → settings-or s (next r (counted journals)) ≡ s
 count-keeps s journals (Err why) e = refl
-count-keeps s journals (Ok a) e = by (journals == a.settings.sites)
-  where
-    by : (b : Bool) → settings-or s (if b then Ok a else Err (Count journals a.settings.sites)) ≡ s
-    by true = e
-    by false = refl
+count-keeps s journals (Ok a) e =
+    cond_both (journals == a.settings.sites) (Ok a) (Err (Count journals a.settings.sites)) (λ r. settings-or s r ≡ s) (λ _. e) (λ _. refl)
 
 -- what is taken after other journals is of their bank
 same-bank : (journals site : ℕ) (a b : Audited) (file : List ℕ) → with_next journals site (Some a) file ≡ Ok b → b.settings ≡ a.settings
@@ -112,22 +112,17 @@ same-bank journals site a b file e = sym (ap (settings-or a.settings) e)
 
 -- after a bank's journals there is a bank
 some-after : (journals site : ℕ) (a : Audited) (fs : List (List ℕ)) → ¬ (with_files journals site (Some a) fs ≡ Ok None)
-some-after journals site a [] e = cc
-some-after journals site a (f ∷ fs) e = by (λ b. some-after journals (site + 1) b fs) (with_next journals site (Some a) f) e
-  where
-    by : ((b : Audited) → ¬ (with_files journals (site + 1) (Some b) fs ≡ Ok None)) → (r : Result Audited JournalFault)
-        → ¬ (next r (λ b. with_files journals (site + 1) (Some b) fs) ≡ Ok None)
-    by later (Ok b) e = later b e
-    by later (Err why) e = cc
+some-after journals site a [] = λ e. cc
+some-after journals site a (f ∷ fs) =
+    next-all (λ r. ¬ (r ≡ Ok None)) (with_next journals site (Some a) f) (λ b. with_files journals (site + 1) (Some b) fs)
+    (λ b. some-after journals (site + 1) b fs) (λ why e. cc)
 
 -- some file was taken, so there is a bank
 some-bank : (journals site : ℕ) (before : Option Audited) (f : List ℕ) (fs : List (List ℕ))
     → ¬ (with_files journals site before (f ∷ fs) ≡ Ok None)
-some-bank journals site before f fs e = by (with_next journals site before f) e
-  where
-    by : (r : Result Audited JournalFault) → ¬ (next r (λ a. with_files journals (site + 1) (Some a) fs) ≡ Ok None)
-    by (Ok a) e = some-after journals (site + 1) a fs e
-    by (Err why) e = cc
+some-bank journals site before f fs =
+    next-all (λ r. ¬ (r ≡ Ok None)) (with_next journals site before f) (λ a. with_files journals (site + 1) (Some a) fs)
+    (λ a. some-after journals (site + 1) a fs) (λ why e. cc)
 
 -- the accounts may be added after those of the bank, since they might before
 pub still-added : (old new : Closing) (ask : NextBank) (files : List (List ℕ)) (file : List ℕ) → HasTaken old ask files
@@ -161,15 +156,9 @@ fault-of c ask files all file site why taken e at ends =
     let n : length all ≡ length files + 1 = ap length e ∙ length-append files (file ∷ []) in
     (refl, omega (arith, n, at, taken.count), by ends)
   where
-    place : 0 + length files ≡ c.taken
-    place = omega (arith, taken.count)
-
     by : EndsAtFile c file why → (why ≡ OutOfMemory) ⊎ (with_files c.journals 0 None all ≡ Err why)
     by (inl e) = inl e
-    by (inr said) = inr (ap (with_files c.journals 0 None) e ∙ with-one-more c.journals 0 None files file
-        ∙ ap (λ r. next r (λ b. next (with_next c.journals (0 + length files) b file) (λ a. Ok (Some a)))) taken.said
-        ∙ ap (λ n. next (with_next c.journals n c.auditor file) (λ a. Ok (Some a))) place
-        ∙ ap (λ r. next r (λ a. Ok (Some a))) said)
+    by (inr said) = inr (ap (with_files c.journals 0 None) e ∙ said-next c ask files file taken ∙ ap (λ r. next r (λ a. Ok (Some a))) said)
 
 -- the first journal was taken, and its bank can't have the accounts
 pub not-added : (old new : Closing) (ask : NextBank) (files all : List (List ℕ)) (file : List ℕ) (why : AddedFault) → HasTaken old ask files
