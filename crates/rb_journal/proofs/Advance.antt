@@ -27,13 +27,13 @@ pub state_then : {S : Type 0} (s now new : S) (xs ys : List (Turn S)) → now �
 state_then s now new [] ys a b = b ∙ ap (λ t. state_after t ys) a
 state_then s now new (x ∷ xs) ys a b = state_then x.after now new xs ys a b
 
--- the lines that turns add, behind those that others added
+-- the lines that turns add, after those that others added
 pub added_then : {S : Type 0} (lines now new : List (List ℕ)) (xs ys : List (Turn S)) → now ≡ lines ++ lines_added xs
     → new ≡ now ++ lines_added ys
     → new ≡ lines ++ lines_added (xs ++ ys)
 added_then lines now new xs ys a b = rw (b, a, append_assoc, flat_map-append)
 
--- the text of turns, behind that of others
+-- the text of turns, after that of others
 pub texts_then : {S : Type 0} (text now new : List ℕ) (xs ys : List (Turn S)) → now ≡ text ++ texts xs → new ≡ now ++ texts ys
     → new ≡ text ++ texts (xs ++ ys)
 texts_then text now new xs ys a b = rw (b, a, append_assoc, flat_map-append)
@@ -63,7 +63,7 @@ to_answer_then n m (x ∷ xs) ys is =
     let more = to_answer_then (n + 1) m xs ys (omega (arith, is)) in
     ap (λ l. cond (is_skipped x) l ((n, x) ∷ l)) more ∙ onto (is_skipped x) (n, x) (to_answer (n + 1) xs) (to_answer m ys)
 
--- the lines that turns answer, behind those that others answered
+-- the lines that turns answer, after those that others answered
 pub answered_then : {S : Type 0} (n m : ℕ) (xs ys : List (Turn S)) (before behind : List (List ℕ)) → m ≡ n + length before
     → lines_answered xs ≡ to_answer n before → lines_answered ys ≡ to_answer m behind
     → lines_answered (xs ++ ys) ≡ to_answer n (before ++ behind)
@@ -172,7 +172,7 @@ module _ {S : Type 0} {answers : Answers S} {e : Bool} where
 
 -- ---- one batch
 
--- of turns and one behind them, all but the last
+-- of turns and one after them, all but the last
 all_but_last : {S : Type 0} (xs : List (Turn S)) (x : Turn S) → take (length (xs ++ x ∷ []) - 1) (xs ++ x ∷ []) ≡ xs
 all_but_last xs x =
     let few : length (xs ++ x ∷ []) - 1 ≡ length xs = omega (arith, length-append xs (x ∷ [])) in

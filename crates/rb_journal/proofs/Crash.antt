@@ -29,7 +29,7 @@ range_behind at n old new is torn = (
   omega (arith, torn.no_longer, is, length-drop at new),
 )
 
--- of a write behind a file that a crash cuts short no more bytes are there than were to be written
+-- of a write after a file that a crash cuts short no more bytes are there than were to be written
 pub torn_behind : (at : ℕ) (bytes old new : List ℕ) → at ≡ length old → Torn at bytes old new
     → (more : List ℕ) × (new ≡ old ++ more) × (length more ≤ length bytes)
 torn_behind at [] old new is torn = range_behind at 0 old new is torn
@@ -84,7 +84,7 @@ module _ (file : List ℕ) where
       ∙ behind_nothing (32 ∷ bytes) (closed 32 bytes (λ is. absurd (omega arith)))
 
   module _ (batch : List ℕ) (all : IsBatch batch) (some : 1 ≤ length batch) where
-    -- what is written behind the gate: the batch without its first byte, and a gate of its own
+    -- what is written after the gate: the batch without its first byte, and a gate of its own
     abbrev rest : List ℕ
     rest = drop 1 batch ++ 32 ∷ []
 
@@ -98,7 +98,7 @@ module _ (file : List ℕ) where
         let more = torn_behind at bytes old new (omega (arith, is, ap length was, length-at_rest)) torn in
         inl (more.0, more.1 ∙ ap (λ (l : List ℕ). l ++ more.0) was, omega (arith, more.2, ap length are, length-rest))
 
-    -- the whole write leaves it behind the gate
+    -- the whole write leaves it after the gate
     pub written_rest : (at : ℕ) (bytes old new : List ℕ) → at ≡ length text + 1 → bytes ≡ rest → old ≡ at_rest lines
         → IsWritten old at bytes new → new ≡ text ++ 32 ∷ rest
     written_rest at bytes old new is are was written =
@@ -141,14 +141,14 @@ module _ (file : List ℕ) where
     all_or_none c (inl shut) = inl (closed_is c (length batch) shut)
     all_or_none c (inr is) = inr (ap recovered is ∙ after_gate)
 
-  -- a cut behind the lines leaves them, and a front of what is behind them
+  -- a cut after the lines leaves them, and a front of what comes after them
   pub cut_is : (c : List ℕ) → Cut (length text) file c → c ≡ text ++ take (length c - length text) (parts file).end
   cut_is c cut =
       let most : length c ≡ length text + (length c - length text) = omega (arith, cut.no_shorter) in
       sym cut.front ∙ ap (λ (l : List ℕ). take (length c) l) (parts file).split
       ∙ ap (λ (n : ℕ). take n (text ++ (parts file).end)) most ∙ take-append-add text (parts file).end (length c - length text)
 
-  -- a cut behind the lines leaves just them
+  -- a cut after the lines leaves just them
   pub cut_done : take (length text) file ≡ text
   cut_done = ap (λ (l : List ℕ). take (length text) l) (parts file).split ∙ take_at text (parts file).end (length text) refl
 
@@ -156,7 +156,7 @@ module _ (file : List ℕ) where
   pub fits : length text ≤ length file
   fits = omega (arith, ap length (parts file).split, length-append text (parts file).end)
 
-  -- the write of the gate leaves the lines, with the gate or a NUL behind them, or with nothing
+  -- the write of the gate leaves the lines, with the gate or a NUL after them, or with nothing
   pub torn_end : (at : ℕ) (old new : List ℕ) → at ≡ length text → old ≡ text → TornByte at 32 old new → IsRepaired file new
   torn_end at old new is was (inl same) = inl (record {
     no_shorter = omega (arith, ap length (same ∙ was));

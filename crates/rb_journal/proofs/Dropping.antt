@@ -42,13 +42,13 @@ longer : (xs ys : List ℕ) → len xs ≤ len (xs ++ ys)
 longer [] ys = omega arith
 longer (b ∷ xs) ys = longer_step (b == 10) b xs ys refl (longer xs ys)
 
--- with more behind it the first line is no shorter
+-- with more after it the first line is no shorter
 pub no_shorter : (xs ys : List ℕ) → line_len xs ≤ line_len (xs ++ ys)
 no_shorter xs ys = omega (arith, longer xs ys, len_is xs, len_is (xs ++ ys))
 
 -- ---- what was dropped so far
 
--- of what waited and what was read behind it, the bytes that are gone have no line feed, and these wait now
+-- of what waited and what was read after it, the bytes that are gone have no line feed, and these wait now
 pub record Dropped (old now : List ℕ) (had has : Option (List ℕ)) : Type 0 where
   pub more : List ℕ
   pub gone : List ℕ
@@ -64,7 +64,7 @@ module _ {old p : List ℕ} {had mid : Option (List ℕ)} (d : Dropped old p had
   pub all_length : (line_len (old ++ d.more) ≡ length d.gone + line_len p) × (length (old ++ d.more) ≡ length d.gone + length p)
   all_length = (ap line_len d.all ∙ line_behind d.gone p d.one, ap length d.all ∙ length-append d.gone p)
 
-  -- what is behind that line
+  -- what comes after that line
   pub behind_all : drop (line_len p + 1) p ≡ drop (line_len (old ++ d.more) + 1) (old ++ d.more)
   behind_all =
       let at : line_len (old ++ d.more) + 1 ≡ length d.gone + (line_len p + 1) = omega (arith, all_length.0) in
@@ -100,7 +100,7 @@ read_failed old new had has failed calls why some is = absurd is
 -- ---- the line that was dropped
 
 module _ {old new : Buffers} {had has : Option (List ℕ)} (d : DropsLine old new had has) where
-  -- the line and what is behind it
+  -- the line and what comes after it
   abbrev all : List ℕ
   all = old.pending ++ d.more
 

@@ -37,7 +37,7 @@ pub was_going : {P : Type 0} (was is : Bool) → (was ≡ true → P × (is ≡ 
 was_going true is still going = absurd (cc (going, (still refl).1))
 was_going false is still going = refl
 
--- lines that were taken are, whatever is read behind what waits
+-- lines that were taken are, whatever is read after what waits
 taken_more : (p q more : List ℕ) (e e' : Bool) (taken : List (List ℕ)) → IsTaken p e taken q
     → (e ≡ true → (more ≡ []) × (e' ≡ true)) → IsTaken (p ++ more) e' taken (q ++ more)
 taken_more p q more e e' taken is still = record {
@@ -98,13 +98,14 @@ prefix_on {S} output now d xs ys is some = (
   some.1 ∙ rw (is, append_assoc, flat_map-append, take-append-add),
 )
 
--- if lines were taken, the turns that answer them come first, and then those of the lines behind them
-pub first_then : {S : Type 0} (n m : ℕ) (xs ys : List (Turn S)) (p q rest : List ℕ) (e : Bool) (taken : List (List ℕ))
-    → IsTaken p e taken q → (e ≡ true → rest ≡ []) → m ≡ n + length taken → lines_answered xs ≡ to_answer n taken
-    → AreFirst m ys (q ++ rest) → AreFirst n (xs ++ ys) (p ++ rest)
-first_then n m xs ys p q rest e taken is end number answered (later, are) = (
+-- if lines were taken, the turns that answer them come first, and then those of the lines after them
+first_then : {S : Type 0} (n m : ℕ) (xs ys : List (Turn S)) {p q : List ℕ} {e : Bool} {taken : List (List ℕ)} (rest : Option (List ℕ))
+    → IsTaken p e taken q → (e ≡ true → IsAtEnd rest) → m ≡ n + length taken → lines_answered xs ≡ to_answer n taken
+    → IfSome (served_input q rest) (AreFirst m ys) → IfSome (served_input p rest) (AreFirst n (xs ++ ys))
+first_then n m xs ys None is end number answered are = tt
+first_then n m xs ys {q = q} {taken = taken} (Some r) is end number answered (later, are) = (
   later,
-  rw (is.lines rest end, to_answer_then n m taken (lines_of (q ++ rest)) number, are, ← answered, map-append, append_assoc),
+  rw (is.lines r end, to_answer_then n m taken (lines_of (q ++ r)) number, are, ← answered, map-append, append_assoc),
 )
 
 first_on : {S : Type 0} {answers : Answers S} {was e : Bool} {p q : Point S} (had has : Option (List ℕ))
@@ -113,14 +114,22 @@ first_on : {S : Type 0} {answers : Answers S} {was e : Bool} {p q : Point S} (ha
     → IfSome (served_input p.pending had) (AreFirst p.number (g.steps.turns ++ ys))
 first_on None has g end ys are = tt
 first_on (Some x) None g end ys are = absurd g.read
-first_on {e = e} {p = p} {q = q} (Some x) (Some y) g end ys are =
+first_on {p = p} {q = q} (Some x) (Some y) g end ys are =
     let s = g.steps in
     subst (AreFirst p.number (s.turns ++ ys)) (append_assoc p.pending g.more y ∙ ap (λ l. p.pending ++ l) (sym g.read))
-    (first_then p.number q.number s.turns ys (p.pending ++ g.more) q.pending y e s.taken s.taken_is end s.number_is s.answered are)
+    (first_then p.number q.number s.turns ys (Some y) s.taken_is end s.number_is s.answered are)
 
 first_none : (S : Type 0) (first : ℕ) (input : Option (List ℕ)) → IfSome input (AreFirst {S = S} first [])
 first_none S first None = tt
 first_none S first (Some all) = (to_answer first (lines_of all), refl)
+
+-- the turns that answer the lines that were taken are first
+pub first_of : {S : Type 0} {answers : Answers S} {e : Bool} {p q : Point S} (rest : Option (List ℕ)) → (e ≡ true → IsAtEnd rest)
+    → (a : Advances answers e p q) → IfSome (served_input p.pending rest) (AreFirst p.number a.turns)
+first_of {S} {p = p} {q = q} rest end a =
+    rw append-nil at
+    (first_then p.number q.number a.turns [] rest a.taken_is end a.number_is a.answered
+    (first_none S q.number (served_input q.pending rest)))
 
 -- before the first turn
 pub run_start : {S : Type 0} {answers : Answers S} {first : ℕ} {input : Option (List ℕ)} {begin : S} {lines : List (List ℕ)}

@@ -1,4 +1,4 @@
--- Files that aren't damaged: what is behind their lines.
+-- Files that aren't damaged: what comes after their lines.
 use Rattle.std.proofs.Common.{◌≡◌, ◌⊎◌, inl, inr, ℕ, zero, suc, ◌-◌, ◌≤◌, List, [], ◌∷◌, ◌++◌, length, get_or, take, drop}
 use Rattle.std.proofs.Common.{refl, sym, ◌∙◌, ap, subst, arith, append_assoc, append-nil}
 use Rattle.std.specs.Prelude.{◌≢◌}
@@ -10,7 +10,7 @@ use Rattle.rb_journal.specs.Journal.{IsAppended, HasClosedGate, IsRepaired}
 use Rattle.rb_journal.proofs.Public.Lines.{parts, recovered-append, closed, short_nothing, front_nothing, front_of_line}
 use Rattle.rb_journal.proofs.Crash.{after_gate, cut_is}
 
--- what is read as nothing, behind the lines of a file, is what is behind the lines of both
+-- bytes that are read as nothing come after the lines of a file, and of both together
 pub behind_is : (file rest : List ℕ) → recovered rest ≡ [] → behind_lines (concat (recovered file) ++ rest) ≡ rest
 behind_is file rest none =
     let text : List ℕ = concat (recovered file) in
@@ -18,15 +18,15 @@ behind_is file rest none =
     recovered-append file rest ∙ ap (λ ls. recovered file ++ ls) none ∙ append-nil (recovered file) in
     ap (λ ls. drop (length (concat ls)) (text ++ rest)) same ∙ drop_at text rest (length text) refl
 
--- what a crash may leave behind lines is read as nothing, but for the beginning of a line
+-- what a crash may leave after lines is read as nothing, but for the beginning of a line
 pub intact : (file rest : List ℕ) → recovered rest ≡ [] → MayBeBehind rest → IsIntact (concat (recovered file) ++ rest)
 intact file rest none may = subst MayBeBehind (sym (behind_is file rest none)) may
 
--- so is what is behind the lines of a file
+-- so is what comes after the lines of a file
 pub end_is : (file : List ℕ) → behind_lines file ≡ (parts file).end
 end_is file = ap behind_lines (parts file).split ∙ behind_is file (parts file).end (parts file).nothing
 
--- a closed gate, with any bytes behind it
+-- a closed gate, with any bytes after it
 pub gate_intact : (file rest : List ℕ) → IsIntact (concat (recovered file) ++ 32 ∷ rest)
 gate_intact file rest = intact file (32 ∷ rest) (closed 32 rest (λ is. absurd (omega arith))) (inl refl)
 
@@ -38,7 +38,7 @@ closed_intact file c most (bytes, is, few) =
 pub at_rest_intact : (file : List ℕ) → IsIntact (at_rest (recovered file))
 at_rest_intact file = gate_intact file []
 
--- what may be behind lines may be there in part
+-- what may be after lines may be there in part
 front_behind : (n : ℕ) (rest : List ℕ) → MayBeBehind rest → MayBeBehind (take n rest)
 front_behind zero rest may = tt
 front_behind (suc n) [] may = tt
@@ -57,9 +57,9 @@ repaired_intact file c was (inl cut) =
     subst IsIntact (sym (cut_is file c cut)) (intact file (take n end) (front_nothing n end (parts file).nothing)
     (front_behind n end (subst MayBeBehind (end_is file) was)))
 
--- ---- the first byte behind the lines says whether a file is damaged
+-- ---- the first byte after the lines says whether a file is damaged
 
--- the first of some bytes says whether they may be behind lines
+-- the first of some bytes says whether they may be after lines
 pub by_first : (rest : List ℕ) → recovered rest ≡ []
     → (get_or rest 0 0 ≡ 0) ⊎ (get_or rest 0 0 ≡ 32) ⊎ (get_or rest 0 0 ≡ 123) → MayBeBehind rest
 by_first [] none first = tt

@@ -11,7 +11,7 @@ module _ {H : Type 0} {h : Ghosts H} where
   -- one call, before which each file that a crash leaves has P
   pub one_call : {T : Type 0} {P : List ℕ → Type 0} {old new : H} {r : Result T HostError} (during : List ℕ → Type 0)
       → ((c d : List ℕ) → h.left_since old (h.moment old) c d → P c × (d ≡ h.output old)) →
-      Elapses (h.moment old) (h.moment new) (h.left_since old) (h.left_since new) (λ c d. during c × (d ≡ h.output old))
+      Elapses h.moment h.left_since old new (λ c d. during c × (d ≡ h.output old))
       → ((c : List ℕ) → during c → P c) → OnOk r (h.is_usable new) → h.output new ≡ h.output old
       → h.reported new ≡ h.reported old → DiskCause (h.faults old) (h.faults new) r → Quiet h P old new r
   one_call {P} {old} {new} during start time here usable same reported cause = record {

@@ -1,7 +1,6 @@
 -- The runs that a commit of turns may leave, and the meaning of a full file.
-use Rattle.std.proofs.Common.{◌≡◌, ◌≤◌, ◌+◌, ◌^◌, ◌⊎◌, ℕ, Bool, true, List, [], ◌++◌, length, Option, Some, None, inl, inr, refl, sym}
-use Rattle.std.proofs.Common.{ap, ◌∙◌, arith, append-nil, length-append}
-use Rattle.std.specs.Prelude.{IfSome}
+use Rattle.std.proofs.Common.{◌≡◌, ◌≤◌, ◌+◌, ◌^◌, ◌⊎◌, ℕ, Bool, true, List, [], ◌++◌, length, Option, inl, inr, refl, sym}
+use Rattle.std.proofs.Common.{◌∙◌, arith, append-nil, length-append}
 use Rattle.std.proofs.lemmas.List.Folds.{concat-append}
 use Rattle.std.specs.List.{concat}
 use Rattle.std.specs.Io.KnownBytes.{IsAtEnd}
@@ -9,28 +8,13 @@ use Rattle.rb_journal.specs.Journal.{IsDurable}
 use Rattle.rb_journal.specs.Lines.{IsBatch, recovered}
 use Rattle.rb_journal.specs.declared.host.HostError.{HostError}
 use Rattle.rb_journal.specs.declared.host.HostError.TheVariants.{DiskFailed, Full}
-use Rattle.rb_lines.specs.Lines.{lines_of}
 use Rattle.rb_journal.specs.Ends.{IsFull}
 use Rattle.rb_journal.specs.Faults.{fault_of_host}
-use Rattle.rb_journal.specs.Run.{AreFirst, IsRunOfBatches, served_input}
-use Rattle.rb_journal.specs.Steps.{Advances, AdvancesByBatch, IsTaken, Point}
-use Rattle.rb_journal.specs.Turns.{Answers, Turn, lines_answered, texts, to_answer}
+use Rattle.rb_journal.specs.Run.{IsRunOfBatches, served_input}
+use Rattle.rb_journal.specs.Steps.{Advances, AdvancesByBatch, Point}
+use Rattle.rb_journal.specs.Turns.{Answers, texts}
 use Rattle.rb_journal.specs.declared.fault.ServeFault.TheVariants.{Journal}
-use Rattle.rb_journal.proofs.Advance.{to_answer_then}
-use Rattle.rb_journal.proofs.Follow.{run_start}
-
--- if lines were taken, the turns that answer them are first
-first_of_taken : {S : Type 0} (first : ℕ) (turns : List (Turn S)) (p q : List ℕ) (e : Bool) (taken : List (List ℕ))
-    (rest : Option (List ℕ))
-    → IsTaken p e taken q → (e ≡ true → IsAtEnd rest) → lines_answered turns ≡ to_answer first taken
-    → IfSome (served_input p rest) (AreFirst first turns)
-first_of_taken first turns p q e taken None is end answered = tt
-first_of_taken first turns p q e taken (Some r) is end answered =
-    let left = to_answer (first + length taken) (lines_of (q ++ r)) in (
-      left,
-      ap (to_answer first) (is.lines r end) ∙ to_answer_then first (first + length taken) taken (lines_of (q ++ r)) refl
-          ∙ ap (λ ls. ls ++ left) (sym answered),
-    )
+use Rattle.rb_journal.proofs.Follow.{first_of, run_start}
 
 module _ {S : Type 0} {answers : Answers S} {e : Bool} {p q : Point S} (rest : Option (List ℕ)) (batch : List ℕ)
     (end : e ≡ true → IsAtEnd rest) (lines : q.lines ≡ p.lines ++ recovered batch) where
@@ -43,7 +27,7 @@ module _ {S : Type 0} {answers : Answers S} {e : Bool} {p q : Point S} (rest : O
     done = [];
     batch = a.turns;
     are = a.are;
-    in_order = first_of_taken p.number a.turns p.pending q.pending e a.taken rest a.taken_is end a.answered;
+    in_order = first_of rest end a;
     lines_are = at.0 ∙ sym lines ∙ a.lines_are;
     output_is = (at.1.0, at.1.1 ∙ rw (text, append-nil output) refl);
     one_batch = one;
@@ -55,7 +39,7 @@ module _ {S : Type 0} {answers : Answers S} {e : Bool} {p q : Point S} (rest : O
   is_full a whole at long = record {
     turns = a.turns;
     are = a.are;
-    in_order = first_of_taken p.number a.turns p.pending q.pending e a.taken rest a.taken_is end a.answered;
+    in_order = first_of rest end a;
     long = rw (← a.lines_are, lines, concat-append, whole) (omega (arith, at, long, length-append (concat p.lines) batch));
   }
 

@@ -55,12 +55,12 @@ AddsPrefix output bytes d = (k : ℕ) × (d ≡ output ++ take k bytes)
 abbrev pub Outputs : (List ℕ → Type 0) → List ℕ → List ℕ → List ℕ → List ℕ → Type 0
 Outputs outcomes output bytes c d = outcomes c × AddsPrefix output bytes d
 
--- time goes on: a crash since t might have left what it might have left before, or what it may leave during this call.
-pub record Elapses (before now : ℕ) (past since : ℕ → List ℕ → List ℕ → Type 0) (during : List ℕ → List ℕ →
-    Type 0) : Type 0 where
-  pub later : before ≤ now
-  pub nothing_else : (t : ℕ) (c d : List ℕ) → t ≤ before → since t c d → past t c d ⊎ during c d
-  pub keeps : (t : ℕ) (c d : List ℕ) → t ≤ before → past t c d → since t c d
+-- time goes on: a crash since t might have left what it might have left before, or what it may leave during this call
+pub record Elapses {H : Type 0} (moment : H → ℕ) (left_since : H → ℕ → List ℕ → List ℕ → Type 0) (old new : H)
+    (during : List ℕ → List ℕ → Type 0) : Type 0 where
+  pub later : moment old ≤ moment new
+  pub nothing_else : (t : ℕ) (c d : List ℕ) → t ≤ moment old → left_since new t c d → left_since old t c d ⊎ during c d
+  pub keeps : (t : ℕ) (c d : List ℕ) → t ≤ moment old → left_since old t c d → left_since new t c d
 
 -- a crash at any moment since old leaves a file, with what was put out by then, that have P
 pub record LeavesOnly {H : Type 0} (moment : H → ℕ) (left_since : H → ℕ → List ℕ → List ℕ →

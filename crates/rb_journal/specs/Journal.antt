@@ -27,15 +27,15 @@ abbrev pub IsDurable : List (List ℕ) → List (List ℕ) → List ℕ → List
 IsDurable lines batch output reply c d =
     ((recovered c ≡ lines) × (d ≡ output)) ⊎ ((recovered c ≡ lines ++ batch) × AddsPrefix output reply d)
 
--- the file is the lines and the closed gate, with no more than this many bytes behind it
+-- the file is the lines and the closed gate, with no more than this many bytes after it
 abbrev pub HasClosedGate : List (List ℕ) → ℕ → List ℕ → Type 0
 HasClosedGate lines most c = (bytes : List ℕ) × (c ≡ at_rest lines ++ bytes) × (length bytes ≤ most)
 
--- an append has left the gate closed, with no more bytes behind it than the batch has, or the batch is behind the lines
+-- an append has left the gate closed, with no more bytes after it than the batch has, or the batch comes after the lines
 abbrev pub IsAppended : List (List ℕ) → List ℕ → List ℕ → Type 0
 IsAppended lines batch c = HasClosedGate lines (length batch) c ⊎ (c ≡ at_rest (lines ++ recovered batch))
 
--- a repair has cut some bytes off behind the lines, and then written the gate behind them, or left a NUL there
+-- a repair has cut some bytes off after the lines, and then written the gate after them, or left a NUL there
 abbrev pub IsRepaired : List ℕ → List ℕ → Type 0
 IsRepaired file c = Cut (length (concat (recovered file))) file c
     ⊎ (c ≡ concat (recovered file) ++ 32 ∷ []) ⊎ (c ≡ concat (recovered file) ++ 0 ∷ [])

@@ -22,7 +22,7 @@ is_open (b ∷ line) = b == 123
 abbrev pub recovered : List ℕ → List (List ℕ)
 recovered file = take_while is_open (lines_in file)
 
--- what is behind the lines of a file
+-- what comes after the lines of a file
 abbrev pub behind_lines : List ℕ → List ℕ
 behind_lines file = drop (length (concat (recovered file))) file
 
@@ -32,7 +32,7 @@ is_bare_gate [] = true
 is_bare_gate (b ∷ []) = b == 32 || b == 0
 is_bare_gate (b ∷ c ∷ bytes) = false
 
--- of these bytes behind lines, those that are kept if they are cut off: all, unless they are a bare gate
+-- of these bytes after lines, those that are kept if they are cut off: all, unless they are a bare gate
 abbrev pub to_keep : List ℕ → List ℕ
 to_keep bytes = if is_bare_gate bytes then [] else bytes
 
@@ -40,8 +40,8 @@ to_keep bytes = if is_bare_gate bytes then [] else bytes
 abbrev pub what_is_cut : List ℕ → List ℕ
 what_is_cut file = to_keep (behind_lines file)
 
--- what a crash may leave behind lines: nothing; a closed gate, a space (32), or a NUL in its place, with any bytes
--- behind it; or the front of one line, which begins with `{` and has no LF
+-- what a crash may leave after lines: nothing; a closed gate, a space (32), or a NUL in its place, with any bytes
+-- after it; or the front of one line, which begins with `{` and has no LF
 abbrev pub MayBeBehind : List ℕ → Type 0
 MayBeBehind [] = Unit {0}
 MayBeBehind (b ∷ bytes) = (b ≡ 32) ⊎ (b ≡ 0) ⊎ ((b ≡ 123) × All (λ c. c ≢ 10) bytes)

@@ -50,7 +50,7 @@ point_at r h responder journal work buffers =
 abbrev pub waits : {S : Type 0} → Point S → List ℕ → Point S
 waits p pending = record p { pending = pending }
 
--- and now more bytes, behind those that waited
+-- and now more bytes, after those that waited
 abbrev pub longer : {S : Type 0} → Point S → List ℕ → Point S
 longer p more = waits p (p.pending ++ more)
 
@@ -58,7 +58,7 @@ longer p more = waits p (p.pending ++ more)
 abbrev pub IsRunFrom : {S : Type 0} → Answers S → Point S → Option (List ℕ) → List ℕ → List ℕ → Type 0
 IsRunFrom answers p rest = IsRunOfBatches answers p.number (served_input p.pending rest) p.state p.lines p.text
 
--- these lines were taken off what waits, whatever is read behind it; behind the end of the input nothing is
+-- these lines were taken off what waits, whatever is read after it; after the end of the input nothing is
 pub record IsTaken (pending : List ℕ) (ended : Bool) (taken : List (List ℕ)) (left : List ℕ) : Type 0 where
   pub lines : (rest : List ℕ) → (ended ≡ true → rest ≡ []) →
       lines_of (pending ++ rest) ≡ taken ++ lines_of (left ++ rest)
@@ -77,7 +77,7 @@ pub record Advances {S : Type 0} (answers : Answers S) (ended : Bool) (old new :
   pub answered : lines_answered turns ≡ to_answer old.number taken
   pub taken_is : IsTaken old.pending ended taken new.pending
 
--- bytes were read, behind what waited, and lines of both were answered; an input that had ended gave none, and still has
+-- bytes were read, after what waited, and lines of both were answered; an input that had ended gave none, and still has
 pub record Goes {S : Type 0} (answers : Answers S) (was is : Bool) (old new : Point S) (had has : Option (List ℕ)) : Type 0 where
   pub more : List ℕ
   pub read : Consumes had has more
@@ -94,7 +94,7 @@ IsWaiting b (Line n) = IsWholeLine b n
 IsWaiting b Long = LINE_LIMIT < line_len b.pending
 IsWaiting b Nothing = (line_len b.pending ≡ length b.pending) × (b.ended ≡ true → b.pending ≡ [])
 
--- the line at the front of what waited and of what was read behind it was dropped, with its line feed, if it has one;
+-- the line at the front of what waited and of what was read after it was dropped, with its line feed, if it has one;
 -- if it hasn't, the input has ended
 pub record DropsLine (old new : Buffers) (had has : Option (List ℕ)) : Type 0 where
   pub more : List ℕ
@@ -104,7 +104,7 @@ pub record DropsLine (old new : Buffers) (had has : Option (List ℕ)) : Type 0 
       ⊎ ((line_len (old.pending ++ more) ≡ length (old.pending ++ more)) × (new.ended ≡ true))
   pub left : new.pending ≡ drop (line_len (old.pending ++ more) + 1) (old.pending ++ more)
 
--- the reader may be read from while what waits and what is read behind it is the front of one line
+-- the reader may be read from while what waits and what is read after it is the front of one line
 abbrev pub MayReadOn : {I : Type 0} → Ghosts I → Buffers → I → List ℕ → Type 0
 MayReadOn i buffers reader said = (more : List ℕ) (left : Option (List ℕ)) → Consumes (i.remaining reader) left more
     → buffers.ended ≡ false → line_len (buffers.pending ++ more) ≡ length (buffers.pending ++ more) → i.may_read reader left said

@@ -57,7 +57,7 @@ to_answer n [] = []
 to_answer n (line ∷ lines) =
     if is_skipped line then to_answer (n + 1) lines else (n, line) ∷ to_answer (n + 1) lines
 
--- the responder took a line: what it adds is in the batch too, and its text is behind the others
+-- the responder took a line: what it adds is in the batch too, and its text comes after the others
 pub record IsTurn {S : Type 0} (answers : Answers S) (old new : S) (lines lines_new batch batch_new : List (List ℕ))
     (number : ℕ) (line text text_new : List ℕ) : Type 0 where
   pub added : List (List ℕ)

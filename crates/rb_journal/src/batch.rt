@@ -2,7 +2,6 @@
 ghost use Rattle.std.specs.Prelude.{◌≡◌, []};
 ghost use Rattle.rb_journal.specs.Lines.{IsBatch};
 
-use crate::spare::take_out_all;
 use std::alloc::Global;
 
 /// Whole lines, each with its LF.
@@ -20,12 +19,5 @@ impl LineBatch {
         LineBatch {
             bytes: Vec::new(alloc),
         }
-    }
-
-    /// Takes all lines out. It keeps the spare capacity, unless that is large.
-    pub fn clear(&mut self)
-        ensures { self.new.bytes.items ≡ [] }
-    {
-        take_out_all(&mut self.bytes);
     }
 }

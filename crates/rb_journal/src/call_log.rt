@@ -10,17 +10,18 @@ use std::marker::{Model, PhantomData};
 
 const FOUND: u64 = 0;
 
-const WROTE: u64 = 1;
+pub(crate) const WROTE: u64 = 1;
 
-const CUT: u64 = 2;
+pub(crate) const CUT: u64 = 2;
 
-const SYNCED: u64 = 3;
+pub(crate) const SYNCED: u64 = 3;
 
-const PUT_OUT: u64 = 4;
+/// The number is how many of the bytes were put out.
+pub(crate) const PUT_OUT: u64 = 4;
 
-const OUTPUT_FAILED: u64 = 5;
+pub(crate) const OUTPUT_FAILED: u64 = 5;
 
-const KEPT: u64 = 6;
+pub(crate) const KEPT: u64 = 6;
 
 const OPENED: u64 = 7;
 
@@ -39,8 +40,7 @@ impl CallLog {
     ghost use Rattle.std.specs.Prelude.{◌++◌, Ok, Err, if◌then◌else◌};
     ghost use Rattle.rb_journal.specs.Calls.{files_read};
     ghost use Rattle.rb_journal.specs.declared.host.HostError.TheVariants.{DiskFailed};
-    ghost use Rattle.rb_journal.specs.Planned.{cut_event, failed_event, found_event, kept_event, made_event};
-    ghost use Rattle.rb_journal.specs.Planned.{opened_event, output_event, sync_event, wrote_event};
+    ghost use Rattle.rb_journal.specs.Planned.{found_event, made_event, opened_event};
 
     /// No call yet.
     pub fn new() -> CallLog
@@ -56,8 +56,14 @@ impl CallLog {
         ensures { self.new.events ≡ noted_call_of _numbers.now _bytes.now ∷ self.old.events }
     {}
 
-    /// Notes a call that was tried, and whether it succeeded.
-    fn tried(&mut self, kind: u64, number: u64, bytes: &[u8], ok: bool) -> Result<(), HostError>
+    /// Notes a call of this kind that was tried, with its number and its bytes, and whether it succeeded.
+    pub(crate) fn tried(
+        &mut self,
+        kind: u64,
+        number: u64,
+        bytes: &[u8],
+        ok: bool,
+    ) -> Result<(), HostError>
         ensures noted { self.new.events ≡ (kind, number, ok, bytes.now) ∷ self.old.events }
         ensures answer { result ≡ (if ok then Ok tt else Err DiskFailed) }
     {
@@ -103,53 +109,7 @@ impl CallLog {
             Call::Cut { len } => self.note(&[CUT, *len as u64, 1], &[]),
             Call::Sync => self.note(&[SYNCED, 0, 1], &[]),
             Call::Keep { lines: _, bytes } => self.note(&[KEPT, 0, 1], bytes),
-            Call::PutOut { bytes } => self.put_out(bytes, bytes.len()),
+            Call::PutOut { bytes } => self.note(&[PUT_OUT, bytes.len() as u64, 1], bytes),
         }
-    }
-
-    /// A write of these bytes at this place, and whether it succeeded.
-    pub(crate) fn wrote(&mut self, at: usize, bytes: &[u8], ok: bool) -> Result<(), HostError>
-        ensures noted { self.new.events ≡ wrote_event ok at bytes.now ∷ self.old.events }
-        ensures answer { result ≡ (if ok then Ok tt else Err DiskFailed) }
-    {
-        self.tried(WROTE, at as u64, bytes, ok)
-    }
-
-    /// A cut to this length, and whether it succeeded.
-    pub(crate) fn cut(&mut self, len: usize, ok: bool) -> Result<(), HostError>
-        ensures noted { self.new.events ≡ cut_event ok len ∷ self.old.events }
-        ensures answer { result ≡ (if ok then Ok tt else Err DiskFailed) }
-    {
-        self.tried(CUT, len as u64, &[], ok)
-    }
-
-    /// A sync, and whether it succeeded.
-    pub(crate) fn synced(&mut self, ok: bool) -> Result<(), HostError>
-        ensures noted { self.new.events ≡ sync_event ok ∷ self.old.events }
-        ensures answer { result ≡ (if ok then Ok tt else Err DiskFailed) }
-    {
-        self.tried(SYNCED, 0, &[], ok)
-    }
-
-    /// These bytes were added to the file that keeps what is cut off, and whether all of it succeeded.
-    pub(crate) fn kept(&mut self, bytes: &[u8], ok: bool) -> Result<(), HostError>
-        ensures noted { self.new.events ≡ kept_event ok bytes.now ∷ self.old.events }
-        ensures answer { result ≡ (if ok then Ok tt else Err DiskFailed) }
-    {
-        self.tried(KEPT, 0, bytes, ok)
-    }
-
-    /// The first `count` of these bytes were put out.
-    pub(crate) fn put_out(&mut self, bytes: &[u8], count: usize)
-        ensures { self.new.events ≡ output_event count bytes.now ∷ self.old.events }
-    {
-        self.note(&[PUT_OUT, count as u64, 1], bytes);
-    }
-
-    /// These bytes were to be put out, and the output failed.
-    pub(crate) fn output_failed(&mut self, bytes: &[u8])
-        ensures { self.new.events ≡ failed_event bytes.now ∷ self.old.events }
-    {
-        self.note(&[OUTPUT_FAILED, 0, 0], bytes);
     }
 }

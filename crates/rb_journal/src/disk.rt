@@ -15,7 +15,7 @@ ghost use Rattle.rb_journal.specs.Disk.{IsAskedFor, disk_log};
 ghost use Rattle.rb_journal.specs.Planned.{opened_event};
 ghost use Rattle.rb_journal.specs.declared.open_error.OpenError.TheVariants.{Failed, IsErrors, NoFile};
 
-use crate::call_log::CallLog;
+use crate::call_log::{CUT, CallLog, KEPT, OUTPUT_FAILED, PUT_OUT, SYNCED, WROTE};
 use crate::named_file::{keep_beside, leads_to, open_file, read_locked, sync_folder, write_again};
 use crate::open_error::OpenError;
 use crate::streams::is_errors;
@@ -205,8 +205,6 @@ impl<R: Files<File = fs::File> + Clock + Eprint + AllocGlobal, P: Print> Host fo
 
     ghost may_leave = { λ h. leaves h.log.events };
 
-    ghost reported = { λ _. [] };
-
     ghost moment = { λ h. length h.log.events };
 
     ghost left_since = { λ h. left_since h.log.events };
@@ -222,7 +220,7 @@ impl<R: Files<File = fs::File> + Clock + Eprint + AllocGlobal, P: Print> Host fo
     fn write_again(&mut self, bytes: &[u8]) -> Result<(), HostError> {
         let done = self.make_durable(bytes);
         if !is_done(&mut self.failed, done) {
-            return self.log.synced(false);
+            return self.log.tried(SYNCED, 0, &[], false);
         }
         self.log.note_found(bytes);
         Ok(())
@@ -231,13 +229,15 @@ impl<R: Files<File = fs::File> + Clock + Eprint + AllocGlobal, P: Print> Host fo
     fn write_at(&mut self, at: usize, bytes: &[u8]) -> Result<(), HostError> {
         let done = self.write_there(at, bytes);
         self.len = self.len.max((at as u64).saturating_add(bytes.len() as u64));
-        self.log.wrote(at, bytes, is_done(&mut self.failed, done))
+        self.log
+            .tried(WROTE, at as u64, bytes, is_done(&mut self.failed, done))
     }
 
     fn cut(&mut self, len: usize) -> Result<(), HostError> {
         let done = self.set_len(len as u64);
         self.len = len as u64;
-        self.log.cut(len, is_done(&mut self.failed, done))
+        self.log
+            .tried(CUT, len as u64, &[], is_done(&mut self.failed, done))
     }
 
     fn keep(&mut self, lines: u64, bytes: &[u8]) -> Result<(), HostError> {
@@ -252,22 +252,23 @@ impl<R: Files<File = fs::File> + Clock + Eprint + AllocGlobal, P: Print> Host fo
         if ok {
             say_kept(&self.rt, self.path.as_str(), lines, bytes.len());
         }
-        self.log.kept(bytes, ok)
+        self.log.tried(KEPT, 0, bytes, ok)
     }
 
     fn sync(&mut self) -> Result<(), HostError> {
         let done = self.file.sync_data();
-        self.log.synced(is_done(&mut self.failed, done))
+        self.log
+            .tried(SYNCED, 0, &[], is_done(&mut self.failed, done))
     }
 
     fn put_out(&mut self, bytes: &[u8]) -> Result<usize, HostError> {
         match put_out(&self.rt, &self.out, bytes) {
             Some(count) => {
-                self.log.put_out(bytes, count);
+                let _noted = self.log.tried(PUT_OUT, count as u64, bytes, true);
                 Ok(count)
             }
             None => {
-                self.log.output_failed(bytes);
+                let _noted = self.log.tried(OUTPUT_FAILED, 0, bytes, false);
                 Err(HostError::OutputFailed)
             }
         }

@@ -66,7 +66,7 @@ pub fn answer_group<R: JournaledResponder, H: Host>(
 {
     let answered = answer_waiting(responder, buffers, work);
     journal.commit_and_put_out(&mut work.batch.bytes, &buffers.buffered)?;
-    work.batch.clear();
+    take_out_all(&mut work.batch.bytes);
     take_out_all(&mut buffers.buffered);
     Ok(answered?)
 }

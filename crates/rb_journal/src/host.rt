@@ -1,5 +1,5 @@
 //! A file and an output, as the journal sees them: what is there, and what a crash may leave.
-ghost use Rattle.std.specs.Prelude.{◌≡◌, ◌⊎◌, ◌+◌, ◌<◌, ◌≤◌, ◌++◌, List, ℕ, length, take, drop, IfOk, OnOk};
+ghost use Rattle.std.specs.Prelude.{◌≡◌, ◌⊎◌, ◌+◌, ◌<◌, ◌≤◌, ◌++◌, List, ℕ, [], length, take, drop, IfOk, OnOk};
 ghost use Rattle.rb_journal.specs.declared.host.HostError.TheVariants.{Memory};
 ghost use Rattle.rb_journal.specs.Host.{Only, StepsFrom, Torn, Cut, IsWritten, Silent, Outputs, AddsPrefix, Elapses};
 ghost use Rattle.rb_journal.specs.Host.{DiskCause, MayBeCut, OutputCause};
@@ -64,7 +64,7 @@ pub trait Host {
     ghost may_leave: { Self → List ℕ → Type 0 };
 
     /// The calls that somebody else made and reported, of a host that makes none itself: no call of it changes them.
-    ghost reported: { Self → List NotedCall };
+    ghost reported: { Self → List NotedCall } = { λ _. [] };
 
     /// The moment, as a number that doesn't fall.
     ghost moment: { Self → ℕ };
@@ -91,7 +91,7 @@ pub trait Host {
         ensures output { output self.new ≡ output self.old }
         ensures kept { kept self.new ≡ kept self.old }
         ensures reported { reported self.new ≡ reported self.old }
-        ensures time { Elapses (moment self.old) (moment self.new) (left_since self.old) (left_since self.new)
+        ensures time { Elapses moment left_since self.old self.new
             (λ c d. (c ≡ content self.old) × (d ≡ output self.old)) }
         ensures cause { DiskCause (faults self.old) (faults self.new) result };
 
@@ -107,8 +107,7 @@ pub trait Host {
         ensures kept { kept self.new ≡ kept self.old }
         ensures reported { reported self.new ≡ reported self.old }
         ensures known { knows_disk self.old → knows_disk self.new }
-        ensures time { Elapses (moment self.old) (moment self.new) (left_since self.old) (left_since self.new)
-            (Silent (may_leave self.new) (output self.old)) }
+        ensures time { Elapses moment left_since self.old self.new (Silent (may_leave self.new) (output self.old)) }
         ensures cause { DiskCause (faults self.old) (faults self.new) result };
 
     /// Cuts the file to a length. Bytes that are cut off are kept before, unless they are a bare gate.
@@ -123,8 +122,7 @@ pub trait Host {
         ensures kept { kept self.new ≡ kept self.old }
         ensures reported { reported self.new ≡ reported self.old }
         ensures known { knows_disk self.old → knows_disk self.new }
-        ensures time { Elapses (moment self.old) (moment self.new) (left_since self.old) (left_since self.new)
-            (Silent (may_leave self.new) (output self.old)) }
+        ensures time { Elapses moment left_since self.old self.new (Silent (may_leave self.new) (output self.old)) }
         ensures cause { DiskCause (faults self.old) (faults self.new) result };
 
     /// Keeps bytes that are to be cut off, after this number of whole lines: they are added to the end of a file
@@ -139,8 +137,7 @@ pub trait Host {
         ensures content { content self.new ≡ content self.old }
         ensures crash { (c : List ℕ) → may_leave self.new c → may_leave self.old c }
         ensures output { output self.new ≡ output self.old }
-        ensures time { Elapses (moment self.old) (moment self.new) (left_since self.old) (left_since self.new)
-            (Silent (may_leave self.new) (output self.old)) }
+        ensures time { Elapses moment left_since self.old self.new (Silent (may_leave self.new) (output self.old)) }
         ensures cause { DiskCause (faults self.old) (faults self.new) result };
 
     /// After it, a crash leaves what is content.
@@ -154,8 +151,7 @@ pub trait Host {
         ensures kept { kept self.new ≡ kept self.old }
         ensures reported { reported self.new ≡ reported self.old }
         ensures known { knows_disk self.old → knows_disk self.new }
-        ensures time { Elapses (moment self.old) (moment self.new) (left_since self.old) (left_since self.new)
-            (Silent (may_leave self.new) (output self.old)) }
+        ensures time { Elapses moment left_since self.old self.new (Silent (may_leave self.new) (output self.old)) }
         ensures cause { DiskCause (faults self.old) (faults self.new) result };
 
     /// Puts out some of the bytes, from the first on, and answers how many. A crash inside the call may have put out
@@ -172,7 +168,7 @@ pub trait Host {
         ensures known { knows_disk self.old → knows_disk self.new }
         ensures content { content self.new ≡ content self.old }
         ensures crash { (c : List ℕ) → may_leave self.new c → may_leave self.old c }
-        ensures time { Elapses (moment self.old) (moment self.new) (left_since self.old) (left_since self.new)
+        ensures time { Elapses moment left_since self.old self.new
             (Outputs (may_leave self.old) (output self.old) bytes.now) }
         ensures cause { OutputCause (faults self.old) (faults self.new) result };
 

@@ -4,7 +4,7 @@
 ghost use Rattle.std.specs.Prelude.{◌≡◌, ◌⊎◌, ◌+◌, ◌<◌, ◌≤◌, ◌^◌, ◌++◌, [], ◌∷◌, List, ℕ, length, take, IfOk, IfErr};
 ghost use Rattle.std.specs.Prelude.{◌↔◌, drop, OnOk, IsErrOf, IsTrue, MatchOption, MatchResult};
 ghost use Rattle.std.specs.List.{concat};
-ghost use Rattle.rb_journal.specs.Host.{Cut, IsWritten, LeavesOnly, MayBeCut, Only, Outputs, Torn};
+ghost use Rattle.rb_journal.specs.Host.{Cut, IsWritten, LeavesOnly, Only, Outputs, Torn};
 ghost use Rattle.rb_journal.specs.Host.{HasCause, IsDiskError, OutputCause};
 ghost use Rattle.rb_journal.specs.Quiet.{Quiet};
 ghost use Rattle.rb_journal.specs.Lines.{recovered, at_rest, IsBatch, IsDamaged, IsIntact, MayBeBehind};
@@ -170,24 +170,7 @@ fn is_bare_gate(rest: &[u8]) -> bool
     matches!(rest, [] | [b' ' | 0])
 }
 
-// Keeps what is to be cut off after this number of lines, unless it is a bare gate.
-fn keep_rest<H: Host>(host: &mut H, lines: u64, rest: &[u8]) -> Result<(), HostError>
-    requires usable { H.is_usable host.old }
-    requires lines { lines ≡ length (recovered (H.content host.old)) }
-    ensures quiet { Quiet H.Host (H.may_leave host.old) host.old host.new result }
-    ensures kept { OnOk result (H.kept host.new ≡ H.kept host.old ++ to_keep rest.now) }
-    ensures cut { OnOk result (MayBeCut rest.now (H.kept host.new)) }
-    ensures content { H.content host.new ≡ H.content host.old }
-    ensures crash { (c : List ℕ) → H.may_leave host.new c → H.may_leave host.old c }
-{
-    if is_bare_gate(rest) {
-        Ok(())
-    } else {
-        host.keep(lines, rest)
-    }
-}
-
-// Keeps what comes after this number of lines, which end at `end`, and cuts it off.
+// Keeps what comes after this number of lines, which end at `end`, unless it is a bare gate, and cuts it off.
 fn cut_off<H: Host>(host: &mut H, lines: u64, end: usize, rest: &[u8]) -> Result<(), HostError>
     requires usable { H.is_usable host.old }
     requires lines { lines ≡ length (recovered (H.content host.old)) }
@@ -199,7 +182,9 @@ fn cut_off<H: Host>(host: &mut H, lines: u64, end: usize, rest: &[u8]) -> Result
     ensures durable { OnOk result (Only (H.content host.new) (H.may_leave host.new)) }
     ensures kept { OnOk result (H.kept host.new ≡ H.kept host.old ++ to_keep rest.now) }
 {
-    keep_rest(host, lines, rest)?;
+    if !is_bare_gate(rest) {
+        host.keep(lines, rest)?;
+    }
     host.cut(end)?;
     host.sync()
 }

@@ -5,7 +5,7 @@ ghost use Rattle.rb_journal.specs.Host.{IsWritten};
 ghost use Rattle.rb_journal.specs.Calls.{content_of, output_of, kept_of, knows_disk, leaves, left_since, faults_of};
 ghost use Rattle.rb_journal.specs.CallLaws.{now_counts, now_alone};
 
-use crate::call_log::CallLog;
+use crate::call_log::{CUT, CallLog, KEPT, PUT_OUT, SYNCED, WROTE};
 use crate::{Host, HostError};
 use std::alloc::{AllocError, Global};
 
@@ -95,8 +95,6 @@ impl Host for Memory {
 
     ghost may_leave = { λ h. leaves h.log.events };
 
-    ghost reported = { λ _. [] };
-
     ghost moment = { λ h. length h.log.events };
 
     ghost left_since = { λ h. left_since h.log.events };
@@ -115,26 +113,26 @@ impl Host for Memory {
 
     fn write_at(&mut self, at: usize, bytes: &[u8]) -> Result<(), HostError> {
         self.bytes = spliced(self.alloc, &self.bytes, at, bytes)?;
-        self.log.wrote(at, bytes, true)
+        self.log.tried(WROTE, at as u64, bytes, true)
     }
 
     fn cut(&mut self, len: usize) -> Result<(), HostError> {
         self.bytes.truncate(len);
-        self.log.cut(len, true)
+        self.log.tried(CUT, len as u64, &[], true)
     }
 
     fn keep(&mut self, _lines: u64, bytes: &[u8]) -> Result<(), HostError> {
         self.kept.extend_from_slice(bytes)?;
-        self.log.kept(bytes, true)
+        self.log.tried(KEPT, 0, bytes, true)
     }
 
     fn sync(&mut self) -> Result<(), HostError> {
-        self.log.synced(true)
+        self.log.tried(SYNCED, 0, &[], true)
     }
 
     fn put_out(&mut self, bytes: &[u8]) -> Result<usize, HostError> {
         self.output.extend_from_slice(bytes)?;
-        self.log.put_out(bytes, bytes.len());
+        let _noted = self.log.tried(PUT_OUT, bytes.len() as u64, bytes, true);
         Ok(bytes.len())
     }
 }

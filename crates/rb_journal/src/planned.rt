@@ -9,7 +9,7 @@ ghost use Rattle.rb_journal.specs.CallLaws.{now_counts, now_alone};
 ghost use Rattle.rb_journal.specs.Planned.{made_event};
 
 use crate::call::Call;
-use crate::call_log::CallLog;
+use crate::call_log::{CUT, CallLog, KEPT, PUT_OUT, SYNCED, WROTE};
 use crate::{Host, HostError};
 use std::alloc::Global;
 
@@ -107,15 +107,15 @@ impl Host for Planned {
     fn write_at(&mut self, at: usize, bytes: &[u8]) -> Result<(), HostError> {
         let copy = bytes.to_vec(self.alloc)?;
         self.calls.insert(0, Call::Write { at, bytes: copy })?;
-        self.log.wrote(at, bytes, true)
+        self.log.tried(WROTE, at as u64, bytes, true)
     }
 
     fn cut(&mut self, len: usize) -> Result<(), HostError> {
         // A cut that can't be noted counts as failed: nothing more may be asked then.
         match self.calls.insert(0, Call::Cut { len }) {
-            Ok(()) => self.log.cut(len, true),
+            Ok(()) => self.log.tried(CUT, len as u64, &[], true),
             Err(failed) => {
-                let _counted = self.log.cut(len, false);
+                let _counted = self.log.tried(CUT, len as u64, &[], false);
                 Err(HostError::from(failed))
             }
         }
@@ -124,18 +124,18 @@ impl Host for Planned {
     fn keep(&mut self, lines: u64, bytes: &[u8]) -> Result<(), HostError> {
         let copy = bytes.to_vec(self.alloc)?;
         self.calls.insert(0, Call::Keep { lines, bytes: copy })?;
-        self.log.kept(bytes, true)
+        self.log.tried(KEPT, 0, bytes, true)
     }
 
     fn sync(&mut self) -> Result<(), HostError> {
         self.calls.insert(0, Call::Sync)?;
-        self.log.synced(true)
+        self.log.tried(SYNCED, 0, &[], true)
     }
 
     fn put_out(&mut self, bytes: &[u8]) -> Result<usize, HostError> {
         let copy = bytes.to_vec(self.alloc)?;
         self.calls.insert(0, Call::PutOut { bytes: copy })?;
-        self.log.put_out(bytes, bytes.len());
+        let _noted = self.log.tried(PUT_OUT, bytes.len() as u64, bytes, true);
         Ok(bytes.len())
     }
 }

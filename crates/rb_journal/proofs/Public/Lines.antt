@@ -10,24 +10,24 @@ use Rattle.std.proofs.lemmas.List.Folds.{concat-append}
 use Rattle.std.proofs.lemmas.List.Sums.{take_while-cons}
 use Rattle.rb_journal.specs.Lines.{joined, lines_in, is_open, recovered, IsBatch, IsLine}
 
--- an LF at the beginning is a line alone, before the lines of what is behind it
+-- an LF at the beginning is a line alone, before the lines of what comes after it
 pub whole-lf : (b : ℕ) (bytes : List ℕ) → b ≡ 10 → lines_in (b ∷ bytes) ≡ (10 ∷ []) ∷ lines_in bytes
 whole-lf b bytes is = cond-true _ _ _ (eq-eqb b 10 is)
 
--- any other byte at the beginning belongs to the first line of what is behind it, if there is one
+-- any other byte at the beginning belongs to the first line of what comes after it, if there is one
 pub whole-other : (b : ℕ) (bytes : List ℕ) → (b ≡ 10 → ⊥) → lines_in (b ∷ bytes) ≡ joined b (lines_in bytes)
 whole-other b bytes other = cond-false _ _ _ (ne_eqb b 10 other)
 
--- a first line that begins with `{` is read, and behind it what is read of the others
+-- a first line that begins with `{` is read, and after it what is read of the others
 pub open-true : (line : List ℕ) (lines : List (List ℕ)) → is_open line ≡ true →
     take_while is_open (line ∷ lines) ≡ line ∷ take_while is_open lines
 open-true line lines is = take_while-cons is_open line lines ∙ cond-true (is_open line) (line ∷ take_while is_open lines) [] is
 
--- behind a first line that doesn't begin with `{` nothing is read, nor is that line
+-- after a first line that doesn't begin with `{` nothing is read, nor is that line
 pub open-false : (line : List ℕ) (lines : List (List ℕ)) → is_open line ≡ false → take_while is_open (line ∷ lines) ≡ []
 open-false line lines is = take_while-cons is_open line lines ∙ cond-false (is_open line) (line ∷ take_while is_open lines) [] is
 
--- behind the lines that are read of some, more are read as they are alone
+-- after the lines that are read of some, more are read as they are alone
 open_then : (lines more : List (List ℕ))
     → take_while is_open (take_while is_open lines ++ more) ≡ take_while is_open lines ++ take_while is_open more
 open_then [] more = refl
@@ -37,7 +37,7 @@ open_then (line ∷ lines) more = elim (cases_Bool (is_open line)) [
   | inr is ↦ rw (open-false line lines is) refl
 ]
 
--- the lines are a front of the bytes, with this end behind it, and other bytes behind them are split as they are alone
+-- the lines are a front of the bytes, which this end follows; and other bytes after them are split as they are alone
 abbrev AreFront : List (List ℕ) → List ℕ → List ℕ → Type 0
 AreFront lines bytes rest =
     (end : List ℕ) × (bytes ≡ concat lines ++ end) × (lines_in (concat lines ++ rest) ≡ lines ++ lines_in rest)
@@ -63,7 +63,7 @@ first_lines (suc n) (b ∷ bytes) rest = elim (cases_eq b 10) [
       (behind_byte b n bytes rest (lines_in bytes) other (first_lines (suc n) bytes rest))
 ]
 
--- what is behind the lines of a file is read after them
+-- more bytes are read after the lines of a file
 pub recovered-append : (file rest : List ℕ) → recovered (concat (recovered file) ++ rest) ≡ recovered file ++ recovered rest
 recovered-append file rest =
     ap (λ (ls : List (List ℕ)). take_while is_open ls) (first_lines (prefix_len is_open (lines_in file)) file rest).2
@@ -87,7 +87,7 @@ closed_joined : (b : ℕ) (lines : List (List ℕ)) → (b ≡ 123 → ⊥) → 
 closed_joined b [] shut = refl
 closed_joined b (line ∷ lines) shut = open-false (b ∷ line) lines (ne_eqb b 123 shut)
 
--- a line that doesn't begin with `{` ends them, whatever is behind it
+-- a line that doesn't begin with `{` ends them, whatever comes after it
 pub closed : (b : ℕ) (bytes : List ℕ) → (b ≡ 123 → ⊥) → recovered (b ∷ bytes) ≡ []
 closed b bytes shut = elim (cases_eq b 10) [
   | inl is ↦ ap (λ (ls : List (List ℕ)). take_while is_open ls) (whole-lf b bytes is) ∙ open-false (10 ∷ []) (lines_in bytes) refl
@@ -114,7 +114,7 @@ begins b bytes all = elim (cases_eq b 123) [
 pub lines-append : (lines rest : List ℕ) → IsBatch lines → recovered (lines ++ rest) ≡ recovered lines ++ recovered rest
 lines-append lines rest all = ap (λ (l : List ℕ). recovered (l ++ rest)) (sym all) ∙ recovered-append lines rest
 
--- and so are lines behind lines
+-- and so are lines after lines
 pub both_lines : (xs ys : List ℕ) → IsBatch xs → IsBatch ys → IsBatch (xs ++ ys)
 both_lines xs ys first second =
     ap concat (lines-append xs ys first) ∙ concat-append (recovered xs) (recovered ys)
@@ -155,7 +155,7 @@ not_whole b (line ∷ lines) is none =
     let some : (b ∷ line) ∷ take_while is_open lines ≡ [] = sym (open-true (b ∷ line) lines (eq-eqb b 123 is)) ∙ none in
     absurd (cc (some))
 
--- `{` behind the lines begins a line that isn't whole
+-- `{` after the lines begins a line that isn't whole
 pub front_of_line : (b : ℕ) (bytes : List ℕ) → b ≡ 123 → recovered (b ∷ bytes) ≡ [] → All (λ c. c ≢ 10) bytes
 front_of_line b bytes is none =
     let other : b ≡ 10 → ⊥ = λ lf. absurd (omega (arith, lf, is)) in
@@ -187,6 +187,6 @@ line_alone (b ∷ line) is =
     ap (λ (ls : List (List ℕ)). take_while is_open ls) (one_whole (b ∷ line) (λ k below lf. is.one k 0 below lf))
     ∙ open-true ((b ∷ line) ++ 10 ∷ []) [] (eq-eqb b 123 is.begins)
 
--- lines, and behind them one more with its LF, are lines
+-- lines, and after them one more with its LF, are lines
 pub still_lines : (bytes line : List ℕ) → IsBatch bytes → IsLine line → IsBatch (bytes ++ (line ++ 10 ∷ []))
 still_lines bytes line all is = both_lines bytes (line ++ 10 ∷ []) all (ap concat (line_alone line is) ∙ append-nil (line ++ 10 ∷ []))

@@ -10,7 +10,7 @@ module _ {H : Type 0} (moment : H → ℕ) (left_since : H → ℕ → List ℕ 
 
   -- one call more, during which a crash leaves what has P
   pub goes_on : (old mid new : H) (P during : List ℕ → List ℕ → Type 0) → LeavesOnly moment left_since old mid P →
-      Elapses (moment mid) (moment new) (left_since mid) (left_since new) during
+      Elapses moment left_since mid new during
       → ((c d : List ℕ) → during c d → P c d) → LeavesOnly moment left_since old new P
   goes_on old mid new P during so_far time here = record {
     later = omega (arith, so_far.later, time.later);

@@ -26,7 +26,7 @@ pub torn_seal : (file d c : List ℕ) (at : ℕ) → file ≡ at_rest (recovered
 torn_seal file d c at rest is same torn = ⊎_elim (λ was. inl (was ∙ sym rest)) inr
     (torn_over (concat (recovered file)) [] at 32 9 (sym is) c (subst (λ (l : List ℕ). TornByte at 9 l c) (same ∙ rest) torn))
 
--- the seal is what is behind its lines
+-- the seal is what comes after its lines
 seal_behind : (file : List ℕ) → IsSealed file → behind_lines file ≡ 9 ∷ []
 seal_behind file is =
     let text : List ℕ = concat (recovered file) in

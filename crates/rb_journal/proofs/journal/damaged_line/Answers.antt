@@ -6,7 +6,7 @@ use Rattle.rb_journal.proofs.Public.Lines.{parts}
 use Rattle.rb_journal.proofs.Intact.{end_is}
 use Rattle.rb_journal.proofs.journal.damaged_line.Goals as goal
 
--- the part of a file behind its lines is what is behind them
+-- the part of a file after its lines, by their length
 rest_is : (file : List ℕ) (end : ℕ) → end ≡ length (concat (recovered file)) → take (length file - end) (drop end file) ≡ behind_lines file
 rest_is file end is = take_rest file end ∙ ap (λ (n : ℕ). drop n file) is
 

@@ -17,7 +17,7 @@ use Rattle.rb_journal.proofs.journal.Journal.append.Goals as goal
 some : (g : Over) (c : After-write_synced-staged g) → 1 ≤ length c.args.batch.now.items
 some g c = search rules
 
--- what is written behind the gate
+-- what is written after the gate
 rest : (g : Over) (c : After-write_synced-staged g) → take (length c.deref.result.now - 1) (drop 1 c.deref.result.now)
     ≡ drop 1 c.args.batch.now.items ++ 32 ∷ []
 rest g c =
