@@ -1,10 +1,9 @@
 //! The numbers by which messages are listed: a row and a position in it.
-ghost use Rattle.std.specs.Prelude.{◌≡◌, ◌+◌, ◌-◌, ◌↔◌, IsTrue};
+ghost use Rattle.std.specs.Prelude.{◌≡◌, ◌+◌, ◌-◌};
 ghost use Rattle.rb_shadow.specs.Operations.{number_of, row_of};
-ghost use Rattle.rb_site.specs.declared.message.Message.TheVariants.{Shadow as ShadowMessage};
 ghost use Rattle.rb_auditor.specs.Sent.{row_of_message, slot_of};
 
-use rb_shadow::{OpName, Shadow};
+use rb_shadow::OpName;
 use rb_site::Message;
 
 /// The row of a message: 0 for a token, 1 for a red operation, and 2 more than its home for a blue one.
@@ -41,15 +40,4 @@ pub fn name_slot(name: OpName) -> usize
     ensures { result ≡ number_of name - 1 }
 {
     name.number().saturating_sub(1) as usize
-}
-
-/// Whether the message is this operation.
-#[inline(always)]
-pub fn is_operation(message: &Message, known: &Shadow) -> bool
-    ensures { IsTrue result ↔ (ShadowMessage known.now ≡ message.now) }
-{
-    match message {
-        Message::Shadow(shadow) => known.same(shadow),
-        Message::Token(_) => false,
-    }
 }

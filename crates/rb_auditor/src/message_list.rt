@@ -11,7 +11,7 @@ ghost use Rattle.rb_auditor.specs.Sent.{row_of_message, slot_of};
 
 use crate::compact_operations::has_compact_form;
 use crate::kept_at::KeptAt;
-use crate::message::{is_operation, name_row, name_slot, row, slot};
+use crate::message::{name_row, name_slot, row, slot};
 use rb_ledger::OperationList;
 use rb_money::MOST_OPERATIONS;
 use rb_shadow::Shadow;
@@ -110,18 +110,9 @@ impl MessageList {
     pub fn has_at(&self, index: usize, message: &Message) -> bool
         ensures { IsTrue result ↔ (slice_get self.now.items index ≡ Some message.now) }
     {
-        let Some(position) = self.positions.get(index) else {
-            return false;
-        };
-        match *position {
-            KeptAt::Compact { at } => match self.compact.get(at as usize) {
-                Some(known) => is_operation(message, &known),
-                None => false,
-            },
-            KeptAt::Other { at } => match self.others.get(at as usize) {
-                Some(known) => known.same(message),
-                None => false,
-            },
+        match self.get(index) {
+            Some(known) => known.same(message),
+            None => false,
         }
     }
 

@@ -49,10 +49,7 @@ impl<'a> Posted<'a> {
     pub fn len(&self) -> usize
         ensures same { result ≡ length self.now.items }
         ensures few { result < 2 ^ 63 }
-        ensures all { length self.now.all < 2 ^ 32 }
     {
-        // For a fact alone: how many messages there may be.
-        let _all = self.all.len();
         self.places.len()
     }
 
@@ -77,16 +74,14 @@ impl<'a> Posted<'a> {
     }
 
     /// Adds messages that are among all, from a place on. `Err` means out of memory, and adds none.
-    pub fn add(&mut self, first: usize, count: usize) -> Result<(), AllocError>
+    pub fn add(&mut self, first: u32, count: u8) -> Result<(), AllocError>
         requires { first + count ≤ length self.old.all }
         ensures all { self.new.all ≡ self.old.all }
         ensures ok { OnOk result (self.new.items ≡ self.old.items ++ take count (drop first self.old.all)) }
         ensures err { OnErr result (self.new.items ≡ self.old.items) }
     {
-        // For a fact alone: how many messages there are fits a `usize`.
-        let _all = self.all.len();
-        self.places.reserve(count)?;
-        for place in first..first + count {
+        self.places.reserve(count as usize)?;
+        for place in first as usize..first as usize + count as usize {
             self.places.push_reserved(place);
         }
         Ok(())

@@ -150,7 +150,7 @@ impl<'a> Taking<'a> {
 
 /// The place among all messages of the first that an entry sends, by its step, and how many it sends. `None` if it is
 /// the receipt of a message that wasn't sent.
-fn moved(sent: &SentMessages<'_>, step: Step) -> Option<(usize, usize)>
+fn moved(sent: &SentMessages<'_>, step: Step) -> Option<(u32, u8)>
     requires { HasPlaces sent.now.all step }
     ensures taken { IsTakenAs sent.now.items sent.now.all step
         (option_map (λ p. take p.1 (drop p.0 sent.now.all)) result) }
@@ -165,6 +165,6 @@ fn moved(sent: &SentMessages<'_>, step: Step) -> Option<(usize, usize)>
                 None
             }
         }
-        Step::Sends { count, at } => Some((at as usize, count as usize)),
+        Step::Sends { count, at } => Some((at, count)),
     }
 }
