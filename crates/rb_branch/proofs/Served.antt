@@ -80,7 +80,7 @@ lost_more a b c xs ys h k = record {
     onward m (inl l) = later m (k.kept m l)
     onward m (inr r) = inr (some_left (Takes m) xs ys r)
 
--- a message that is kept behind the others
+-- a message that is kept after the others
 lost_taken : (a b : List Message) (m : Message) → b ≡ a ++ m ∷ [] → NoneLost a b []
 lost_taken a b m is =
     let P : List Message → Type 0 = λ l. NoneLost a l [] in
@@ -243,7 +243,7 @@ refused_none kept rs i m h at = absurd (omega arith)
 refused_more : (n : ℕ) (kept : List Message) (rs rs' xs : List Receipt) → AreRefused n kept rs → rs' ≡ rs ++ xs → AreRefused n kept rs'
 refused_more n kept rs rs' xs all is i m h at = subst (Any (Refuses m)) (sym is) (some_left (Refuses m) rs xs (all i m h at))
 
--- from a receipt on that was there, one more is behind those
+-- from a receipt on that was there, one more is after those
 since_one : (b c : SeenSeat) (P : Event → Type 0) (n from : ℕ) → from ≤ length b.receipts → (h : HasOneMore b c P n)
     → drop from c.receipts ≡ drop from b.receipts ++ h.last ∷ []
 since_one b c P n from few h =

@@ -62,7 +62,7 @@ set_from s (suc k) r (vs ∷ rows) us e h row = (h.0, set_from (suc s) k r rows 
 pub rows-set : (rows : List (List Shadow)) (r : ℕ) (us : List Shadow) → AreHeldRows 0 rows → IsHeldRow r us → AreHeldRows 0 (set rows r us)
 rows-set rows r us h row = set_from 0 r r rows us (omega arith) h row
 
--- the rows with empty ones behind them
+-- the rows with empty ones after them
 pub rows-more : (s n : ℕ) (rows : List (List Shadow)) → AreHeldRows s rows → AreHeldRows s (rows ++ replicate n [])
 rows-more s zero [] h = tt
 rows-more s (suc n) [] h = (empty s, rows-more (suc s) n [] tt)

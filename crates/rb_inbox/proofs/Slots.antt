@@ -6,7 +6,7 @@ use Rattle.std.proofs.Math.Seq.{paste}
 use Rattle.std.proofs.lemmas.List.{drop-drop, drop-set-add, drop_at, drop_more, set_at}
 use Rattle.rb_shadow.specs.declared.shadow.Shadow.{Shadow}
 
--- an insertion behind them is one in the list
+-- an insertion after them is one in the list
 pub insert_behind : (us : List Shadow) (n i k : ℕ) (v : Shadow) → k ≡ n + i → n ≤ length us →
     drop n (insert us k v) ≡ insert (drop n us) i v
 insert_behind us zero i k v e l = ap (λ j. insert us j v) (omega arith)
@@ -22,13 +22,13 @@ remove_behind [] (suc n) i k e l = absurd (omega arith)
 remove_behind (u ∷ us) (suc n) i zero e l = absurd (omega arith)
 remove_behind (u ∷ us) (suc n) i (suc k) e l = remove_behind us n i k (omega arith) (omega arith)
 
--- shadows that are copied to a slot stand from there on, before those that were behind them
+-- shadows that are copied to a slot stand from there on, before those that were after them
 copied_to : (us ws : List Shadow) (n i : ℕ) → n ≤ length us →
     drop n (paste us n ws i) ≡ take i ws ++ drop (n + i) us
 copied_to us ws n i l =
     ap (drop n) (append_assoc (take n us) (take i ws) _) ∙ drop_at (take n us) _ n (length-take-le n us l)
 
--- the first ones a slot to the left, and a shadow behind them: an insertion in the list
+-- the first ones a slot to the left, and a shadow after them: an insertion in the list
 pub insert_left : (us : List Shadow) (n m i k : ℕ) (v : Shadow) → m ≡ n + 1 → k ≡ n + i → k < length us →
     drop n (set (paste us n (drop m us) i) k v) ≡ insert (drop m us) i v
 insert_left us n m i k v next place l =

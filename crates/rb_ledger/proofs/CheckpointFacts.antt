@@ -16,7 +16,7 @@ whole_row zero (suc n) w i h = omega arith
 whole_row (suc k) zero w i h = absurd (omega arith)
 whole_row (suc k) (suc n) w i h = omega (arith, whole_row k n w i (omega arith))
 
--- an entry of the row behind whole rows is in this row
+-- an entry of the row after whole rows is in this row
 pub row_behind : (k n w i : ℕ) → i < w → n * w ≤ k * w + i → k * w + i < n * w + w → k * w ≡ n * w
 row_behind zero zero w i near from below = refl
 row_behind zero (suc n) w i near from below = absurd (omega arith)
@@ -28,7 +28,7 @@ pub row_less : (n w : ℕ) → 0 < n * w → (j : ℕ) × (n * w ≡ j * w + w)
 row_less zero w some = absurd (omega arith)
 row_less (suc j) w some = (j, omega arith)
 
--- an item of one of two lists, one behind the other
+-- an item of one of two lists, one after the other
 pub get_joined : {X : Type 0} (xs ys : List X) (i : ℕ) (z : X) → slice_get (xs ++ ys) i ≡ Some z →
     ((i < length xs) × (slice_get xs i ≡ Some z)) ⊎ ((length xs ≤ i) × (slice_get ys (i - length xs) ≡ Some z))
 get_joined [] ys i z e = inr (omega arith, ap (slice_get ys) (let a : i - 0 ≡ i = omega arith in a) ∙ e)

@@ -230,7 +230,7 @@ pub record IsLonger (w : ℕ) (bs os ss cs ps ts ns : List ℕ) : Type 0 where
   pub based : AreBased w 0 (length cs) ps
   pub clocks : clocks_of w cs ps ts ≡ clocks_of w bs os ss ++ take w ns ∷ []
 
--- a clock that is near a base is kept by its steps above that base, behind the clocks before it
+-- a clock that is near a base is kept by its steps above that base, after the clocks before it
 pub longer : (w o : ℕ) (bs os ss ps ts ns base : List ℕ) → AreBased w 0 (length bs) os → length ss ≡ length os * w →
     length bs ≤ length os * w + w → o ≤ length os * w → o + w ≤ length bs → w ≤ length ns → base ≡ take w (drop o bs) → AreNear base ns →
     ps ≡ os ++ o ∷ [] → ts ≡ ss ++ steps_of base ns → IsLonger w bs os ss bs ps ts ns
@@ -302,7 +302,7 @@ same_but (k ∷ ks) (m ∷ ns) (suc own) n many each =
     (λ i low apart. each (suc i) (omega (arith, low)) (λ e. apart (omega (arith, e)))) in
     ap (λ x. x ∷ slice_set ks own n) (each zero (omega arith) (λ e. omega (arith, e))) ∙ ap (λ xs. m ∷ xs) rest
 
--- one more entry is read, if there are zeros behind those so far
+-- one more entry is read, if there are zeros after those so far
 pub read_on : (ns bs : List ℕ) (j x : ℕ) → bs ≡ take j (drop 1 ns) ++ replicate (16 - j) 0 → j + 1 < length ns → j < 16 →
     x ≡ get_or ns (j + 1) 0 → slice_set bs j x ≡ take (j + 1) (drop 1 ns) ++ replicate (16 - (j + 1)) 0
 read_on [] bs j x is near small read = absurd (omega (arith, near))

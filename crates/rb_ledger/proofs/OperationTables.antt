@@ -136,7 +136,7 @@ kind_at w [] ns i b d near is = absurd (omega (arith, near))
 kind_at w (c ∷ bs) ns zero b d near is = ap (λ (x : KeptOperation). x.kind) is
 kind_at w (c ∷ bs) ns (suc i) b d near is = kind_at w bs ns i b d (omega (arith, near)) is
 
--- more clocks behind the others change no operation
+-- more clocks after the others change no operation
 same_operations : (w k : ℕ) (bs : List KeptOperation) (cs ds : List (List ℕ)) → AreInOrder k bs → clock_count k bs ≤ length cs →
     operations_of w bs (cs ++ ds) ≡ operations_of w bs cs
 unfolding AreInOrder
@@ -264,7 +264,7 @@ pub kept_same : (w : ℕ) (ns : List ℕ) (d : Deps) (x : OpName) → IsOfSites 
     clock_of_counts w (slice_set ns (row_of x) (number_of x - 1)) ≡ d
 kept_same w ns d x sites full own same = ap (clock_of_counts w) (same (number_of x - 1)) ∙ kept_whole w d x sites full own
 
--- what is kept behind the others
+-- what is kept after the others
 pub kept_behind : (w : ℕ) (cs ds : List (List ℕ)) (d : Deps) (x : OpName) → IsOfSites w d → length d.blue ≡ MOST_SITES →
     entry_of d x + 1 ≡ number_of x → ds ≡ cs ++ (d.red ∷ take w d.blue) ∷ [] →
     clock_of_counts w (slice_set (get_or ds (length cs) []) (row_of x) (number_of x - 1)) ≡ d

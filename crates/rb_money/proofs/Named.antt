@@ -37,7 +37,7 @@ names_more i accounts a l =
     ∙ ap (map (λ b. b.0)) (map-append account_of (take i accounts) (get_or accounts i a ∷ []))
     ∙ map-append (λ b. b.0) (map account_of (take i accounts)) (account_of (get_or accounts i a) ∷ [])
 
--- if nothing is wrong behind earlier names, no name is among those before it
+-- if nothing is wrong after earlier names, no name is among those before it
 new_after : (before : List (List ℕ)) (k : ℕ) (accounts : Entries) → account_fault before k (map account_of accounts) ≡ None → (i : ℕ)
     (a : String Global × ℕ) → i < length accounts →
     is_among (before ++ names_before i accounts) (string_bytes (get_or accounts i a).0) ≡ false

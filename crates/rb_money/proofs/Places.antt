@@ -69,7 +69,7 @@ added : (es : Entries) (k : String Global) (v : ℕ) → is_among (names_of es) 
 added [] k v h = refl
 added (e ∷ es) k v h = added_step (string_eq k e.0) _ e es (insert_entry string_eq es k v) k v h (added es k v)
 
--- a map has the first of these accounts, and nothing is wrong with the rest behind them
+-- a map has the first of these accounts, and nothing is wrong with the rest after them
 pub record IsFilling (mapped rest all : Entries) : Type 0 where
   pub same : mapped ++ rest ≡ all
   pub proper : (i : ℕ) × (account_fault (names_of mapped) i (map account_of rest) ≡ None)

@@ -65,7 +65,7 @@ none_taken zero none e = refl
 none_taken (suc n) [] e = refl
 none_taken (suc n) (x ∷ xs) e = absurd (cc)
 
--- what is put behind nothing
+-- what is put after nothing
 pub all_filled : {X : Type 0} (P : X → Type 0) (old rest new : List X) (n : ℕ) → old ≡ [] → new ≡ take n old ++ rest → All P rest →
     All P new
 all_filled P old rest new n e f h = subst (All P) (sym (f ∙ ap (λ l. l ++ rest) (none_taken n old e))) h

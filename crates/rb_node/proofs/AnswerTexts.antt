@@ -12,7 +12,7 @@ use Rattle.rb_history.specs.Replies.{reply_json}
 use Rattle.rb_node.specs.Answers.{again_json, asked_answer_json, line_of, messages_json, refused_json}
 use Rattle.rb_node.specs.Asked.{Known}
 
--- behind a text the id, if it has one, and the key of the reply
+-- after a text the id, if it has one, and the key of the reply
 abbrev pub head_text : List ℕ → List ℕ → List ℕ
 head_text front id = front ++ (between_if_any (codes "\"id\":\"") id (codes "\",") ++ codes "\"reply\":")
 
@@ -32,7 +32,7 @@ object_line front (b ∷ bs) reply sends later =
     (front ++ (codes "\"id\":" ++ (quoted (b ∷ bs) ++ (codes ",\"reply\":" ++ (reply ++ (codes ",\"sends\":" ++ (sends
     ++ (codes ",\"then\":" ++ ((codes "[" ++ later) ++ codes "}"))))))))) ++ 10 ∷ []
 
--- the parts, one behind another, are that line
+-- the parts, one after another, are that line
 pub parts : (front reply sends later : List ℕ) → (head_text front [] ++ between reply sends) ++ (later ++ codes "}\n")
     ≡ object_line front [] reply sends later
 parts front reply sends later = simp append_assoc
@@ -71,7 +71,7 @@ again_line s bank [] k is = whole (codes "{\"again\":true,") [] (compact_text (r
 again_line s bank (b ∷ bs) k is = whole (codes "{\"again\":true,") (b ∷ bs) (compact_text (reply_json k.reply))
     (compact_text (messages_json s bank k.sent)) (codes "]") is
 
--- of one by a number alone, in braces behind a key: the end of it
+-- of one by a number alone, in braces after a key: the end of it
 pub alone_parts : (head key n : List ℕ) → head ++ (key ++ (n ++ codes "},\"sends\":[],\"then\":[]}\n"))
     ≡ (head ++ between (key ++ (n ++ codes "}")) (codes "[]")) ++ (codes "]" ++ codes "}\n")
 alone_parts head key n = simp append_assoc

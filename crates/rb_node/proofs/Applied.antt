@@ -33,7 +33,7 @@ use Rattle.rb_node.specs.Steps.{Applies, AppliesOne, Notes, Steps, StepsKept, wi
 use Rattle.rb_node.proofs.AnswerTexts.{answer_line, head_text, rest_of_front}
 use Rattle.rb_node.proofs.Recorded.{more-alone, more-none, recorded}
 
--- what is ready is applied: the replies behind a text, the first behind this comma, and the lines of the entries,
+-- what is ready is applied: the replies after a text, the first after this comma, and the lines of the entries,
 -- none of which may have an id
 pub record AppliesOn (comma : List ℕ) (old new : SeenAsked) (text text_after entries entries_after : List ℕ) : Type 0 where
   pub names : List OpName
@@ -141,7 +141,7 @@ spare_falls old mid e reply k l free step =
     let less : length t.history < s.limits.history = below s.limits.history (length t.history) free in
     omega arith
 
--- the operation was applied, and its reply written behind the comma
+-- the operation was applied, and its reply written after the comma
 pub applied_one : {A E : Type 0} (Q : Type 0) (r : Result A E) (all : Bool) (old mid new : SeenAsked) (id : List ℕ) (x : OpName)
     (reply : Reply) (comma a b c k l : List ℕ) → id ≡ [] → is_full old.settings (asked_state old) ≡ false
     → mid ≡ with_more old (with_id id (entry (Apply x) reply) ∷ []) → reply ≡ reply_to old.settings (asked_state old) (Apply x)

@@ -18,7 +18,7 @@ abbrev AtLeast : ℕ → List SentEntry → Type 0
 AtLeast n [] = Unit {0}
 AtLeast n (x ∷ xs) = (n ≤ x.before) × AtLeast n xs
 
--- none is before one that it is behind
+-- none is before one that it is after
 abbrev Ascends : List SentEntry → Type 0
 Ascends [] = Unit {0}
 Ascends (x ∷ xs) = AtLeast x.before xs × Ascends xs

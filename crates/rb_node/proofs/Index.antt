@@ -33,7 +33,7 @@ more_noted s t before (x ∷ es) e =
     ∙ ap (λ n. (first ++ index_from s (after_event s t x) (suc before) es) ++ last n)
     (let q : suc before + length es ≡ before + suc (length es) = omega arith in q)
 
--- the index after an event: the note of its entry is behind those before
+-- the index after an event: the note of its entry is after those before
 pub index_next : (x : SeenSite) (e : Event) → index_of (next_site x e) ≡ index_of x
     ++ noted_of (length x.entries) (length (state_of x).ops) (length (state_of (next_site x e)).ops) (sent_at x.settings (state_of x) e)
 index_next x e = by (is_full x.settings (state_of x)) refl
@@ -62,7 +62,7 @@ index_next x e = by (is_full x.settings (state_of x)) refl
         ∙ length-map x.entries (λ (y : Entry). y.event))
         ∙ ap (λ (u : ModelSite). index_of x ++ noted (length x.entries) (length u.ops) (sent_at s t e)) (sym (state-next x e))
 
--- messages that were put behind others
+-- messages that were put after others
 pub put_behind : (old all posted : List Message) (n : ℕ) → all ≡ old ++ posted → n ≡ length old
     → take (length all - n) (drop n all) ≡ posted
 put_behind old all posted n is at =

@@ -140,7 +140,7 @@ fewer : (x : AskedEntry) (xs ys : List AskedEntry) → Each (IsNewAmong (x ∷ x
 fewer x xs [] new = tt
 fewer x xs (y ∷ ys) new = (λ some. (new.0 some).1, fewer x xs ys new.1)
 
--- new entries behind others
+-- new entries after others
 once_behind : (xs ys : List AskedEntry) → Each (IsNewAmong xs) ys → AreOnce xs → AreOnce ys → AreOnce (xs ++ ys)
 once_behind [] ys new a b = b
 once_behind (x ∷ xs) ys new a b = (
@@ -192,7 +192,7 @@ once_one : (id : List ℕ) (zs : List Entry) → IsOneAndMore zs → AreOnce (ma
 once_one id [] h = tt
 once_one id (z ∷ zs) h = (λ some. all_lack (with_id id z).id id zs some h, once_without id zs h)
 
--- entries that a site has behind those of another, of this form
+-- entries that a site has after those of another, of this form
 record Grows (old new : SeenSite) (P : List Entry → Type 0) : Type 0 where
   more : List Entry
   is : new.entries ≡ old.entries ++ more
@@ -207,7 +207,7 @@ one_grows x e P none one = by (is_full x.settings (state_of x))
     by true = record { more = []; is = sym (append-nil x.entries); form = none }
     by false = record { more = entry e (reply_to x.settings (state_of x) e) ∷ []; is = refl; form = one }
 
--- more behind more
+-- more after more
 grows_on : (x y z : SeenSite) (P Q R : List Entry → Type 0) → ((xs ys : List Entry) → P xs → Q ys → R (xs ++ ys)) → Grows x y P
     → Grows y z Q → Grows x z R
 grows_on x y z P Q R both a b = record {

@@ -71,7 +71,7 @@ about_line bank x = about_parts (compact_text (deps_json x.settings.version (clo
     (decimal (state_of x).token.epoch) (decimal (length (state_of x).held)) (decimal x.me)
     (compact_text (boolean (state_of x).token.held))
 
--- the parts of the first part, and of the second, one behind another
+-- the parts of the first part, and of the second, one after another
 pub applied_parts : (deps entries epoch : List ℕ) → ((codes "{\"reply\":{\"about\":{\"applied\":" ++ deps)
     ++ (codes ",\"entries\":" ++ (entries ++ codes ",\"epoch\":"))) ++ (codes "" ++ (epoch ++ codes "")) ≡ applied_text deps entries epoch
 applied_parts deps entries epoch =

@@ -380,7 +380,7 @@ stepped-by false false old mid new id e reply entries after h spare noted =
     subst (λ y. StepsKept false old y id e reply entries after) (sym noted.0)
     (subst (λ l. StepsKept false old mid id e reply entries l) (sym noted.1) (step-left-out old mid id e reply entries h))
 
--- and behind its reply's text
+-- and after its reply's text
 pub told-step : {A E : Type 0} (F : Type 0) (r : Result A E) (all now : Bool) (old mid new : SeenAsked) (id : List ℕ) (e : Event)
     (reply : Reply) (before sent messages : List Message) (a b k l : List ℕ)
     → RecordsIf old mid id e reply now → false ≡ (all && is_full old.settings (asked_state old)) → before ≡ messages
@@ -398,7 +398,7 @@ pub refused-by : (all : Bool) (old : SeenAsked) (id : List ℕ) (e : Event) (ent
 refused-by true old id e entries full = step-full old id e entries (sym full)
 refused-by false old id e entries full = absurd (cc)
 
--- the reply of a step that adds no entry, behind a text
+-- the reply of a step that adds no entry, after a text
 pub told : {A E Q : Type 0} (r : Result A E) (P : Reply → Type 0) (reply : Reply) (a b k : List ℕ) → P reply → Q
     → Adds r a b (compact_text (reply_json reply))
     → MatchResult r (λ _. (y : Reply) × P y × (b ≡ a ++ compact_text (reply_json y)) × Q)
@@ -466,7 +466,7 @@ recorded-short (Ok v) inside old new x config me before sent entries added after
 recorded-short (Err v) inside old new x config me before sent entries added after seen kept is number line short fed now =
     front_of_sum entries after _ (both entries added after _ _ line fed)
 
--- the line of an entry was added behind its reply's text
+-- the line of an entry was added after its reply's text
 pub finished : {A E : Type 0} (r : Result A E) (P Q : Type 0) (a b text k l : List ℕ) → b ≡ a ++ text
     → MatchResult r (λ _. P × Q) (λ _. take (length k) l ≡ k)
     → MatchResult r (λ _. P × (b ≡ a ++ text) × Q) (λ _. (take (length a) b ≡ a) × (take (length k) l ≡ k))

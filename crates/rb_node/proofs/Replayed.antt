@@ -156,7 +156,7 @@ replayed_one : (x : SeenAsked) (id : List ℕ) (e : Event) → is_full x.setting
     }) (with_id id (entry e (reply_to x.settings (asked_state x) e)))
 replayed_one x id e free unknown = record { free = free; unknown = unknown; reply = refl; site = refl; sent = refl }
 
--- an event's entry is replayed, and then those behind it
+-- an event's entry is replayed, and then those after it
 replayed_then : EntriesAreRead → EntriesAreLines → (x : SeenAsked) (id : List ℕ) (e : Event) (ys : List AskedEntry) → IsSite x
     → is_full x.settings (asked_state x) ≡ false → FitsLine x.settings (entry e (reply_to x.settings (asked_state x) e))
     → IsAsked (with_id id (entry e (reply_to x.settings (asked_state x) e)))

@@ -62,7 +62,7 @@ sent_with us t u = messages_of us (Operations (length t.ops) (length u.ops))
 abbrev IsMade : List Shadow → ModelSite → ModelSite → Event → Reply → List Message → Type 0
 IsMade us t u e reply sent = (sent ≡ sent_with us t u) × (reply ≡ reply_made e sent)
 
--- the messages of operations that were put behind those before
+-- the messages of operations that were put after those before
 with_behind : (us : List Shadow) (t : ModelSite) (vs : List Shadow) → Begins (t.ops ++ vs) us
     → map ShadowMessage (take (length (t.ops ++ vs) - length t.ops) (drop (length t.ops) us)) ≡ map ShadowMessage vs
 with_behind us t vs all =
@@ -240,7 +240,7 @@ not_found x asked kept view id has is at none =
     unknown_kept (state_of (without_ids (seen [] x asked))).ops (find_request id kept) (known_of (seen [] x asked) id)
     (kept_as_known x asked kept id has is) (ap (λ (v : SeenAsked). known_of v id) at ∙ none)
 
--- the requests with an entry more behind them
+-- the requests with an entry more after them
 kept_behind : (s : Settings) (t : ModelSite) (xs : List AskedEntry) (x : AskedEntry) →
     let u = after_events s t (events_of (entries_alone xs)) in
     kept_from s t (xs ++ x ∷ []) ≡ kept_from s t xs
@@ -376,7 +376,7 @@ pub of_copies : (P : Vec ℕ Global × Event → Type 0) (copies : Option (Vec �
     → IfSome copies P → P p
 of_copies P copies p is h = subst (λ o. IfSome o P) is h
 
--- a request that was made is noted behind those before
+-- a request that was made is noted after those before
 pub one_noted : (copies : Option (Vec ℕ Global × Event)) (p : Vec ℕ Global × Event) (reply : Reply) (first end : ℕ)
     (es new : List (Vec ℕ Global × KnownRequest)) → copies ≡ Some p → may_be_asked (entry p.1 reply) ≡ true
     → new ≡ es ++ (p.0, request p.1 first end) ∷ [] → by_bytes new ≡ by_bytes es ++ request_noted copies reply first end

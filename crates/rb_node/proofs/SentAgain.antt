@@ -174,7 +174,7 @@ lines_behind s bank us (x ∷ xs) = ap (λ l. sent_line s bank (behind us x) ++ 
 
 -- ---- a part of the index
 
--- behind a point below which a test holds is all that fails it
+-- after a point below which a test holds is all that fails it
 point_kept : {X : Type 0} (p : X → Bool) (xs : List X) (i : ℕ) → AllWithin (λ y. p y ≡ true) xs 0 i
     → AllWithin (λ y. p y ≡ false) xs i (length xs) → filter (λ y. not (p y)) xs ≡ drop i xs
 point_kept p [] zero low high = refl
@@ -188,7 +188,7 @@ point_kept p (x ∷ xs) (suc i) low high =
     ap (λ b. cond (not b) (x ∷ filter (λ y. not (p y)) xs) (filter (λ y. not (p y)) xs)) holds
     ∙ point_kept p xs i (λ k d a b. low (suc k) d (omega arith) (omega arith)) (λ k d a b. high (suc k) d (omega arith) (omega arith))
 
--- the lines of the entries behind the point, and how many they are
+-- the lines of the entries after the point, and how many they are
 pub record AreSince (x : SeenSite) (m : ℕ) (since : List SentEntry) : Type 0 where
   pub lines : (bank : List ℕ) → lines_again x.settings bank (state_of x).ops since ≡ resent x.settings bank (first_site x.me) m x.entries
   pub count : length since ≡ length (senders x.settings (first_site x.me) m x.entries)
@@ -209,7 +209,7 @@ since x m i low high =
       count = sym (length-map (drop i (index_of x)) (behind us)) ∙ ap length read;
     }
 
--- the part of an index behind the point
+-- the part of an index after the point
 pub since_part : (x y : SeenSite) (m i : ℕ) (index : List SentEntry) → index ≡ index_of x → x ≡ y
     → AllWithin (λ z. nat_lt z.before m ≡ true) index 0 i → AllWithin (λ z. nat_lt z.before m ≡ false) index i (length index)
     → AreSince y m (take (length index - i) (drop i index))

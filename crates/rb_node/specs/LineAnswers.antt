@@ -46,7 +46,7 @@ IsLineAnswer all old new line text entries = IsSiteAnswer all old new line text 
     ⊎ (IsKnownAnswer old new line text entries
     ⊎ (IsQuestionAnswer old new line text entries ⊎ IsOtherBankAnswer old new line text entries))
 
--- the answer to a line, and the lines of the entries that it recorded, behind what was there
+-- the answer to a line, and the lines of the entries that it recorded, after what was there
 abbrev pub AddsAnswer : Bool → SeenAsked → SeenAsked → List ℕ → List ℕ → List ℕ → List ℕ → List ℕ → Type 0
 AddsAnswer all old new line texts texts_after entries entries_after = (text : List ℕ) × (lines : List ℕ)
     × IsLineAnswer all old new line text lines × (texts_after ≡ texts ++ text) × (entries_after ≡ entries ++ lines)

@@ -28,7 +28,7 @@ pub record RecordsIf (old new : SeenAsked) (id : List ℕ) (e : Event) (reply : 
   pub reply_is : reply ≡ reply_if_changes old.settings (asked_state old) e
   pub site : new ≡ with_more old (if recorded then with_id id (entry e reply) ∷ [] else [])
 
--- one event of no id, which is recorded: the site after it, its reply, and the line of its entry behind those before
+-- one event of no id, which is recorded: the site after it, its reply, and the line of its entry after those before
 pub record Steps (old new : SeenAsked) (e : Event) (reply : Reply) (entries after : List ℕ) : Type 0 where
   pub site : without_ids new ≡ next_site (without_ids old) e
   pub reply_is : reply ≡ reply_to old.settings (asked_state old) e
@@ -39,7 +39,7 @@ pub record Steps (old new : SeenAsked) (e : Event) (reply : Reply) (entries afte
 abbrev pub if_short : Settings → ℕ → Entry → List Entry
 if_short s me x = if is_long (compact_text (entry_json s me x)) then [] else x ∷ []
 
--- an entry without an id is recorded, if its line isn't too long: the line behind those before
+-- an entry without an id is recorded, if its line isn't too long: the line after those before
 pub record RecordsShort (old new : SeenAsked) (x : Entry) (entries after : List ℕ) : Type 0 where
   pub recorded_are : new ≡ with_more old (map without_id (if_short old.settings old.me x))
   pub entries_are : after ≡ entries ++ entry_lines old.settings old.me (map without_id (if_short old.settings old.me x))
@@ -58,7 +58,7 @@ Notes true all old new id x entries after =
 Notes false true old new id x entries after = RecordsShort old new x entries after
 Notes false false old new id x entries after = (new ≡ old) × (after ≡ entries)
 
--- one event with its id: the site after it, its reply, and the line of its entry, if it is recorded, behind those
+-- one event with its id: the site after it, its reply, and the line of its entry, if it is recorded, after those
 -- before
 pub record StepsKept (all : Bool) (old new : SeenAsked) (id : List ℕ) (e : Event) (reply : Reply) (entries after : List ℕ) : Type 0 where
   pub site : without_ids new ≡ next_sites (without_ids old) (kept_events all (without_ids old) e)
@@ -67,7 +67,7 @@ pub record StepsKept (all : Bool) (old new : SeenAsked) (id : List ℕ) (e : Eve
   pub recorded_are : new ≡ with_more old (map (with_id id) recorded)
   pub entries_are : after ≡ entries ++ entry_lines old.settings old.me (map (with_id id) recorded)
 
--- the operation of a name is applied: its reply behind a text, and the line of its entry
+-- the operation of a name is applied: its reply after a text, and the line of its entry
 pub record AppliesOne (old new : SeenAsked) (x : OpName) (comma text text_after entries entries_after : List ℕ) : Type 0 where
   pub reply : Reply
   pub step : Steps old new (Apply x) reply entries entries_after

@@ -90,7 +90,7 @@ impl<M: Records> Node<M> {
         Ok(())
     }
 
-    /// The end of a step: its reply behind the text, and the line of its entry, as `note` adds it.
+    /// The end of a step: its reply after the text, and the line of its entry, as `note` adds it.
     fn finish(
         &mut self,
         recorded: bool,

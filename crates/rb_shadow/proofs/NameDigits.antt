@@ -25,7 +25,7 @@ pub no_name : (bs : List ℕ) → ((rest : List ℕ) → bs ≡ 82 ∷ rest → 
 no_name bs r b (Blue s n) e = b _ e
 no_name bs r b (Red n) e = r _ e
 
--- behind a `B`, the cut gives the texts of both numbers
+-- after a `B`, the cut gives the texts of both numbers
 pub blue_cut : (bs rest : List ℕ) (r : Option (Bor (List ℕ) × Bor (List ℕ))) → bs ≡ 66 ∷ rest → IsSplitOnceResult 46 rest r →
     (name : OpName) → IsName name → bs ≡ name_text name
     → MatchOption r ⊥ (λ x. (s : ℕ) × (n : ℕ) × (name ≡ Blue s n) × (s < 2 ^ 8) × (n < 2 ^ 32) × (x.0.now ≡ decimal s)

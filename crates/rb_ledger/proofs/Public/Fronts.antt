@@ -8,7 +8,7 @@ pub one_more : (us : List Shadow) (i : ℕ) (u : Shadow) → slice_get us i ≡ 
 one_more us i u e = let near : i < length us = slice_get_within us i u e in
     rw add-one (take-suc us i u near ∙ ap (λ (w : Shadow). take i us ++ w ∷ []) (get_or_from_slice_get us i u u e))
 
--- an item behind the first ones is one of the list
+-- an item after the first ones is one of the list
 pub get_dropped : {X : Type 0} (n : ℕ) (xs : List X) (i : ℕ) → slice_get (drop n xs) i ≡ slice_get xs (n + i)
 get_dropped zero xs i = ap (slice_get xs) (let e : i ≡ 0 + i = omega arith in e)
 get_dropped (suc n) [] i = refl

@@ -15,7 +15,7 @@ map_back f [] k y at = cc
 map_back f (x ∷ xs) zero y at = (x, refl, (cc))
 map_back f (x ∷ xs) (suc k) y at = map_back f xs k y at
 
--- what is at a place of a list is there too with more behind it
+-- what is at a place of a list is there too with more after it
 pub get_front : {X : Type 0} (xs ys : List X) (k : ℕ) (x : X) → slice_get xs k ≡ Some x → slice_get (xs ++ ys) k ≡ Some x
 get_front [] ys k x at = cc
 get_front (z ∷ xs) ys zero x at = at

@@ -6,7 +6,7 @@ use Rattle.rb_history.proofs.Public.Appended.{both, failed, then}
 use Rattle.rb_node.proofs.AnswerTexts.{head_text}
 use Rattle.rb_node.proofs.event_line.append_answer_head.Goals as goal
 
--- the parts of the text, one behind another
+-- the parts of the text, one after another
 parts : (front id : List ℕ) → ((front ++ codes "\"id\":\"") ++ id) ++ codes "\",\"reply\":"
     ≡ front ++ ((codes "\"id\":\"" ++ (id ++ codes "\",")) ++ codes "\"reply\":")
 parts front id = simp append_assoc

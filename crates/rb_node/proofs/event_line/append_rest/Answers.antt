@@ -12,7 +12,7 @@ use Rattle.rb_history.proofs.Public.Appended.{both, failed, then}
 use Rattle.rb_node.specs.Answers.{messages_json}
 use Rattle.rb_node.proofs.event_line.append_rest.Goals as goal
 
--- the parts of the text, one behind another
+-- the parts of the text, one after another
 parts : (sends : List ℕ) → (codes ",\"sends\":[" ++ sends) ++ codes ",\"then\":["
     ≡ codes ",\"sends\":" ++ ((codes "[" ++ sends) ++ codes ",\"then\":[")
 parts sends = simp append_assoc

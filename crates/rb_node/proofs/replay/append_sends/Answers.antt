@@ -11,7 +11,7 @@ use Rattle.rb_history.specs.Banks.{sent_json}
 use Rattle.rb_node.specs.Answers.{sent_line}
 use Rattle.rb_node.proofs.replay.append_sends.Goals as goal
 
--- the parts of the line, one behind another
+-- the parts of the line, one after another
 parts : (sends : List ℕ) → (codes "{\"sends\":[" ++ sends) ++ codes "}\n"
     ≡ (codes "{\"sends\":" ++ ((codes "[" ++ sends) ++ codes "}")) ++ 10 ∷ []
 parts sends = simp append_assoc

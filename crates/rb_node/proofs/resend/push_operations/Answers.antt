@@ -19,7 +19,7 @@ more us old new all first k v at is so =
     ∙ ap (λ l. old ++ l) (sym (map-append ShadowMessage front (v ∷ [])))
     ∙ ap (λ l. old ++ map ShadowMessage l) (sym (one_more (drop first us) k v (get_dropped first us k ∙ at)))
 
--- behind the last one there is none
+-- after the last one there is none
 take_past : (us : List Shadow) (k : ℕ) → slice_get us k ≡ None → take (suc k) us ≡ take k us
 take_past [] zero none = refl
 take_past [] (suc k) none = refl
