@@ -1,7 +1,7 @@
 //! Lines that begin with `{`, and then a closed gate, a space. The gate is the place of the next batch's first byte:
 //! the rest of a batch is written after it, with a closed gate of its own at its end, and synced; then the gate is
 //! opened, by the one byte `{`, and synced. So a crash leaves all of a batch or none of it.
-ghost use Rattle.std.specs.Prelude.{◌≡◌, ◌⊎◌, ◌+◌, ◌<◌, ◌≤◌, ◌^◌, ◌++◌, [], ◌∷◌, List, ℕ, length, take, IfOk, IfErr};
+ghost use Rattle.std.specs.Prelude.{◌≡◌, ◌+◌, ◌<◌, ◌≤◌, ◌^◌, ◌++◌, [], List, ℕ, length, take, IfOk, IfErr};
 ghost use Rattle.std.specs.Prelude.{◌↔◌, drop, OnOk, IsErrOf, IsTrue, MatchOption, MatchResult};
 ghost use Rattle.std.specs.List.{concat};
 ghost use Rattle.rb_journal.specs.Host.{Cut, IsWritten, LeavesOnly, Only, Outputs, Torn};
@@ -9,7 +9,7 @@ ghost use Rattle.rb_journal.specs.Host.{HasCause, IsDiskError, OutputCause};
 ghost use Rattle.rb_journal.specs.Quiet.{Quiet};
 ghost use Rattle.rb_journal.specs.Lines.{recovered, at_rest, IsBatch, IsDamaged, IsIntact, MayBeBehind};
 ghost use Rattle.rb_journal.specs.Lines.{is_bare_gate, to_keep, what_is_cut};
-ghost use Rattle.rb_journal.specs.Journal.{IsSettled, IsLeftAs, IsBeforeOrAfter, IsDurable, IsAppended, HasClosedGate};
+ghost use Rattle.rb_journal.specs.Journal.{IsSettled, IsLeftAs, IsBeforeOrAfter, IsDurable, IsAppended};
 ghost use Rattle.rb_journal.specs.Journal.{IsRepaired};
 
 use crate::{Host, HostError};
@@ -223,12 +223,13 @@ fn repair<H: Host>(host: &mut H, bytes: &[u8], lines: u64, end: usize) -> Result
     write_synced(host, end, &[b' '])
 }
 
-// The number of lines in these bytes of a file, and their end, in bytes from its start.
-fn count_lines(bytes: &[u8]) -> (u64, usize)
+/// The number of lines in these bytes of a file, and their end, in bytes from its start.
+pub fn count_lines(bytes: &[u8]) -> (u64, usize)
     ensures count { result.0 ≡ length (recovered bytes.now) }
     ensures few { result.0 ≤ length bytes.now }
     ensures within { result.1 ≤ length bytes.now }
     ensures length { result.1 ≡ length (concat (recovered bytes.now)) }
+    ensures lines { take result.1 bytes.now ≡ concat (recovered bytes.now) }
 {
     let mut count = 0;
     let mut end = 0;
@@ -244,14 +245,6 @@ fn count_lines(bytes: &[u8]) -> (u64, usize)
     (count, end)
 }
 
-/// The end of the lines in these bytes of a file, in bytes from its start.
-pub fn end_of_lines(bytes: &[u8]) -> usize
-    ensures length { result ≡ length (concat (recovered bytes.now)) }
-    ensures lines { take result bytes.now ≡ concat (recovered bytes.now) }
-{
-    count_lines(bytes).1
-}
-
 // Whether a crash may leave these bytes after lines: nothing, or a gate, a NUL in its place or a line's front first.
 fn may_be_behind(rest: &[u8]) -> bool
     requires { recovered rest.now ≡ [] }
@@ -260,16 +253,18 @@ fn may_be_behind(rest: &[u8]) -> bool
     rest.is_empty() || matches!(rest[0], b' ' | 0 | b'{')
 }
 
-/// The place of the damage in a file of these bytes: the number, from 1, of the line at whose place, or at that of the
-/// gate, is a byte that no crash leaves there. `None` if there is no such byte.
-pub fn damaged_line(bytes: &[u8]) -> Option<u64>
+/// The place of the damage in a file of these bytes, which has this number of lines and their end: the number, from 1,
+/// of the line at whose place, or at that of the gate, is a byte that no crash leaves there. `None` if there is none.
+pub fn damaged_line(bytes: &[u8], lines: u64, end: usize) -> Option<u64>
+    requires lines { lines ≡ length (recovered bytes.now) }
+    requires within { (lines ≤ length bytes.now) × (end ≤ length bytes.now) }
+    requires end { end ≡ length (concat (recovered bytes.now)) }
     ensures { MatchOption result (IsIntact bytes.now)
         (λ n. IsDamaged bytes.now × (n ≡ length (recovered bytes.now) + 1)) }
 {
-    let (count, end) = count_lines(bytes);
     if may_be_behind(&bytes[end..]) {
         None
     } else {
-        Some(count + 1)
+        Some(lines + 1)
     }
 }

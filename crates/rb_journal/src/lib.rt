@@ -43,7 +43,7 @@ pub use disk::{Disk, open_disk};
 pub use fault::ServeFault;
 pub use host::{Host, HostError};
 pub use input::Input;
-pub use journal::{Journal, damaged_line, end_of_lines};
+pub use journal::{Journal, count_lines, damaged_line};
 pub use memory::Memory;
 pub use open_error::OpenError;
 pub use planned::Planned;

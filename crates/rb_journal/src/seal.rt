@@ -1,19 +1,22 @@
 //! A journal that is never written again: the closed gate after its lines becomes the seal, a TAB. It is one byte, as
 //! blank to a reader as the gate, and no crash of an append or of a repair leaves it. So a file is sealed or it isn't,
 //! and a copy from before isn't.
-ghost use Rattle.std.specs.Prelude.{◌≡◌, ◌≢◌, ◌<◌, ◌≤◌, ◌↔◌, [], ◌∷◌, IfErr, IfOk, IsTrue, MatchResult};
+ghost use Rattle.std.specs.Prelude.{◌≡◌, ◌≢◌, ◌<◌, ◌≤◌, ◌↔◌, [], IfErr, IfOk, IsTrue, MatchResult};
 ghost use Rattle.rb_journal.specs.Host.{IsDiskError, LeavesOnly, Only};
 ghost use Rattle.rb_journal.specs.Lines.{recovered, sealed, IsSealed};
 ghost use Rattle.rb_journal.specs.Journal.{IsSealedOrNot, IsSettled};
 
-use crate::journal::write_synced;
-use crate::{Host, HostError, Journal, end_of_lines};
+use crate::journal::{count_lines, write_synced};
+use crate::{Host, HostError, Journal};
 
 /// Whether a file of these bytes is sealed: lines, and after them the seal and nothing else.
 pub fn is_sealed(bytes: &[u8]) -> bool
     ensures { IsTrue result ↔ IsSealed bytes.now }
 {
-    let end = end_of_lines(bytes);
+    let Some(b'\t') = bytes.last() else {
+        return false;
+    };
+    let (_, end) = count_lines(bytes);
     end > 0 && bytes[end..] == [b'\t']
 }
 

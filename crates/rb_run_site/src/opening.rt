@@ -16,11 +16,11 @@ ghost use Rattle.rb_run_site.specs.declared.fault.SiteFault.TheVariants.{Read as
 use crate::entries::entries_in;
 use crate::fault::SiteFault;
 use crate::first_line::first_line;
-use crate::replay::{count_lines, replay_all};
+use crate::replay::replay_all;
 use crate::responder::{SiteResponder, settings_are_configured};
 use crate::why::{reason_of_config, reason_of_journal};
 use rb_history::BankName;
-use rb_journal::damaged_line;
+use rb_journal::{count_lines, damaged_line};
 use rb_lines::{Buffers, Source, ToBytes};
 use rb_node::{Node, OpenFault, Records};
 use std::alloc::Global;
@@ -82,11 +82,13 @@ pub fn replay_file<M: Records>(
 {
     settings_are_configured(node);
     let first = node.config_line()?;
-    match entries_in(bytes, &first)? {
+    let (lines, end) = count_lines(bytes);
+    match entries_in(bytes, end, &first)? {
         Some(entries) => {
-            let skipped = count_lines(entries).saturating_sub(resend);
+            // The configuration's line isn't one of an entry.
+            let skipped = (lines as usize).saturating_sub(1).saturating_sub(resend);
             replay_all(node, entries, skipped, sends)?;
-            match damaged_line(bytes) {
+            match damaged_line(bytes, lines, end) {
                 Some(line) => Err(SiteFault::Damaged { line }),
                 None => Ok(Vec::new(alloc)),
             }

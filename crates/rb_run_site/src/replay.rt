@@ -1,6 +1,5 @@
-//! The entries of a journal, replayed. Their lines are counted first: what the last of them sent is to be sent again,
-//! and the count says which these are.
-ghost use Rattle.std.specs.Prelude.{◌≡◌, [], length, MatchOption, MatchResult};
+//! The entries of a journal, replayed. What the last of them sent is to be sent again.
+ghost use Rattle.std.specs.Prelude.{◌≡◌, [], MatchOption, MatchResult};
 ghost use Rattle.rb_journal.specs.Lines.{IsBatch, recovered};
 ghost use Rattle.rb_run_site.specs.Replays.{EndsReplay, IsSplit, ReplaysLine, ReplaysLines, StopsAtLine};
 
@@ -15,20 +14,6 @@ fn split_line(lines: &[u8]) -> Option<(&[u8], &[u8])>
 {
     let n = first_feed(lines)?;
     Some((&lines[..n], &lines[n + 1..]))
-}
-
-/// How many lines there are.
-pub fn count_lines(lines: &[u8]) -> usize
-    requires { IsBatch lines.now }
-    ensures { result ≡ length (recovered lines.now) }
-{
-    let mut rest = lines;
-    let mut count = 0;
-    while let Some((_line, later)) = split_line(rest) {
-        rest = later;
-        count += 1;
-    }
-    count
 }
 
 /// Replays one line of a journal, without its line feed. The messages of its entry are added to `sends` if that is

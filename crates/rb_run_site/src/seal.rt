@@ -10,7 +10,7 @@ use crate::fault::SiteFault;
 use crate::opening::open_site;
 use crate::run::Ran;
 use rb_history::BankName;
-use rb_journal::{Host, HostError, Journal, ServeFault, end_of_lines, is_sealed};
+use rb_journal::{Host, HostError, Journal, ServeFault, count_lines, is_sealed};
 use rb_lines::{Buffers, FromBytes};
 use rb_node::AllEvents;
 use std::alloc::Global;
@@ -26,7 +26,8 @@ fn replay_alone(
         (λ _. StartsAlone me bytes.now × IsIntact bytes.now)
         (λ fault. IsOpeningFault fault × IsSealCause me bytes.now fault) }
 {
-    let mut reader = FromBytes::new(&bytes[..end_of_lines(bytes)]);
+    let (_, end) = count_lines(bytes);
+    let mut reader = FromBytes::new(&bytes[..end]);
     let mut buffers = Buffers::new(alloc);
     let bank = BankName::none(alloc);
     let (opened, _number) = open_site::<FromBytes, AllEvents>(

@@ -6,6 +6,7 @@ use Rattle.std.proofs.lemmas.List.{take_rest, length-take-le}
 use Rattle.std.proofs.lemmas.List.Quantifiers.{position-Some}
 use Rattle.std.proofs.lemmas.List.Sums.{fails_before_first}
 use Rattle.rb_journal.specs.Lines.{lines_in, is_open, recovered}
+use Rattle.rb_journal.proofs.Crash.{cut_done}
 use Rattle.rb_journal.proofs.Public.Lines.{first_line, no_line, open-true, closed}
 use Rattle.rb_journal.proofs.journal.count_lines.Goals as goal
 
@@ -68,3 +69,11 @@ returns-in_default-clause-length c =
 pub returns-in_default-clause-count : goal.returns-in_default-clause-count
 returns-in_default-clause-count c =
     omega (arith, ap length (no_more c.loop-last.rest.now (λ i is. c.in_default.not-Some i (c.first_feed.ensures ∙ is))))
+
+pub returns-then-rest-ne123-clause-lines : goal.returns-then-rest-ne123-clause-lines
+returns-then-rest-ne123-clause-lines c =
+    ap (λ (n : ℕ). take n c.args.bytes.now) (returns-then-rest-ne123-clause-length c) ∙ cut_done c.args.bytes.now
+
+pub returns-in_default-clause-lines : goal.returns-in_default-clause-lines
+returns-in_default-clause-lines c =
+    ap (λ (n : ℕ). take n c.args.bytes.now) (returns-in_default-clause-length c) ∙ cut_done c.args.bytes.now

@@ -13,4 +13,4 @@ rest_is file end is = take_rest file end ∙ ap (λ (n : ℕ). drop n file) is
 pub may_be_behind-requires : goal.may_be_behind-requires
 may_be_behind-requires c =
     let file = c.args.bytes.now in
-    ap recovered (rest_is file c.count_lines-count.result.1 c.count_lines-count.ensures.length ∙ end_is file) ∙ (parts file).nothing
+    ap recovered (rest_is file c.args.end c.requires.end ∙ end_is file) ∙ (parts file).nothing

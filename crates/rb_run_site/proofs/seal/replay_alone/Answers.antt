@@ -13,7 +13,7 @@ returns c =
     let is = c.in_ok-opened.ensures.opened in
     let number = c.in_ok-opened._number in
     let site = c.in_ok-opened.opened in
-    let input : c.new-reader.result.rest.now ≡ concat (recovered file) = c.new-reader.ensures.rest ∙ c.end_of_lines.ensures.lines in
+    let input : c.new-reader.result.rest.now ≡ concat (recovered file) = c.new-reader.ensures.rest ∙ c.count_lines-end.ensures.lines in
     let left = Some c.open_site.new.reader.rest.now in
     starts_alone c.args.me file is.0 number c.open_site.new.buffers.pending left
     (subst (WaitsBehind is.0 number c.open_site.new.buffers.pending left) input is.2) site.responder.node.site site.first.items
@@ -26,7 +26,7 @@ returns-in_err-opened c =
     let file = c.args.bytes.now in
     let fault = c.in_err-opened.field-0.0 in
     let passed : c.from_residual.result ≡ Err fault = search rules in
-    let input : c.new-reader.result.rest.now ≡ concat (recovered file) = c.new-reader.ensures.rest ∙ c.end_of_lines.ensures.lines in
+    let input : c.new-reader.result.rest.now ≡ concat (recovered file) = c.new-reader.ensures.rest ∙ c.count_lines-end.ensures.lines in
     let left = Some c.open_site.new.reader.rest.now in
     rw passed (
       c.in_err-opened.ensures.only,
