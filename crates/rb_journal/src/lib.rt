@@ -2,7 +2,7 @@
 //! out, and a crash at any moment leaves all of a batch or none of it.
 //!
 //! [`Journal`] keeps lines over a [`Host`], which is a file and an output in one: [`Disk`] is a file of the operating
-//! system, [`Memory`] one in memory. `rbbank site` keeps its history so.
+//! system, [`Planned`] one whose calls a program with a loop of its own makes. `rbbank site` keeps its history so.
 //!
 //! [`serve`] answers the lines of a reader by a [`JournaledResponder`], whose state is the run of a journal's lines:
 //! what a read brings is answered, its entries go to the disk together, and then the answers are put out. So nothing
@@ -23,7 +23,6 @@ mod host;
 mod input;
 mod journal;
 mod long;
-mod memory;
 mod named_file;
 mod open_error;
 mod planned;
@@ -44,7 +43,6 @@ pub use fault::ServeFault;
 pub use host::{Host, HostError};
 pub use input::Input;
 pub use journal::{Journal, count_lines, damaged_line};
-pub use memory::Memory;
 pub use open_error::OpenError;
 pub use planned::Planned;
 pub use responder::JournaledResponder;
