@@ -1,5 +1,5 @@
 -- The state of a script between two lines, and what one line does.
-use Rattle.std.specs.Prelude.{◌≡◌, ◌+◌, ℕ, List, ◌++◌, Option, Some, None, refl}
+use Rattle.std.specs.Prelude.{◌≡◌, ℕ, List, Option, Some, None, refl}
 use Rattle.std.proofs.Common.{ap}
 use Rattle.rb_lines.proofs.Public.Chosen.{first_chosen}
 use Rattle.rb_lines.specs.Answers.{LinesOutcome}
@@ -7,7 +7,6 @@ use Rattle.rb_lines.specs.Lines.{is_long}
 use Rattle.rb_site.specs.declared.reply.Reply.{Reply}
 use Rattle.rb_site.specs.declared.world_event.WorldEvent.{WorldEvent}
 use Rattle.rb_world.specs.Laws.{SeenWorld, next_reply, next_world}
-use Rattle.rb_history.specs.Replies.{line}
 use Rattle.rb_runs.specs.declared.script.session.Session.{Session}
 use Rattle.rb_runs.specs.Script.{commands_from, script_outcome, script_from}
 use Rattle.rb_runs.specs.TakesLines.{TakesAll, makes_nothing}
@@ -38,10 +37,3 @@ pub record TakesCommand (asked : Option WorldEvent) (old new : SeenWorld) (reply
   pub is_command : asked ≡ Some command
   pub world : new ≡ next_world old command
   pub reply_is : reply ≡ next_reply old command
-
--- there is a command, the world took it, and the line of its reply is buffered
-pub record AnswersCommand (asked : Option WorldEvent) (old new : SeenWorld) (buffered buffered' : List ℕ) : Type 0 where
-  pub command : WorldEvent
-  pub is_command : asked ≡ Some command
-  pub world : new ≡ next_world old command
-  pub owes : buffered' ≡ buffered ++ line (next_reply old command)

@@ -65,16 +65,8 @@ impl<T: TakesLines> Lines<T> {
         }
     }
 
-    /// The run goes on with this value. The one before it, if there is one, is ended.
-    fn start(&mut self, opened: T)
-        ensures { self.new ≡ record self.old { opened = Some opened } }
-    {
-        if let Some(before) = self.opened.replace(opened) {
-            before.close();
-        }
-    }
-
-    /// The run goes on with what the configuration on a line opens. An `Err` buffers nothing.
+    /// The run goes on with what the configuration on a line opens, and a value before it is ended. An `Err` buffers
+    /// nothing.
     #[inline(never)]
     fn open(&mut self, alloc: Global, line: &[u8], buffered: &mut Vec<u8>) -> Result<(), LineFault>
         requires count { self.old.count < 2 ^ 63 }
@@ -89,8 +81,10 @@ impl<T: TakesLines> Lines<T> {
             × (why ≡ Bad → StopsAt (T.rest None) line.now (λ n. BadConfig n))) }
     {
         let (opened, answers) = T::open(alloc, line, buffered)?;
-        self.start(opened);
         self.count += answers;
+        if let Some(before) = self.opened.replace(opened) {
+            before.close();
+        }
         Ok(())
     }
 
@@ -158,7 +152,7 @@ impl<T: TakesLines> Responder for Lines<T> {
         match opened.take(alloc, line, buffered) {
             Ok(answers) => self.count += answers,
             Err(why) => {
-                self.why = reason(alloc, why, opened.expected(), Some(opened.config()), line);
+                self.why = reason(alloc, why, T::EXPECTED, Some(opened.config()), line);
                 return Err(fault_at(why, ScriptFault::BadLine { line: number }));
             }
         }

@@ -22,6 +22,9 @@ pub trait TakesLines {
 
     ghost made: { Option Self → ℕ → List (List ℕ) → Made };
 
+    /// The reader of each later line.
+    const EXPECTED: Expected;
+
     /// Opens the configuration on a line, adds its answer to `buffered`, and says how many that is: 0 or 1. An `Err`
     /// adds nothing.
     fn open(alloc: Global, line: &[u8], buffered: &mut Vec<u8>) -> Result<(Self, u64), LineFault>
@@ -43,9 +46,6 @@ pub trait TakesLines {
             × TakesLine rest made (Some self.old) (Some self.new) line.now text answers)
             (λ why. (buffered.new.items ≡ buffered.old.items)
             × (why ≡ Bad → StopsAt (rest (Some self.old)) line.now (λ n. BadLine n))) };
-
-    /// The reader of each later line.
-    fn expected(&self) -> Expected;
 
     /// The configuration by which it reads.
     fn config(&self) -> &Config;

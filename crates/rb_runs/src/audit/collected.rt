@@ -28,6 +28,8 @@ impl TakesLines for Collected {
 
     ghost made = { input_rest };
 
+    const EXPECTED: Expected = Expected::Entry;
+
     fn open(
         alloc: Global,
         line: &[u8],
@@ -51,10 +53,6 @@ impl TakesLines for Collected {
         let site = entry_of(alloc, self.auditor.config(), line, &mut entry)?;
         self.auditor.take(site, &entry)?;
         Ok(0)
-    }
-
-    fn expected(&self) -> Expected {
-        Expected::Entry
     }
 
     fn config(&self) -> &Config {

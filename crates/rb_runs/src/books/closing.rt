@@ -2,12 +2,11 @@
 //!
 //! The auditor reads each entry as its line comes, so no file is needed once it was taken. The seal is checked first,
 //! and then each line has to be an entry, since other bytes may end as a sealed file does.
-ghost use Rattle.std.specs.Prelude.{◌≡◌, ◌+◌, ◌<◌, ◌⊎◌, ◌∷◌, [], Err, None, Ok, Some, false, length, true};
+ghost use Rattle.std.specs.Prelude.{◌≡◌, ◌+◌, ◌<◌, ◌⊎◌, ◌∷◌, [], Err, None, Ok, Some, length};
 ghost use Rattle.std.specs.Prelude.{IfOk, MatchOption, MatchResult};
 ghost use Rattle.rb_auditor.specs.Audits.{Audited, HasMore};
 ghost use Rattle.rb_lines.specs.Lines.{lines_of};
 ghost use Rattle.rb_runs.specs.JournalFiles.{EndsAtFile, TakesFile, bank_by, entry_of_site, is_head};
-ghost use Rattle.rb_runs.specs.JournalFiles.{is_sealed, journal_lines};
 ghost use Rattle.rb_runs.specs.JournalFiles.{with_lines};
 ghost use Rattle.rb_site.specs.declared.entry.Entry.{Entry as TheEntry};
 
@@ -27,19 +26,6 @@ pub struct Closing {
     journals: usize,
     taken: usize,
     auditor: Option<Auditor>,
-}
-
-/// The lines of a sealed file, each with its line feed.
-fn sealed_lines(file: &[u8]) -> Option<&[u8]>
-    ensures { MatchOption result (is_sealed file.now ≡ false)
-        (λ lines. (is_sealed file.now ≡ true) × (journal_lines file.now ≡ lines_of lines.now)
-        × (0 < length lines.now)) }
-{
-    if file.ends_with(b"\n\t") {
-        Some(&file[..file.len() - 1])
-    } else {
-        None
-    }
 }
 
 /// The first line, without its line feed, and the lines after it.
@@ -177,10 +163,10 @@ impl Closing {
         requires more { self.old.taken < self.old.journals }
         ensures { MatchResult result (λ _. TakesFile self.old self.new file.now) (EndsAtFile self.old file.now) }
     {
-        let Some(lines) = sealed_lines(file) else {
+        if !file.ends_with(b"\n\t") {
             return Err(JournalFault::NotSealed);
-        };
-        let (first, entries) = split_line(lines);
+        }
+        let (first, entries) = split_line(&file[..file.len() - 1]);
         self.take_head(first)?;
         let Some(auditor) = &mut self.auditor else {
             unreachable!();

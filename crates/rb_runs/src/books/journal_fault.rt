@@ -1,5 +1,5 @@
 //! Why a journal can't be closed.
-ghost use Rattle.std.specs.Prelude.{◌≡◌, ◌++◌, codes, string_bytes, IfOk};
+ghost use Rattle.std.specs.Prelude.{◌≡◌, string_bytes, IfOk};
 ghost use Rattle.rb_runs.specs.JournalFiles.{journal_message_of, journal_reason_of, journal_status_of};
 ghost use Rattle.rb_runs.specs.declared.books.journal_fault.JournalFault.TheVariants.{OutOfMemory as NoMemory};
 
@@ -54,29 +54,16 @@ impl From<AllocError> for JournalFault {
     }
 }
 
-/// The text about a file.
-fn of_file(alloc: Global, file: &str, fault: JournalFault) -> Result<String, AllocError>
-    ensures { IfOk result (λ text. string_bytes text
-        ≡ codes "rbbank: " ++ (file.now ++ (codes ": " ++ journal_reason_of fault))) }
-{
-    format!(in alloc; "rbbank: {file}: {fault}")
-}
-
 /// The text that a program writes on standard error about a file with the fault, without the line feed. An `Err` means
 /// out of memory.
 pub fn journal_message(alloc: Global, file: &str, fault: JournalFault) -> Result<String, AllocError>
     ensures { IfOk result (λ text. string_bytes text ≡ journal_message_of file.now fault) }
 {
     match fault {
-        JournalFault::NotSealed => of_file(alloc, file, fault),
-        JournalFault::AnotherBank => of_file(alloc, file, fault),
-        JournalFault::BadLine { line: _ } => of_file(alloc, file, fault),
-        JournalFault::AnotherSite { line: _ } => of_file(alloc, file, fault),
-        JournalFault::Count {
-            journals: _,
-            sites: _,
-        } => format!(in alloc; "rbbank: {fault}"),
-        JournalFault::OutOfMemory => format!(in alloc; "rbbank: {fault}"),
+        JournalFault::Count { .. } | JournalFault::OutOfMemory => format!(in alloc;
+            "rbbank: {fault}"
+        ),
+        _ => format!(in alloc; "rbbank: {file}: {fault}"),
     }
 }
 

@@ -115,6 +115,8 @@ impl TakesLines for Versions {
 
     ghost made = { makes_nothing };
 
+    const EXPECTED: Expected = Expected::Entry;
+
     fn open(
         alloc: Global,
         line: &[u8],
@@ -135,10 +137,6 @@ impl TakesLines for Versions {
     ) -> Result<u64, LineFault> {
         self.answer_entry(alloc, line, buffered)?;
         Ok(1)
-    }
-
-    fn expected(&self) -> Expected {
-        Expected::Entry
     }
 
     fn config(&self) -> &Config {

@@ -32,6 +32,8 @@ impl TakesLines for Recorder {
 
     ghost made = { recorder_rest };
 
+    const EXPECTED: Expected = Expected::Command;
+
     fn open(
         alloc: Global,
         line: &[u8],
@@ -51,10 +53,6 @@ impl TakesLines for Recorder {
     ) -> Result<u64, LineFault> {
         take_command(alloc, &mut self.world, &mut self.reply, line)?;
         Ok(0)
-    }
-
-    fn expected(&self) -> Expected {
-        Expected::Command
     }
 
     fn config(&self) -> &Config {

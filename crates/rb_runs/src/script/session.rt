@@ -2,9 +2,9 @@
 //!
 //! One place has all replies, and a batch's names go into the memory of those before. A place for each command is
 //! cleared and let go, 11 to 21 instructions, and names are taken and freed, 150 of 2,490 of a batch of two.
-use crate::script::world::{answer_command, open_world};
+use crate::script::world::{open_world, take_command};
 use crate::takes_lines::TakesLines;
-use rb_history::LineFault;
+use rb_history::{LineFault, append_reply};
 use rb_money::{Config, Refusal};
 use rb_reasons::Expected;
 use rb_site::Reply;
@@ -25,6 +25,8 @@ impl TakesLines for Session {
 
     ghost made = { makes_nothing };
 
+    const EXPECTED: Expected = Expected::Command;
+
     fn open(
         alloc: Global,
         line: &[u8],
@@ -42,12 +44,9 @@ impl TakesLines for Session {
         line: &[u8],
         buffered: &mut Vec<u8>,
     ) -> Result<u64, LineFault> {
-        answer_command(alloc, &mut self.world, &mut self.reply, line, buffered)?;
+        take_command(alloc, &mut self.world, &mut self.reply, line)?;
+        append_reply(buffered, &self.reply)?;
         Ok(1)
-    }
-
-    fn expected(&self) -> Expected {
-        Expected::Command
     }
 
     fn config(&self) -> &Config {

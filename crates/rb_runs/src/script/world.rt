@@ -1,15 +1,15 @@
 //! The world of a script: how its configuration opens it, and its commands.
-ghost use Rattle.std.specs.Prelude.{◌≡◌, None, Some, MatchResult, OnErr};
+ghost use Rattle.std.specs.Prelude.{◌≡◌, None, Some, MatchResult};
 ghost use Rattle.rb_money.specs.Settings.{Settings};
 ghost use Rattle.rb_world.specs.Laws.{opened};
 ghost use Rattle.rb_history.specs.declared.fault.LineFault.TheVariants.{Bad};
 ghost use Rattle.rb_history.specs.Configurations.{config_on};
 ghost use Rattle.rb_history.specs.OnLines.{command_on};
-ghost use Rattle.rb_runs.specs.ScriptSession.{AnswersCommand, TakesCommand};
+ghost use Rattle.rb_runs.specs.ScriptSession.{TakesCommand};
 
-use rb_history::{LineFault, append_reply, open_command, open_config};
+use rb_history::{LineFault, open_command, open_config};
 use rb_site::{KeepsEntry, Reply};
-use rb_world::{ErasedEvent, LeanWorld, PlacedMessage, World};
+use rb_world::{ErasedEvent, PlacedMessage, World};
 use std::alloc::Global;
 
 /// The world before any event of the configuration on a line.
@@ -39,24 +39,4 @@ pub fn take_command<E: KeepsEntry>(
 {
     let command = open_command(alloc, world.config(), line)?;
     Ok(world.answer(&command, reply)?)
-}
-
-/// Gives the world the command on a line, and buffers its reply, which is put in the place of another. An `Err` buffers
-/// nothing, and ends the script.
-#[inline(always)]
-pub fn answer_command(
-    alloc: Global,
-    world: &mut LeanWorld,
-    reply: &mut Reply,
-    line: &[u8],
-    buffered: &mut Vec<u8>,
-) -> Result<(), LineFault>
-    ensures answered { MatchResult result
-        (λ _. AnswersCommand (command_on world.old.settings line.now) world.old world.new buffered.old.items
-        buffered.new.items)
-        (λ why. why ≡ Bad → command_on world.old.settings line.now ≡ None) }
-    ensures err { OnErr result (buffered.new.items ≡ buffered.old.items) }
-{
-    take_command(alloc, world, reply, line)?;
-    Ok(append_reply(buffered, reply)?)
 }
