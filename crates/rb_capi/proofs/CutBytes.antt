@@ -1,7 +1,6 @@
 -- Bytes that are cut into files, and the sum of the files' lengths.
-use Rattle.std.proofs.Common.{◌≡◌, ◌∙◌, ◌+◌, ◌<◌, ℕ, zero, suc, List, [], ◌∷◌, ◌++◌, length, take, drop, get_or, sum, ap, arith, sym}
+use Rattle.std.proofs.Common.{◌≡◌, ◌∙◌, ◌+◌, ◌<◌, ℕ, zero, suc, List, [], ◌∷◌, ◌++◌, length, take, drop, get_or, ap, arith, sym}
 use Rattle.core.proofs.slice.Lists.{drop-cons}
-use Rattle.std.proofs.lemmas.List.Sums.{sum_by-cons}
 use Rattle.rb_capi.specs.Close.{pieces_of}
 
 one_more : (t : ℕ) → suc t ≡ t + 1
@@ -35,7 +34,3 @@ drop_is xs t d less = drop-cons xs t d less ∙ ap (λ n. get_or xs t d ∷ drop
 pub next_file : (ls bytes rest : List ℕ) (t : ℕ) → t < length ls → pieces_of (drop t ls) rest ≡ drop t (pieces_of ls bytes)
     → drop t (pieces_of ls bytes) ≡ take (get_or ls t 0) rest ∷ pieces_of (drop (t + 1) ls) (drop (get_or ls t 0) rest)
 next_file ls bytes rest t less place = sym place ∙ ap (λ l. pieces_of l rest) (drop_is ls t 0 less)
-
--- the lengths that are left are the next one and those after it
-pub sum_left : (ls : List ℕ) (t : ℕ) → t < length ls → sum (drop t ls) ≡ get_or ls t 0 + sum (drop (t + 1) ls)
-sum_left ls t less = ap sum (drop_is ls t 0 less) ∙ sum_by-cons (λ x. x) (get_or ls t 0) (drop (t + 1) ls)

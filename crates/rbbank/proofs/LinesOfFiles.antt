@@ -8,8 +8,7 @@ use Rattle.std.specs.Option.{option_map_or}
 use Rattle.rb_lines.specs.Lines.{lines_of}
 use Rattle.rbbank.specs.Files.{AreInput, AreJoined, AreNoInput, HaveHead, HaveOneHead, line_counts, first_line, head_of}
 use Rattle.rbbank.specs.Files.{lines_behind, joined_lines}
-use Rattle.rbbank.specs.declared.joined.FilesFault.{FilesFault}
-use Rattle.rbbank.specs.declared.joined.FilesFault.TheVariants.{Unread, AnotherBank, Same, OutOfMemory}
+use Rattle.rbbank.specs.declared.joined.FilesFault.TheVariants.{AnotherBank}
 use Rattle.rbbank.specs.declared.joined.Joined.{Joined}
 
 -- ---- lines after lines
@@ -163,16 +162,6 @@ joined_more files old new file rest some are head behind lines counts = record {
   counts = counts ∙ ap (λ ls. old.counts.items ++ length ls ∷ []) behind
       ∙ ap (λ ns. ns ++ length (lines_behind file) ∷ []) are.counts ∙ sym (counts_more files file some);
 }
-
--- ---- faults
-
--- with more files the fault is the same
-pub no_input : (few count : ℕ) (files : List (List ℕ)) (fault : FilesFault) → few ≤ count → AreNoInput few files fault
-    → AreNoInput count files fault
-no_input few count files (Unread file) less is = (is.0, omega (arith, less, is.1), is.2)
-no_input few count files (AnotherBank file) less is = is
-no_input few count files (Same same) less is = is
-no_input few count files OutOfMemory less is = is
 
 -- another bank's file was read
 pub is_another : (files : List (List ℕ)) (input file : List ℕ) (n : ℕ) → length files ≡ n → AreInput files input
