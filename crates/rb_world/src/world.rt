@@ -12,6 +12,7 @@ ghost use Rattle.rb_site.specs.Events.{ModelSite, first_site};
 ghost use Rattle.rb_site.specs.Seen.{state_of};
 ghost use Rattle.rb_site.specs.Histories.{site_of};
 ghost use Rattle.rb_site.specs.Worlds.{IsCommand, arrival, is_recorded, message_at};
+ghost use Rattle.rb_site.specs.declared.event.Event.TheVariants.{Receive};
 ghost use Rattle.rb_world.specs.Laws.{Headline, IsRunOf, OtherLaws, next_replies, next_reply};
 ghost use Rattle.rb_world.specs.Laws.{next_world, next_worlds, opened};
 ghost use Rattle.rb_world.specs.Reports.{AreReportsOf};
@@ -176,7 +177,7 @@ impl<E: KeepsEntry, R: KeepsEvent, M: KeepsMessage> World<E, R, M> {
     }
 
     /// A message of this number is delivered to a site. This is a call, so that no other event clears the memory of the
-    /// message's copies.
+    /// message.
     #[inline(never)]
     fn deliver(
         &mut self,
@@ -192,13 +193,12 @@ impl<E: KeepsEntry, R: KeepsEvent, M: KeepsMessage> World<E, R, M> {
         ensures err { OnErr result (self.new ≡ self.old) }
         ensures recordable { OnErr result (is_recorded self.old.settings self.old.world event.now ≡ true) }
     {
-        match self.message(number) {
-            Some(message) => self.arrive(event, &Event::Receive(message), reply),
-            None => {
-                *reply = Reply::Refused(Refusal::NoMessage);
-                Ok(())
-            }
-        }
+        let arrival = self.arrival(number);
+        let Some(arrived) = &arrival else {
+            *reply = Reply::Refused(Refusal::NoMessage);
+            return Ok(());
+        };
+        self.arrive(event, arrived, reply)
     }
 
     /// The site's event `arrived` comes to the site: unless its history is full, the site takes a step, and the world's
@@ -250,16 +250,16 @@ impl<E: KeepsEntry, R: KeepsEvent, M: KeepsMessage> World<E, R, M> {
         self.sites.get(site as usize)
     }
 
-    /// The message of a number, from 1 in the order of sending.
+    /// The event by which the message of a number, from 1 in the order of sending, comes to a site.
     #[inline(always)]
-    fn message(&self, number: u32) -> Option<Message>
-        ensures { result ≡ message_at self.now.world.messages number }
+    fn arrival(&self, number: u32) -> Option<Event>
+        ensures { result ≡ option_map Receive (message_at self.now.world.messages number) }
     {
         if number == 0 {
             return None;
         }
         let kept = self.messages.get(number as usize - 1)?;
-        Some(kept.message(self.sites.as_slice()))
+        Some(kept.arrival(self.sites.as_slice()))
     }
 
     /// Closes the world: each site reports its state, in order. A site that keeps no history reports no balances, no
