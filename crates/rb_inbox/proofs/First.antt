@@ -246,7 +246,7 @@ first_blue held row c end x same none f = (
     among = (found held x f.blue f.found).0;
     ready = f.ready;
     first = λ u a r. elim (none_or_some (row_of u.name)) [
-      | inl e ↦ absurd (none u (in_row held row 0 u same a e) r)
+      | inl e ↦ absurd (none u (in_row held row zero u same a e) r)
       | inr l ↦ f.first u a r l
     ];
   },
@@ -263,7 +263,7 @@ first_before_red held row c end red x same numbered last first f = (
     among = among;
     ready = f.ready;
     first = λ u a r. elim (none_or_some (row_of u.name)) [
-      | inl e ↦ inr (sooner_before f.blue u (low u (first.first u (in_row held row 0 u same a e) r))
+      | inl e ↦ inr (sooner_before f.blue u (low u (first.first u (in_row held row zero u same a e) r))
           (blue_sooner f.blue.name u.name f.low e))
       | inr l ↦ f.first u a r l
     ];
@@ -291,7 +291,7 @@ first_red held row c end red same h numbered last first none = (
     among = (found held red.name red there).0;
     ready = first.ready;
     first = λ u a r. elim (none_or_some (row_of u.name)) [
-      | inl e ↦ first.first u (in_row held row 0 u same a e) r
+      | inl e ↦ first.first u (in_row held row zero u same a e) r
       | inr l ↦ inr (lesser_home red u (let k : row_of u.name ≡ u.home + 1 = home_of_row u (numbered u a) l in
           let m : end ≤ row_of u.name = none u a r l in omega arith))
     ];
@@ -299,7 +299,7 @@ first_red held row c end red same h numbered last first none = (
 )
   where
     there : find_in held red.name ≡ Some red
-    there = found_there held row 0 red same h first.among
+    there = found_there held row zero red same h first.among
 
 -- neither is ready
 pub none_first : (held row : List Shadow) (c : Deps) (n : ℕ) → row ≡ filter (is_of 0) held
@@ -308,5 +308,5 @@ pub none_first : (held row : List Shadow) (c : Deps) (n : ℕ) → row ≡ filte
 none_first held row c n same none within blue u a r = at (none_or_some (row_of u.name))
   where
     at : (row_of u.name ≡ 0) ⊎ (1 ≤ row_of u.name) → ⊥
-    at (inl e) = none u (in_row held row 0 u same a e) r
+    at (inl e) = none u (in_row held row zero u same a e) r
     at (inr l) = let past : n ≤ row_of u.name = blue u a r l in let low : row_of u.name < n = within u a in omega arith

@@ -1,7 +1,7 @@
 -- If no line has an answer, nothing is buffered and nothing goes out.
 use Rattle.std.proofs.Common.{◌≡◌, ◌≢◌, ◌<◌, ◌-◌, ℕ, List, [], ◌∷◌, ◌++◌, Option, Result, Ok, Err, ap, arith, length, refl, sym, subst, ◌∙◌}
 use Rattle.std.specs.Io.KnownBytes.{Appends}
-use Rattle.std.proofs.KnownBytes.{Appends-nil, Appends-trans}
+use Rattle.std.proofs.KnownBytes.{Appends-trans}
 use Rattle.rb_lines.specs.Answers.{AnswersLine, IsSilent, LinesOutcome, RunState, after_text}
 use Rattle.rb_lines.specs.Buffers.{Sends}
 use Rattle.rb_lines.specs.declared.no_line.NoLine.{NoLine}
@@ -15,10 +15,6 @@ both_none : (a b : List ℕ) → [] ≡ a ++ b → (a ≡ []) × (b ≡ [])
 both_none [] [] e = (refl, refl)
 both_none [] (y ∷ b) e = absurd (cc e)
 both_none (x ∷ a) b e = absurd (cc e)
-
--- at first nothing is buffered
-pub silent_first : (s : RunState) (w : Option (List ℕ)) (buffered : List ℕ) → buffered ≡ [] → KeepsSilent s s w w buffered
-silent_first s w buffered none silent = (silent, Appends-nil w, none)
 
 -- if nothing is buffered, no write fails
 pub no_write : (why : NoLine) (buffered : List ℕ) → buffered ≡ [] → (why ≡ Write → 0 < length buffered) → why ≢ Write

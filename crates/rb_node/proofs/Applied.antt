@@ -142,19 +142,19 @@ spare_falls old mid e reply k l free step =
     omega arith
 
 -- the operation was applied, and its reply written after the comma
-pub applied_one : {A E : Type 0} (Q : Type 0) (r : Result A E) (all : Bool) (old mid new : SeenAsked) (id : List ℕ) (x : OpName)
+pub applied_one : {A E : Type 0} (Q : Type 0) (r : Result A E) (old mid new : SeenAsked) (id : List ℕ) (x : OpName)
     (reply : Reply) (comma a b c k l : List ℕ) → id ≡ [] → is_full old.settings (asked_state old) ≡ false
     → mid ≡ with_more old (with_id id (entry (Apply x) reply) ∷ []) → reply ≡ reply_to old.settings (asked_state old) (Apply x)
     → b ≡ a ++ comma
-    → MatchResult r (λ _. Notes true all mid new id (entry (Apply x) reply) k l × (c ≡ b ++ compact_text (reply_json reply)) × Q)
+    → MatchResult r (λ _. Notes true mid new id (entry (Apply x) reply) k l × (c ≡ b ++ compact_text (reply_json reply)) × Q)
     (λ _. (take (length b) c ≡ b) × (take (length k) l ≡ k))
     → MatchResult r (λ _. AppliesOne old new x comma a c k l) (λ _. (take (length a) c ≡ a) × (take (length k) l ≡ k))
-applied_one Q (Ok y) all old mid new id x reply comma a b c k l none free is given begun h = record {
+applied_one Q (Ok y) old mid new id x reply comma a b c k l none free is given begun h = record {
   reply = reply;
-  step = recorded all old mid new id (Apply x) reply k l none free is given h.0;
+  step = recorded old mid new id (Apply x) reply k l none free is given h.0;
   text_is = both a b c comma (compact_text (reply_json reply)) begun h.1;
 }
-applied_one Q (Err y) all old mid new id x reply comma a b c k l none free is given begun h = (front_stays a b c comma begun h.0, h.1)
+applied_one Q (Err y) old mid new id x reply comma a b c k l none free is given begun h = (front_stays a b c comma begun h.0, h.1)
 
 -- all that is ready was applied, and the line ended
 pub closed : {A E : Type 0} (r : Result A E) (old new : SeenAsked) (a b c k l : List ℕ) → AppliesOn [] old new a b k l

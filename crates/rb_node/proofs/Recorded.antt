@@ -144,11 +144,11 @@ no-id x id y is =
 -- ---- steps
 
 -- an event of no id was recorded, and its line written
-pub recorded : (all : Bool) (old mid new : SeenAsked) (id : List ℕ) (e : Event) (reply : Reply) (entries after : List ℕ) → id ≡ []
+pub recorded : (old mid new : SeenAsked) (id : List ℕ) (e : Event) (reply : Reply) (entries after : List ℕ) → id ≡ []
     → is_full old.settings (asked_state old) ≡ false → mid ≡ with_more old (with_id id (entry e reply) ∷ [])
-    → reply ≡ reply_to old.settings (asked_state old) e → Notes true all mid new id (entry e reply) entries after
+    → reply ≡ reply_to old.settings (asked_state old) e → Notes true mid new id (entry e reply) entries after
     → Steps old new e reply entries after
-recorded all old mid new id e reply entries after none free is given noted =
+recorded old mid new id e reply entries after none free is given noted =
     let x = entry e reply in
     let tag : with_id id x ≡ without_id x = ap (λ i. with_id i x) none ∙ with-none x in
     let same : new ≡ with_more old (without_id x ∷ []) = noted.0 ∙ is ∙ ap (λ y. with_more old (y ∷ [])) tag in
@@ -371,26 +371,32 @@ recorded-then (Err x) false old mid new id e reply h free out p ok err = (tt, er
 -- a step, from what follows its event
 pub stepped-by : (all recorded : Bool) (old mid new : SeenAsked) (id : List ℕ) (e : Event) (reply : Reply) (entries after : List ℕ)
     → RecordsIf old mid id e reply recorded → false ≡ (all && is_full old.settings (asked_state old))
-    → Notes recorded all mid new id (entry e reply) entries after → StepsKept all old new id e reply entries after
-stepped-by all true old mid new id e reply entries after h spare noted =
+    → (recorded ≡ false → all ≡ true) → Notes recorded mid new id (entry e reply) entries after
+    → StepsKept all old new id e reply entries after
+stepped-by all true old mid new id e reply entries after h spare each noted =
     subst (λ y. StepsKept all old y id e reply entries after) (sym noted.0) (step-changed all old mid id e reply entries after h noted.1)
-stepped-by true false old mid new id e reply entries after h spare short =
+stepped-by true false old mid new id e reply entries after h spare each short =
     step-unchanging old mid new id e reply entries after (unchanged old mid id e reply h (sym spare)) short
-stepped-by false false old mid new id e reply entries after h spare noted =
-    subst (λ y. StepsKept false old y id e reply entries after) (sym noted.0)
-    (subst (λ l. StepsKept false old mid id e reply entries l) (sym noted.1) (step-left-out old mid id e reply entries h))
+stepped-by false false old mid new id e reply entries after h spare each noted = absurd (let out = each refl in cc)
+
+-- a step of an event that isn't recorded
+pub left-out : (all recorded : Bool) (old mid : SeenAsked) (id : List ℕ) (e : Event) (reply : Reply) (entries : List ℕ)
+    → RecordsIf old mid id e reply recorded → recorded ≡ false → all ≡ false → StepsKept all old mid id e reply entries entries
+left-out false false old mid id e reply entries h out none = step-left-out old mid id e reply entries h
+left-out all recorded old mid id e reply entries h out none = absurd (cc)
 
 -- and after its reply's text
 pub told-step : {A E : Type 0} (F : Type 0) (r : Result A E) (all now : Bool) (old mid new : SeenAsked) (id : List ℕ) (e : Event)
     (reply : Reply) (before sent messages : List Message) (a b k l : List ℕ)
-    → RecordsIf old mid id e reply now → false ≡ (all && is_full old.settings (asked_state old)) → before ≡ messages
-    → MatchResult r (λ _. Notes now all mid new id (entry e reply) k l × (b ≡ a ++ compact_text (reply_json reply))
+    → RecordsIf old mid id e reply now → false ≡ (all && is_full old.settings (asked_state old)) → (now ≡ false → all ≡ true)
+    → before ≡ messages
+    → MatchResult r (λ _. Notes now mid new id (entry e reply) k l × (b ≡ a ++ compact_text (reply_json reply))
     × (sent ≡ before)) (λ _. F)
     → MatchResult r (λ _. (y : Reply) × StepsKept all old new id e y k l × (b ≡ a ++ compact_text (reply_json y)) × (sent ≡ messages))
     (λ _. F)
-told-step F (Ok v) all now old mid new id e reply before sent messages a b k l is spare posted h =
-    (reply, stepped-by all now old mid new id e reply k l is spare h.0, h.1, h.2 ∙ posted)
-told-step F (Err v) all now old mid new id e reply before sent messages a b k l is spare posted h = h
+told-step F (Ok v) all now old mid new id e reply before sent messages a b k l is spare each posted h =
+    (reply, stepped-by all now old mid new id e reply k l is spare each h.0, h.1, h.2 ∙ posted)
+told-step F (Err v) all now old mid new id e reply before sent messages a b k l is spare each posted h = h
 
 -- if all are recorded and the history is full, each is refused
 pub refused-by : (all : Bool) (old : SeenAsked) (id : List ℕ) (e : Event) (entries : List ℕ)
@@ -419,12 +425,12 @@ tagged r s me id x old new may is h =
     subst (λ (b : Bool). Adds r old new (compact_text (asked_entry_json s me (tagged-by (cond b id []) x)))) is h
 
 -- the line of a recorded event's entry, with its line feed
-pub noted-line : {A E : Type 0} (r : Result A E) (recorded all : Bool) (old new : SeenAsked) (id : List ℕ) (x : Entry) (config : Settings)
+pub noted-line : {A E : Type 0} (r : Result A E) (recorded : Bool) (old new : SeenAsked) (id : List ℕ) (x : Entry) (config : Settings)
     (me : ℕ) (before sent : List Message) (entries added after : List ℕ) → true ≡ recorded → new ≡ old → sent ≡ before
     → config ≡ old.settings → me ≡ old.me → added ≡ entries ++ compact_text (asked_entry_json config me (with_id id x))
     → Adds r added after (codes "\n")
-    → MatchResult r (λ _. Notes recorded all old new id x entries after × (sent ≡ before)) (λ _. take (length entries) after ≡ entries)
-noted-line (Ok v) true all old new id x config me before sent entries added after is same kept same_config number line fed =
+    → MatchResult r (λ _. Notes recorded old new id x entries after × (sent ≡ before)) (λ _. take (length entries) after ≡ entries)
+noted-line (Ok v) true old new id x config me before sent entries added after is same kept same_config number line fed =
     let y = with_id id x in (
       (
         same,
@@ -434,23 +440,17 @@ noted-line (Ok v) true all old new id x config me before sent entries added afte
       ),
       kept,
     )
-noted-line (Ok y) false all old new id x config me before sent entries added after is same kept same_config number line fed = absurd (cc)
-noted-line (Err y) recorded all old new id x config me before sent entries added after is same kept same_config number line fed =
+noted-line (Ok y) false old new id x config me before sent entries added after is same kept same_config number line fed = absurd (cc)
+noted-line (Err y) recorded old new id x config me before sent entries added after is same kept same_config number line fed =
     front_stays entries added after _ line fed
 
 -- an event that wasn't recorded, and is now
-pub noted-short : {A E : Type 0} (P : Type 0) (r : Result A E) (recorded all : Bool) (old new : SeenAsked) (id : List ℕ) (x : Entry)
-    (entries after : List ℕ) → false ≡ recorded → true ≡ all
+pub noted-short : {A E : Type 0} (P : Type 0) (r : Result A E) (recorded : Bool) (old new : SeenAsked) (id : List ℕ) (x : Entry)
+    (entries after : List ℕ) → recorded ≡ false
     → MatchResult r (λ _. RecordsShort old new x entries after × P) (λ _. take (length entries) after ≡ entries)
-    → MatchResult r (λ _. Notes recorded all old new id x entries after × P) (λ _. take (length entries) after ≡ entries)
-noted-short P r false true old new id x entries after out each h = h
-noted-short P r recorded all old new id x entries after out each h = absurd (cc)
-
--- an event that isn't recorded
-pub noted-none : (recorded all : Bool) (old new : SeenAsked) (id : List ℕ) (x : Entry) (entries : List ℕ) → false ≡ recorded → false ≡ all
-    → new ≡ old → Notes recorded all old new id x entries entries
-noted-none false false old new id x entries out none same = (same, refl)
-noted-none recorded all old new id x entries out none same = absurd (cc)
+    → MatchResult r (λ _. Notes recorded old new id x entries after × P) (λ _. take (length entries) after ≡ entries)
+noted-short P r false old new id x entries after out h = h
+noted-short P r true old new id x entries after out h = absurd (cc)
 
 -- an entry whose line isn't too long was recorded, or there was no memory
 pub recorded-short : {A E : Type 0} (r : Result A E) (inside old new : SeenAsked) (x : Entry) (config : Settings) (me : ℕ)

@@ -50,13 +50,11 @@ pub record IsUnchanging (now : SeenAsked) (x : Entry) : Type 0 where
   pub unchanging : changes_site now.settings (asked_state now) x.event ≡ false
   pub reply : x.reply ≡ reply_to now.settings (asked_state now) x.event
 
--- what follows an event with its id: the line of its entry, if it was recorded; if not, and all are, it is recorded
--- then
-abbrev pub Notes : Bool → Bool → SeenAsked → SeenAsked → List ℕ → Entry → List ℕ → List ℕ → Type 0
-Notes true all old new id x entries after =
+-- what follows an event with its id: the line of its entry, if it was recorded; if not, it is recorded then
+abbrev pub Notes : Bool → SeenAsked → SeenAsked → List ℕ → Entry → List ℕ → List ℕ → Type 0
+Notes true old new id x entries after =
     (new ≡ old) × (after ≡ entries ++ line_of (asked_entry_json old.settings old.me (with_id id x)))
-Notes false true old new id x entries after = RecordsShort old new x entries after
-Notes false false old new id x entries after = (new ≡ old) × (after ≡ entries)
+Notes false old new id x entries after = RecordsShort old new x entries after
 
 -- one event with its id: the site after it, its reply, and the line of its entry, if it is recorded, after those
 -- before

@@ -63,8 +63,9 @@ impl<M: Records> Node<M> {
         self.site.record_unchanging(&entry.event, &entry.reply)
     }
 
-    /// The line of a step's entry, if it was recorded. If it wasn't, since it changes nothing, and all are, it is
-    /// recorded now, unless its line is too long.
+    /// The line of a step's entry, if it was recorded. If it wasn't, since it changes nothing, it is recorded now,
+    /// unless its line is too long.
+    #[inline(always)]
     fn note(
         &mut self,
         recorded: bool,
@@ -73,24 +74,22 @@ impl<M: Records> Node<M> {
         reply: &[u8],
         entries: &mut Vec<u8>,
     ) -> Result<(), AllocError>
-        requires unchanging { recorded ≡ false → M.ALL ≡ true → IsUnchanging self.old.site entry.now }
+        requires unchanging { recorded ≡ false → IsUnchanging self.old.site entry.now }
         requires reply { reply.now ≡ compact_text (reply_json entry.now.reply) }
         ensures { MatchResult result
-            (λ _. Notes recorded M.ALL self.old.site self.new.site id.now entry.now entries.old.items entries.new.items
+            (λ _. Notes recorded self.old.site self.new.site id.now entry.now entries.old.items entries.new.items
             × (self.new.sent ≡ self.old.sent))
             (λ _. take (length entries.old.items) entries.new.items ≡ entries.old.items) }
     {
-        if recorded {
-            append_recorded(entries, &self.config, self.me(), id, entry, reply)?;
-            return append(entries, "\n");
-        }
-        if M::ALL {
+        if !recorded {
             return self.record_if_short(entry, reply, entries);
         }
-        Ok(())
+        append_recorded(entries, &self.config, self.me(), id, entry, reply)?;
+        append(entries, "\n")
     }
 
     /// The end of a step: its reply after the text, and the line of its entry, as `note` adds it.
+    #[inline(always)]
     fn finish(
         &mut self,
         recorded: bool,
@@ -99,9 +98,9 @@ impl<M: Records> Node<M> {
         text: &mut Vec<u8>,
         entries: &mut Vec<u8>,
     ) -> Result<(), AllocError>
-        requires { recorded ≡ false → M.ALL ≡ true → IsUnchanging self.old.site entry.now }
+        requires { recorded ≡ false → IsUnchanging self.old.site entry.now }
         ensures { MatchResult result
-            (λ _. Notes recorded M.ALL self.old.site self.new.site id.now entry.now entries.old.items entries.new.items
+            (λ _. Notes recorded self.old.site self.new.site id.now entry.now entries.old.items entries.new.items
             × (text.new.items ≡ text.old.items ++ compact_text (reply_json entry.now.reply))
             × (self.new.sent ≡ self.old.sent))
             (λ _. (take (length text.old.items) text.new.items ≡ text.old.items)
@@ -172,6 +171,9 @@ impl<M: Records> Node<M> {
         let recorded = self
             .site
             .answer_if_changes(id, &event, &mut self.sent, &mut reply)?;
+        if !recorded && !M::ALL {
+            return append_value(text, &reply);
+        }
         let entry = Entry { event, reply };
         self.finish(recorded, id, &entry, text, entries)
     }

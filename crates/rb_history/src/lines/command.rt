@@ -97,6 +97,10 @@ pub fn read_command(alloc: Global, config: &Config, line: &str) -> Result<WorldE
         if let Some((site, account)) = parse_balance_at(config, text) {
             return Ok(WorldEvent::At(site, Event::Balance(account)));
         }
+        // Not a batch.
+        if let Some(b'l') = text.as_bytes().get(2) {
+            return read_any_command(alloc, config, line);
+        }
     }
     if let Some(b'd') = key {
         if let Some((site, message)) = parse_delivery(config, None, text) {

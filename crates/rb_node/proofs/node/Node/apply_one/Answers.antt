@@ -25,7 +25,7 @@ returns g c =
     let id = c.none-none.result in
     let seen : c.self.inside.site ≡ old = ap (λ (v : SeenNode). v.site) c.self.view_is in
     let ok = c.in_ok-answer.ensures.ok in
-    applied_one _ c.finish.result g.M.Records.ALL old c.answer.new.self c.finish.new.self.site id c.args.name reply c.args.comma.now
+    applied_one _ c.finish.result old c.answer.new.self c.finish.new.self.site id c.args.name reply c.args.comma.now
     c.args.text.now.items c.append.new.out.items c.finish.new.text.items c.args.entries.now.items c.finish.new.entries.items
     c.none-none.ensures c.requires (ok.0 ∙ ap (λ (y : SeenAsked). with_more y (with_id id (entry event reply) ∷ [])) seen)
     (ok.1 ∙ ap (λ (y : SeenAsked). reply_to y.settings (asked_state y) event) seen) c.in_ok-append.ensures c.finish.ensures
