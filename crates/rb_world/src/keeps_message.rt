@@ -6,7 +6,7 @@ ghost use Rattle.rb_site.specs.Events.{ModelSite};
 ghost use Rattle.rb_site.specs.Seen.{state_of};
 ghost use Rattle.rb_world.specs.Sent.{AreLonger, IsMadeAt};
 
-use rb_site::{KeepsEntry, Message, Site};
+use rb_site::{Event, KeepsEntry, Message, Site};
 use rb_token::TokenMessage;
 use std::snapshot::Snapshot;
 
@@ -23,10 +23,10 @@ pub trait KeepsMessage: Drop {
         ensures same { noted result ≡ message.now }
         ensures there { (ts : List ModelSite) → IsMadeAt ts site position message.now → IsThere ts result };
 
-    /// The message.
-    fn message<E: KeepsEntry>(&self, sites: &[Site<E>]) -> Message
+    /// Puts the event by which the message comes to a site in the place of another.
+    fn arrive<E: KeepsEntry>(&self, sites: &[Site<E>], event: &mut Event)
         requires { IsThere (map state_of sites.now) self.now }
-        ensures { result ≡ noted self.now };
+        ensures { event.new ≡ Event.Receive (noted self.now) };
 
     // It stays there.
     ghost stays: { (old new : List ModelSite) → AreLonger old new → (kept : Self) → IsThere old kept
@@ -42,8 +42,8 @@ impl KeepsMessage for Message {
         *message
     }
 
-    fn message<E: KeepsEntry>(&self, _sites: &[Site<E>]) -> Message {
-        *self
+    fn arrive<E: KeepsEntry>(&self, _sites: &[Site<E>], event: &mut Event) {
+        *event = Event::Receive(*self);
     }
 
     ghost stays = { λ old new longer m there. tt };
@@ -83,18 +83,18 @@ impl KeepsMessage for PlacedMessage {
     }
 
     #[inline(always)]
-    fn message<E: KeepsEntry>(&self, sites: &[Site<E>]) -> Message {
+    fn arrive<E: KeepsEntry>(&self, sites: &[Site<E>], event: &mut Event) {
         match self.place {
             MessagePlace::Operation { site, position } => {
                 let Some(site) = sites.get(site as usize) else {
                     unreachable!();
                 };
-                let Some(shadow) = site.ledger().entry(position) else {
+                let Some(made) = site.ledger().operation(position) else {
                     unreachable!();
                 };
-                Message::Shadow(shadow)
+                *event = Event::Receive(Message::Shadow(made.shadow()));
             }
-            MessagePlace::Token(token) => Message::Token(token),
+            MessagePlace::Token(token) => *event = Event::Receive(Message::Token(token)),
         }
     }
 

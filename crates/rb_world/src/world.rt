@@ -5,13 +5,15 @@
 //! place at which its site has the operation.
 ghost use Rattle.std.specs.Prelude.{◌≡◌, ◌<◌, ◌≤◌, ◌⊎◌, Some, IfSome, IfOk, IfErr, OnErr, OnOk, All};
 ghost use Rattle.std.specs.Prelude.{◌+◌, ◌++◌, ◌^◌, List, length, true, map, option_map, slice_get, take};
-ghost use Rattle.std.specs.Prelude.{vec_capacity, vec_len};
+ghost use Rattle.std.specs.Prelude.{vec_capacity, vec_len, None};
+ghost use Rattle.std.specs.Bool.{OnFalse, OnTrue};
 ghost use Rattle.std.specs.List.{range_with_len};
 ghost use Rattle.rb_money.specs.declared.limits.TheConstants.{MOST_SITES};
 ghost use Rattle.rb_site.specs.Events.{ModelSite, first_site};
 ghost use Rattle.rb_site.specs.Seen.{state_of};
 ghost use Rattle.rb_site.specs.Histories.{site_of};
 ghost use Rattle.rb_site.specs.Worlds.{IsCommand, arrival, is_recorded, message_at};
+ghost use Rattle.rb_site.specs.declared.event.Event.TheVariants.{Receive};
 ghost use Rattle.rb_world.specs.Laws.{Headline, IsRunOf, OtherLaws, next_replies, next_reply};
 ghost use Rattle.rb_world.specs.Laws.{next_world, next_worlds, opened};
 ghost use Rattle.rb_world.specs.Reports.{AreReportsOf};
@@ -176,7 +178,7 @@ impl<E: KeepsEntry, R: KeepsEvent, M: KeepsMessage> World<E, R, M> {
     }
 
     /// A message of this number is delivered to a site. This is a call, so that no other event clears the memory of the
-    /// message's copies.
+    /// message.
     #[inline(never)]
     fn deliver(
         &mut self,
@@ -192,13 +194,12 @@ impl<E: KeepsEntry, R: KeepsEvent, M: KeepsMessage> World<E, R, M> {
         ensures err { OnErr result (self.new ≡ self.old) }
         ensures recordable { OnErr result (is_recorded self.old.settings self.old.world event.now ≡ true) }
     {
-        match self.message(number) {
-            Some(message) => self.arrive(event, &Event::Receive(message), reply),
-            None => {
-                *reply = Reply::Refused(Refusal::NoMessage);
-                Ok(())
-            }
+        let mut arrived = Event::Pass(0);
+        if !self.put_arrival(number, &mut arrived) {
+            *reply = Reply::Refused(Refusal::NoMessage);
+            return Ok(());
         }
+        self.arrive(event, &arrived, reply)
     }
 
     /// The site's event `arrived` comes to the site: unless its history is full, the site takes a step, and the world's
@@ -250,16 +251,22 @@ impl<E: KeepsEntry, R: KeepsEvent, M: KeepsMessage> World<E, R, M> {
         self.sites.get(site as usize)
     }
 
-    /// The message of a number, from 1 in the order of sending.
+    /// Puts the event by which the message of a number, from 1 in the order of sending, comes to a site in the place of
+    /// another. `false` if there is no such message.
     #[inline(always)]
-    fn message(&self, number: u32) -> Option<Message>
-        ensures { result ≡ message_at self.now.world.messages number }
+    fn put_arrival(&self, number: u32, event: &mut Event) -> bool
+        ensures some { OnTrue result (option_map Receive (message_at self.now.world.messages number)
+            ≡ Some event.new) }
+        ensures none { OnFalse result (option_map Receive (message_at self.now.world.messages number) ≡ None) }
     {
         if number == 0 {
-            return None;
+            return false;
         }
-        let kept = self.messages.get(number as usize - 1)?;
-        Some(kept.message(self.sites.as_slice()))
+        let Some(kept) = self.messages.get(number as usize - 1) else {
+            return false;
+        };
+        kept.arrive(self.sites.as_slice(), event);
+        true
     }
 
     /// Closes the world: each site reports its state, in order. A site that keeps no history reports no balances, no
