@@ -12,7 +12,7 @@ use crate::copy::copy_text;
 use crate::handles::{BankHandle, Handle};
 use crate::statuses::{BAD_LINE, NO_MEMORY, NONE, OK};
 use rb_history::{LineFault, append_reply, open_command, open_config};
-use rb_world::LeanWorld;
+use rb_world::{LeanWorld, WorldEvent};
 use std::alloc::Global;
 use std::marker::Model;
 
@@ -61,7 +61,8 @@ impl Bank {
             × (self.new ≡ next_bank self.old command))
             (λ why. why ≡ Bad → (command_on self.old.world.settings line.now ≡ None) × (self.new ≡ self.old)) }
     {
-        let command = open_command(alloc, self.world.config(), line)?;
+        let mut command = WorldEvent::Deliver(0, 0);
+        open_command(alloc, self.world.config(), line, &mut command)?;
         let Ok(reply) = self.world.step(command) else {
             return Err(LineFault::OutOfMemory);
         };

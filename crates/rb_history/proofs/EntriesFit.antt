@@ -1,9 +1,9 @@
 -- An event or an entry that is read fits, and so does its id.
 use Rattle.rb_history.proofs.Words.{ReadEventsFit, event_beside, event_named, event_or, event_to, has_bank, is_receipt, asked_entry_of_line}
 use Rattle.rb_history.proofs.Words.{asked_entry_of_object, asked_event_at, asked_event_of_line, entry_in, entry_with_id, event_with_id}
-use Rattle.rb_history.proofs.Words.{field, IsEvent, IsReply, ReadEntriesFit, AskedEntry, AskedEvent, IsAsked, id_at, is_id, may_be_asked}
-use Rattle.rb_history.proofs.Words.{may_have_id, event_at, recorded_of, reply_parsed, number_below, size_of, LineFault, Bad, Settings}
-use Rattle.rb_history.proofs.Words.{Entry, Data, as_str, get, read, Err, IfSome, List, None, Ok, Option, Result, Some, [], ap, codes, inl}
+use Rattle.rb_history.proofs.Words.{IsEvent, IsReply, ReadEntriesFit, AskedEntry, AskedEvent, IsAsked, id_at, is_id, may_be_asked}
+use Rattle.rb_history.proofs.Words.{may_have_id, event_at, recorded_of, reply_parsed, size_of, LineFault, Bad, Settings}
+use Rattle.rb_history.proofs.Words.{Entry, Data, as_str, read, Err, IfSome, List, None, Ok, Option, Result, Some, [], ap, codes, inl}
 use Rattle.rb_history.proofs.Words.{inr, refl, true, ℕ, ◌<◌, ◌==◌, ◌∙◌, ◌∷◌, ◌≡◌, IfOk, MatchResult, option_and_then, ◌⊎◌}
 use Rattle.rb_history.proofs.FitsLaws.{fits_choice, fits_field, fits_if, fits_map, fits_next, fits_some, fits_then, number_at}
 use Rattle.rb_history.proofs.ReceiptsFit.{event, recorded}

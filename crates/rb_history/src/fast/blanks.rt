@@ -1,6 +1,6 @@
 //! Lines without the blanks between their tokens: many programs write a space after a colon and a comma. `None` says
 //! nothing of a line.
-ghost use Rattle.std.specs.Prelude.{◌≡◌, ◌<◌, ◌≤◌, IfSome, length, slice_index, string_bytes, take};
+ghost use Rattle.std.specs.Prelude.{◌≡◌, ◌<◌, ◌≤◌, IfSome, length, slice_index, take};
 ghost use Rattle.json.specs.Lex.{between, lex, tokens};
 ghost use Rattle.json.specs.Word.{is_operator, is_space};
 ghost use Rattle.rb_history.specs.Blanks.{AreTokens, JoinsTokens};
@@ -139,16 +139,14 @@ fn join_tokens(alloc: Global, line: &[u8]) -> Option<Vec<u8>>
     Some(text)
 }
 
-/// A line without the blanks between its tokens, if it has some, and neither an escape nor a word.
-pub fn without_blanks(alloc: Global, line: &str) -> Option<String>
-    ensures { IfSome result (λ text. tokens (string_bytes text) ≡ tokens line.now) }
+/// The bytes of a line without the blanks between its tokens, if it has some, and neither an escape nor a word.
+pub fn without_blanks(alloc: Global, line: &str) -> Option<Vec<u8>>
+    ensures { IfSome result (λ text. tokens text.items ≡ tokens line.now) }
 {
     let text = join_tokens(alloc, line.as_bytes())?;
     if text.len() == line.len() {
-        return None;
-    }
-    match String::from_utf8(text) {
-        Ok(text) => Some(text),
-        Err(_) => None,
+        None
+    } else {
+        Some(text)
     }
 }

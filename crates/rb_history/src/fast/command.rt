@@ -1,26 +1,27 @@
 //! Lines of commands as programs spell them: the site first or last. `None` says nothing of a line.
 //!
-//! A large result is put into memory and read again, 60 to 140 instructions: so balances and deliveries are parsed in
-//! place, a request by one call with a small result, an application, a balance as of a position and a statement with
-//! small results too, and any other event in its place. The code that is inlined stays small, since a function that
-//! would grow very large isn't inlined, whatever it asks for. With deposits in place too a balance takes 5 % more, and
-//! a refusal 8 %.
+//! A large result is put into memory, read again and copied, 60 to 140 instructions: so each command is put in the
+//! place where it is read. Balances and deliveries are parsed there too, a request and an application by calls with
+//! small results, and any other event in its own place first. The code that is inlined stays small, since a function
+//! that would grow very large isn't inlined, whatever it asks for.
 ghost use Rattle.std.specs.Prelude.{◌≡◌, ◌++◌, Some, IfSome, codes, decimal};
+ghost use Rattle.std.specs.Bool.{OnTrue};
 ghost use Rattle.rb_history.specs.Beginnings.{BeginsWithRequest};
 ghost use Rattle.rb_history.specs.Commands.{command_at};
 ghost use Rattle.rb_history.specs.SitedLines.{EndsLine, behind_site};
 ghost use Rattle.rb_site.specs.Worlds.{IsCommand, IsOwn};
-ghost use Rattle.rb_site.specs.declared.event.Event.TheVariants.{Apply, AsOf, Balance, Statement, Submit};
+ghost use Rattle.rb_site.specs.declared.event.Event.TheVariants.{Apply, Balance, Submit};
 ghost use Rattle.rb_site.specs.declared.world_event.WorldEvent.TheVariants.{At, Deliver};
 
 use crate::fast::blanks::without_blanks;
 use crate::fast::event::{
-    parse_apply, parse_as_of, parse_balance, parse_cancel, parse_deposit, parse_interest,
-    parse_own, parse_statement, parse_transfer, parse_withdraw,
+    parse_apply, parse_balance, parse_cancel, parse_deposit, parse_interest, parse_own,
+    parse_transfer, parse_withdraw,
 };
 use crate::fast::number::{parse_u8, parse_u32};
 use crate::fast::scan::parse_prefix;
 use crate::keys::{behind_quote, spell};
+use rb_lines::text_on;
 use rb_money::{Config, Place};
 use rb_scratch::Request;
 use rb_shadow::OpName;
@@ -78,7 +79,7 @@ fn parse_first_site(text: &str) -> Option<(Option<u8>, &str)>
 
 /// A balance with its site last, from its key on: the site and the account.
 #[inline(always)]
-pub fn parse_balance_at(config: &Config, text: &str) -> Option<(u8, Place)>
+fn parse_balance_at(config: &Config, text: &str) -> Option<(u8, Place)>
     ensures { IfSome result (λ p. command_at config.now (codes "{\"" ++ text.now) ≡ Some (At p.0 (Balance p.1))) }
 {
     // For a fact alone: its settings are those of a configuration.
@@ -88,9 +89,10 @@ pub fn parse_balance_at(config: &Config, text: &str) -> Option<(u8, Place)>
     Some((site, account))
 }
 
-/// An application with its site last, from its key on: the site and the operation's name.
-#[inline(always)]
-pub fn parse_apply_at(config: &Config, text: &str) -> Option<(u8, OpName)>
+/// An application with its site last, from its key on: the site and the operation's name. A call of its own, as each
+/// command's reader that isn't short.
+#[inline(never)]
+fn parse_apply_at(config: &Config, text: &str) -> Option<(u8, OpName)>
     ensures { IfSome result (λ p. command_at config.now (codes "{\"" ++ text.now) ≡ Some (At p.0 (Apply p.1))) }
 {
     // For a fact alone: its settings are those of a configuration.
@@ -100,34 +102,9 @@ pub fn parse_apply_at(config: &Config, text: &str) -> Option<(u8, OpName)>
     Some((site, name))
 }
 
-/// A balance as of a position with its site last, from its key on: the site, the account and the position.
-#[inline(always)]
-pub fn parse_as_of_at(config: &Config, text: &str) -> Option<(u8, Place, u32)>
-    ensures { IfSome result (λ p. command_at config.now (codes "{\"" ++ text.now) ≡ Some (At p.0 (AsOf p.1 p.2))) }
-{
-    // For a fact alone: its settings are those of a configuration.
-    let _sites = config.sites();
-    let (account, position, rest) = parse_as_of(config, text)?;
-    let site = parse_last_site(rest)?;
-    Some((site, account, position))
-}
-
-/// A statement, from the object's first key on: the site and the account.
-#[inline(always)]
-pub fn parse_statement_at(config: &Config, line: &str) -> Option<(u8, Place)>
-    ensures { IfSome result (λ p. command_at config.now (codes "{\"" ++ line.now) ≡ Some (At p.0 (Statement p.1))) }
-{
-    // For a fact alone: its settings are those of a configuration.
-    let _sites = config.sites();
-    let (first, text) = parse_first_site(line)?;
-    let (account, rest) = parse_statement(config, text)?;
-    let site = parse_site(first, rest)?;
-    Some((site, account))
-}
-
 /// A delivery, from its key on: the site and the message's number.
 #[inline(always)]
-pub fn parse_delivery(config: &Config, first: Option<u8>, text: &str) -> Option<(u8, u32)>
+fn parse_delivery(config: &Config, first: Option<u8>, text: &str) -> Option<(u8, u32)>
     ensures { IfSome result
         (λ p. command_at config.now (codes "{\"" ++ behind_site first text.now) ≡ Some (Deliver p.0 p.1)) }
 {
@@ -136,40 +113,33 @@ pub fn parse_delivery(config: &Config, first: Option<u8>, text: &str) -> Option<
     Some((site, message))
 }
 
-/// A request with its site, if its member is parsed.
+/// A request with its site last, if its member is parsed.
 #[inline(always)]
-fn sited(
-    config: &Config,
-    first: Option<u8>,
-    text: &str,
-    parsed: Option<(Request, &str)>,
-) -> Option<(u8, Request)>
+fn sited(config: &Config, text: &str, parsed: Option<(Request, &str)>) -> Option<(u8, Request)>
     requires { IfSome parsed (λ p. BeginsWithRequest config.now p.0 text.now p.1.now) }
-    ensures { IfSome result
-        (λ p. command_at config.now (codes "{\"" ++ behind_site first text.now) ≡ Some (At p.0 (Submit p.1))) }
+    ensures { IfSome result (λ p. command_at config.now (codes "{\"" ++ text.now) ≡ Some (At p.0 (Submit p.1))) }
 {
     // For a fact alone: its settings are those of a configuration.
     let _sites = config.sites();
     let Some((request, rest)) = parsed else {
         return None;
     };
-    let site = parse_site(first, rest)?;
+    let site = parse_last_site(rest)?;
     Some((site, request))
 }
 
-/// A request and its site, from the object's first key on. Each kind returns where it is parsed,
+/// A request with its site last, from its key on: the site and the request. Each kind returns where it is parsed,
 /// since a result of several kinds would be put together from the parts of all.
 #[inline(never)]
-pub fn parse_request_at(config: &Config, line: &str) -> Option<(u8, Request)>
-    ensures { IfSome result (λ p. command_at config.now (codes "{\"" ++ line.now) ≡ Some (At p.0 (Submit p.1))) }
+fn parse_request_at(config: &Config, text: &str) -> Option<(u8, Request)>
+    ensures { IfSome result (λ p. command_at config.now (codes "{\"" ++ text.now) ≡ Some (At p.0 (Submit p.1))) }
 {
-    let (first, text) = parse_first_site(line)?;
     match text.as_bytes().first() {
-        Some(b'd') => sited(config, first, text, parse_deposit(config, text)),
-        Some(b'w') => sited(config, first, text, parse_withdraw(config, text)),
-        Some(b'i') => sited(config, first, text, parse_interest(config, text)),
-        Some(b't') => sited(config, first, text, parse_transfer(config, text)),
-        Some(b'c') => sited(config, first, text, parse_cancel(config, text)),
+        Some(b'd') => sited(config, text, parse_deposit(config, text)),
+        Some(b'w') => sited(config, text, parse_withdraw(config, text)),
+        Some(b'i') => sited(config, text, parse_interest(config, text)),
+        Some(b't') => sited(config, text, parse_transfer(config, text)),
+        Some(b'c') => sited(config, text, parse_cancel(config, text)),
         _ => None,
     }
 }
@@ -188,26 +158,89 @@ fn parse_at(alloc: Global, config: &Config, line: &str, event: &mut Event) -> Op
     Some(site)
 }
 
-/// Any command in the usual spelling.
-pub fn parse_any(alloc: Global, config: &Config, line: &str) -> Option<WorldEvent>
-    ensures value { IfSome result (λ c. command_at config.now line.now ≡ Some c) }
-    ensures command { IfSome result IsCommand }
+/// Puts a command that comes seldom, from the object's first key on, in the place of another. `false` says nothing of
+/// the line.
+#[inline(never)]
+fn parse_seldom(alloc: Global, config: &Config, line: &str, command: &mut WorldEvent) -> bool
+    ensures { OnTrue result ((command_at config.now (codes "{\"" ++ line.now) ≡ Some command.new)
+        × IsCommand command.new) }
 {
-    let text = parse_prefix(line, "{\"")?;
     let mut event = Event::Pass(0);
-    if let Some(site) = parse_at(alloc, config, text, &mut event) {
-        return Some(WorldEvent::At(site, event));
+    if let Some(site) = parse_at(alloc, config, line, &mut event) {
+        *command = WorldEvent::At(site, event);
+        return true;
     }
-    let (first, text) = parse_first_site(text)?;
-    let (site, message) = parse_delivery(config, first, text)?;
-    Some(WorldEvent::Deliver(site, message))
+    let Some((first, text)) = parse_first_site(line) else {
+        return false;
+    };
+    let Some((site, message)) = parse_delivery(config, first, text) else {
+        return false;
+    };
+    *command = WorldEvent::Deliver(site, message);
+    true
 }
 
-/// The command of a line with blanks between its tokens.
-pub fn parse_spaced(alloc: Global, config: &Config, line: &str) -> Option<WorldEvent>
-    ensures value { IfSome result (λ c. command_at config.now line.now ≡ Some c) }
-    ensures command { IfSome result IsCommand }
+/// Puts the command of a line, from the object's first key on, in the place of another, if it is spelled as this
+/// program does, with the site last or first. `false` says nothing of the line.
+#[inline(always)]
+fn parse_usual(alloc: Global, config: &Config, text: &str, command: &mut WorldEvent) -> bool
+    ensures { OnTrue result ((command_at config.now (codes "{\"" ++ text.now) ≡ Some command.new)
+        × IsCommand command.new) }
 {
-    let joined = without_blanks(alloc, line)?;
-    parse_any(alloc, config, joined.as_str())
+    let key = text.as_bytes();
+    match (key.first(), key.get(2)) {
+        (Some(b'b'), Some(b'l')) => {
+            let Some((site, account)) = parse_balance_at(config, text) else {
+                return false;
+            };
+            *command = WorldEvent::At(site, Event::Balance(account));
+        }
+        (Some(b'd'), Some(b'l')) => {
+            let Some((site, message)) = parse_delivery(config, None, text) else {
+                return false;
+            };
+            *command = WorldEvent::Deliver(site, message);
+        }
+        (Some(b'a'), Some(b'p')) => {
+            let Some((site, name)) = parse_apply_at(config, text) else {
+                return false;
+            };
+            *command = WorldEvent::At(site, Event::Apply(name));
+        }
+        (Some(b'a') | Some(b'b') | Some(b'p') | Some(b's'), _) => {
+            return parse_seldom(alloc, config, text, command);
+        }
+        _ => {
+            let Some((site, request)) = parse_request_at(config, text) else {
+                return false;
+            };
+            *command = WorldEvent::At(site, Event::Submit(request));
+        }
+    }
+    true
+}
+
+/// Puts the command of a line in the place of another, as `parse_usual` does.
+#[inline(always)]
+pub fn parse_line(alloc: Global, config: &Config, line: &str, command: &mut WorldEvent) -> bool
+    ensures { OnTrue result ((command_at config.now line.now ≡ Some command.new) × IsCommand command.new) }
+{
+    match parse_prefix(line, "{\"") {
+        Some(text) => parse_usual(alloc, config, text, command),
+        None => false,
+    }
+}
+
+/// The same of a line with blanks between its tokens.
+#[inline(always)]
+pub fn parse_spaced(alloc: Global, config: &Config, line: &str, command: &mut WorldEvent) -> bool
+    ensures { OnTrue result ((command_at config.now line.now ≡ Some command.new) × IsCommand command.new) }
+{
+    let Some(joined) = without_blanks(alloc, line) else {
+        return false;
+    };
+    match text_on(joined.as_slice()) {
+        Some(text) => parse_line(alloc, config, text, command),
+        None => false,
+    }
 }

@@ -1,117 +1,68 @@
 //! Lines of commands.
-ghost use Rattle.std.specs.Prelude.{◌≡◌, ◌++◌, IfOk, codes};
+ghost use Rattle.std.specs.Prelude.{◌≡◌, IfOk, MatchResult, None, OnOk, Some};
 ghost use Rattle.rb_site.specs.Worlds.{IsCommand};
 ghost use Rattle.rb_history.specs.Commands.{command_at};
 ghost use Rattle.rb_history.specs.Lines.{Gives};
+ghost use Rattle.rb_history.specs.declared.fault.LineFault.TheVariants.{Bad};
 
-use crate::fast::command::{
-    parse_any, parse_apply_at, parse_as_of_at, parse_balance_at, parse_delivery, parse_request_at,
-    parse_spaced, parse_statement_at,
-};
-use crate::fast::scan::parse_prefix;
+use crate::fast::command::{parse_line, parse_spaced};
 use crate::fault::LineFault;
 use crate::read::command::command;
 use crate::read::value::read_value;
 use rb_money::Config;
-use rb_site::{Event, WorldEvent};
+use rb_site::WorldEvent;
 use std::alloc::Global;
 
-/// The command that a line is, read from a copy without blanks, as it is or by its JSON value.
+/// The command that a line is: `Bad` if it isn't one, `OutOfMemory` if there was no memory to read it.
+///
+/// An account that the configuration doesn't have is read as `Place::NOWHERE`. A batch may have any number of requests.
+/// The line is read from a copy without blanks, or by its JSON value: `open_command` reads what is spelled as this
+/// program does first, in one pass.
 #[inline(never)]
-fn read_any_command(alloc: Global, config: &Config, line: &str) -> Result<WorldEvent, LineFault>
+pub fn read_command(alloc: Global, config: &Config, line: &str) -> Result<WorldEvent, LineFault>
     ensures value { Gives result (command_at config.now line.now) }
     ensures command { IfOk result IsCommand }
 {
-    if let Some(command) = parse_spaced(alloc, config, line) {
-        return Ok(command);
-    }
-    if let Some(command) = parse_any(alloc, config, line) {
-        return Ok(command);
+    let mut spaced = WorldEvent::Deliver(0, 0);
+    if parse_spaced(alloc, config, line, &mut spaced) {
+        return Ok(spaced);
     }
     let value = read_value(alloc, line)?;
     command(alloc, config, &value)
 }
 
-/// The command of a line whose first key begins with an `a`, from that key on: an application, a balance as of a
-/// position, or any.
+/// Puts the command that `read_command` reads in the place of another. A call, so that no usual line clears the place
+/// of its result.
 #[inline(never)]
-fn read_apply_or_as_of(
+fn read_other_into(
     alloc: Global,
     config: &Config,
     line: &str,
-    text: &str,
-) -> Result<WorldEvent, LineFault>
-    requires { line.now ≡ codes "{\"" ++ text.now }
-    ensures value { Gives result (command_at config.now line.now) }
-    ensures command { IfOk result IsCommand }
+    command: &mut WorldEvent,
+) -> Result<(), LineFault>
+    ensures value { MatchResult result (λ _. command_at config.now line.now ≡ Some command.new)
+        (λ why. why ≡ Bad → command_at config.now line.now ≡ None) }
+    ensures command { OnOk result (IsCommand command.new) }
 {
-    if let Some((site, name)) = parse_apply_at(config, text) {
-        return Ok(WorldEvent::At(site, Event::Apply(name)));
-    }
-    if let Some((site, account, position)) = parse_as_of_at(config, text) {
-        return Ok(WorldEvent::At(site, Event::AsOf(account, position)));
-    }
-    read_any_command(alloc, config, line)
+    *command = read_command(alloc, config, line)?;
+    Ok(())
 }
 
-/// The command of a line that is no request, from its first key on: a statement, a batch, a pass, or any.
-#[inline(never)]
-fn read_no_request(
+/// Puts the command that a line is in the place of another. Errors: those of `read_command`, which reads what isn't
+/// spelled as this program does. A result would be copied three times, 100 instructions a line.
+#[inline(always)]
+pub fn read_command_into(
     alloc: Global,
     config: &Config,
     line: &str,
-    text: &str,
-) -> Result<WorldEvent, LineFault>
-    requires { line.now ≡ codes "{\"" ++ text.now }
-    ensures value { Gives result (command_at config.now line.now) }
-    ensures command { IfOk result IsCommand }
+    command: &mut WorldEvent,
+) -> Result<(), LineFault>
+    ensures value { MatchResult result (λ _. command_at config.now line.now ≡ Some command.new)
+        (λ why. why ≡ Bad → command_at config.now line.now ≡ None) }
+    ensures command { OnOk result (IsCommand command.new) }
 {
-    match text.as_bytes().first() {
-        Some(b's') => {
-            if let Some((site, account)) = parse_statement_at(config, text) {
-                return Ok(WorldEvent::At(site, Event::Statement(account)));
-            }
-        }
-        Some(b'b') | Some(b'p') => {
-            if let Some(command) = parse_any(alloc, config, line) {
-                return Ok(command);
-            }
-        }
-        _ => {}
+    if parse_line(alloc, config, line, command) {
+        return Ok(());
     }
-    read_any_command(alloc, config, line)
-}
-
-/// The command that a line is: `Bad` if it isn't one, `OutOfMemory` if there was no memory to read it.
-///
-/// An account that the configuration doesn't have is read as `Place::NOWHERE`. A batch may have any number of requests.
-pub fn read_command(alloc: Global, config: &Config, line: &str) -> Result<WorldEvent, LineFault>
-    ensures value { Gives result (command_at config.now line.now) }
-    ensures command { IfOk result IsCommand }
-{
-    let Some(text) = parse_prefix(line, "{\"") else {
-        return read_any_command(alloc, config, line);
-    };
-    let key = text.as_bytes().first();
-    if let Some(b'b') = key {
-        if let Some((site, account)) = parse_balance_at(config, text) {
-            return Ok(WorldEvent::At(site, Event::Balance(account)));
-        }
-        // Not a batch.
-        if let Some(b'l') = text.as_bytes().get(2) {
-            return read_any_command(alloc, config, line);
-        }
-    }
-    if let Some(b'd') = key {
-        if let Some((site, message)) = parse_delivery(config, None, text) {
-            return Ok(WorldEvent::Deliver(site, message));
-        }
-    }
-    if let Some(b'a') = key {
-        return read_apply_or_as_of(alloc, config, line, text);
-    }
-    if let Some((site, request)) = parse_request_at(config, text) {
-        return Ok(WorldEvent::At(site, Event::Submit(request)));
-    }
-    read_no_request(alloc, config, line, text)
+    read_other_into(alloc, config, line, command)
 }

@@ -44,6 +44,7 @@ fn site(value: &Value) -> Option<u8>
 }
 
 /// A command, from an object of its site and one more member.
+#[inline(never)]
 pub fn command(alloc: Global, config: &Config, value: &Value) -> Result<WorldEvent, LineFault>
     ensures value { Gives result (command_of config.now (view value.now)) }
     ensures command { IfOk result IsCommand }

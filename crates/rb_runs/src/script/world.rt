@@ -9,7 +9,7 @@ ghost use Rattle.rb_runs.specs.ScriptSession.{TakesCommand};
 
 use rb_history::{LineFault, open_command, open_config};
 use rb_site::{KeepsEntry, Reply};
-use rb_world::{ErasedEvent, PlacedMessage, World};
+use rb_world::{ErasedEvent, PlacedMessage, World, WorldEvent};
 use std::alloc::Global;
 
 /// The world before any event of the configuration on a line.
@@ -37,6 +37,7 @@ pub fn take_command<E: KeepsEntry>(
         (λ _. TakesCommand (command_on world.old.settings line.now) world.old world.new reply.new)
         (λ why. why ≡ Bad → command_on world.old.settings line.now ≡ None) }
 {
-    let command = open_command(alloc, world.config(), line)?;
+    let mut command = WorldEvent::Deliver(0, 0);
+    open_command(alloc, world.config(), line, &mut command)?;
     Ok(world.answer(&command, reply)?)
 }
