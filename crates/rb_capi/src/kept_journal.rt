@@ -66,7 +66,7 @@ impl KeptJournal {
         ensures { MatchResult result (λ journal. OpensJournal config.now me resend file.now journal)
             (EndsOnLine me [] file.now config.now) }
     {
-        let bank = BankName::none(alloc);
+        let bank = BankName::none();
         let mut opened = open_on_line::<AllEvents>(alloc, config, file, me, bank, resend)?;
         match opened.begin(Planned::new(alloc, file), file) {
             Ok(journal) => {

@@ -59,7 +59,7 @@ impl KeptSite {
         ensures no_site { result ≡ Err OpenFault.NoSite → (s : Settings) × (config_on config.now ≡ Some s)
             × (s.sites ≤ me) }
     {
-        let node = Node::open(alloc, config, me, BankName::none(alloc))?;
+        let node = Node::open(alloc, config, me, BankName::none())?;
         let entries = match node.config_line() {
             Ok(line) => line,
             Err(_) => {

@@ -65,7 +65,7 @@ fn copy_reason(
 fn copy_reason_at_site(alloc: Global, config: &Config, line: &[u8], out: &mut [u8]) -> usize
     ensures { TellsWhy (length line.now) out.old out.new result }
 {
-    match reason_at_site(alloc, config, &BankName::none(alloc), line) {
+    match reason_at_site(alloc, config, &BankName::none(), line) {
         Some(reason) => copy_text(reason.as_bytes(), out),
         None => copy_text(b"out of memory", out),
     }

@@ -1,41 +1,43 @@
 //! Ids of requests, which the lines of an event and of its entry may have. No id is an empty text and not an `Option`,
-//! so that one buffer serves line after line, and a site without ids takes no memory for them.
-ghost use Rattle.std.specs.Prelude.{◌≡◌, [], ◌&&◌, true, OnErr, OnOk};
+//! so that one place serves line after line.
+ghost use Rattle.std.specs.Prelude.{◌≡◌, [], ◌&&◌, true};
 ghost use Rattle.std.specs.List.{list_all};
 ghost use Rattle.rb_history.specs.Ids.{IsIdOrNone, is_id, is_id_byte, may_be_asked, may_have_id};
 
 use rb_site::{Entry, Event, Reply};
-use std::alloc::{AllocError, Global};
 use std::marker::Model;
 
 /// The most bytes that an id has.
 pub const MOST_ID_BYTES: usize = 64;
 
-/// The id of a request, or none: 1 to [`MOST_ID_BYTES`] bytes of `A-Z a-z 0-9 . _ : -`. It keeps its memory from one id
-/// to the next.
+/// The id of a request, or none: 1 to [`MOST_ID_BYTES`] bytes of `A-Z a-z 0-9 . _ : -`, at the front of its space. It
+/// takes no block of memory: one for each line that has an id took 250 instructions.
 #[derive(Drop)]
 pub struct RequestId {
-    bytes: Vec<u8>,
+    bytes: [u8; MOST_ID_BYTES],
+    len: usize,
 }
 
 impl Model for RequestId {
-    ghost use Rattle.std.specs.Prelude.{List, ℕ};
+    ghost use Rattle.std.specs.Prelude.{List, ℕ, ◌≤◌, take};
     ghost use Rattle.rb_history.specs.Ids.{IsIdOrNone};
+    ghost use Rattle.rb_history.specs.declared.id.TheConstants.{MOST_ID_BYTES};
 
     ghost Value = { List ℕ };
 
-    ghost view = { λ id. id.bytes.items };
+    ghost view = { λ id. take id.len id.bytes };
 
-    ghost invariant = { λ id. IsIdOrNone id.bytes.items };
+    ghost invariant = { λ id. (id.len ≤ MOST_ID_BYTES) × IsIdOrNone (take id.len id.bytes) };
 }
 
 impl RequestId {
-    /// No id. This takes no memory.
-    pub fn none(alloc: Global) -> RequestId
+    /// No id.
+    pub fn none() -> RequestId
         ensures { result ≡ [] }
     {
         RequestId {
-            bytes: Vec::new(alloc),
+            bytes: [0; MOST_ID_BYTES],
+            len: 0,
         }
     }
 
@@ -44,36 +46,39 @@ impl RequestId {
         ensures same { result.now ≡ self.now }
         ensures id { IsIdOrNone self.now }
     {
-        self.bytes.as_slice()
+        &self.bytes[..self.len]
     }
 
     /// No id takes the place of what was there.
     pub fn clear(&mut self)
         ensures { self.new ≡ [] }
     {
-        self.bytes.clear();
+        self.len = 0;
     }
 
-    /// An id, or no id, takes the place of what was there. After an `Err`, out of memory, there is no id.
-    pub fn set(&mut self, text: &str) -> Result<(), AllocError>
+    /// An id, or no id, takes the place of what was there.
+    pub fn set(&mut self, text: &str)
         requires { IsIdOrNone text.now }
-        ensures ok { OnOk result (self.new ≡ text.now) }
-        ensures err { OnErr result (self.new ≡ []) }
+        ensures { self.new ≡ text.now }
     {
-        self.bytes.clear();
-        self.bytes.extend_from_slice(text.as_bytes())
+        let bytes = text.as_bytes();
+        self.bytes[..bytes.len()].copy_from_slice(bytes);
+        self.len = bytes.len();
     }
 }
 
-/// Whether an id may have the byte.
-fn is_id_byte(b: u8) -> bool
+/// Whether an id may have the byte. The tests go down, since most are small letters and digits, which a colon follows.
+#[inline(always)]
+pub(crate) fn is_id_byte(b: u8) -> bool
     ensures { result ≡ is_id_byte b }
 {
-    match b {
-        b'A'..=b'Z' | b'a'..=b'z' | b'0'..=b'9' => true,
-        b'.' | b'_' | b':' | b'-' => true,
-        _ => false,
+    if b >= b'a' {
+        return b <= b'z';
     }
+    if b >= b'0' {
+        return b <= b':' || b'A' <= b && b <= b'Z' || b == b'_';
+    }
+    b == b'-' || b == b'.'
 }
 
 /// Whether each of the bytes is one that an id may have.

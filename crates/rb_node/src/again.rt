@@ -60,12 +60,12 @@ fn append_refusal(out: &mut Vec<u8>, id: &RequestId, number: u64) -> Result<(), 
 }
 
 /// Adds the answer to a line of another bank: refusal 26. `OutOfMemory` leaves the answers as they were.
-pub(crate) fn append_other_bank(alloc: Global, answers: &mut Vec<u8>) -> Result<(), LineFault>
+pub(crate) fn append_other_bank(answers: &mut Vec<u8>) -> Result<(), LineFault>
     ensures added { OnOk result (answers.new.items ≡ answers.old.items ++ line_of other_bank_json) }
     ensures err { OnErr result (answers.new.items ≡ answers.old.items) }
     ensures memory { IfErr result (λ why. why ≡ LineFault.OutOfMemory) }
 {
-    let no_id = RequestId::none(alloc);
+    let no_id = RequestId::none();
     let before = answers.len();
     let done = append_refusal(answers, &no_id, OTHER_BANK_REFUSED);
     Ok(whole_or_none(done, answers, before)?)

@@ -167,7 +167,7 @@ impl AskedSite {
     {
         reserve_one(&mut self.asked)?;
         self.site.record_unchanging(event, reply)?;
-        let no_id = RequestId::none(self.alloc);
+        let no_id = RequestId::none();
         note_entry(&mut self.asked, &no_id, event, reply);
         Ok(())
     }

@@ -242,10 +242,10 @@ impl<M: Records> Node<M> {
         ensures not_text { is_utf8 line.now ≡ false → result ≡ Err LineFault.Bad }
         ensures err { OnErr result ((answers.new.items ≡ answers.old.items) × (entries.new.items ≡ entries.old.items)) }
     {
-        let mut id = RequestId::none(self.alloc);
+        let mut id = RequestId::none();
         match self.event_of(line, &mut id) {
             Ok(Some(event)) => self.answer_whole(&id, event, answers, entries),
-            Ok(None) => append_other_bank(self.alloc, answers),
+            Ok(None) => append_other_bank(answers),
             Err(LineFault::Bad) => self.answer_question(line, answers),
             Err(LineFault::OutOfMemory) => Err(LineFault::OutOfMemory),
         }

@@ -82,7 +82,7 @@ impl<M: Records> Node<M> {
             × (asked_entry_on self.old.site.settings line.now ≡ Some (self.old.site.me, x))
             × IsNotNext self.old.site x }
     {
-        let mut id = RequestId::none(self.alloc);
+        let mut id = RequestId::none();
         let (entry, _written) = self.entry_of(line, &mut id)?;
         self.replay_entry(&id, &entry)
     }
@@ -101,7 +101,7 @@ impl<M: Records> Node<M> {
             × IsReadBack self.old.site.settings self.old.site.me x
             × IsNotNext self.old.site x }
     {
-        let mut id = RequestId::none(self.alloc);
+        let mut id = RequestId::none();
         let (entry, written) = self.entry_of(line, &mut id)?;
         if written {
             self.written.clear();

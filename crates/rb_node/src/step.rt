@@ -129,7 +129,7 @@ impl<M: Records> Node<M> {
             × (take (length entries.old.items) entries.new.items ≡ entries.old.items)) }
     {
         append(text, comma)?;
-        let none = RequestId::none(self.alloc);
+        let none = RequestId::none();
         let event = Event::Apply(name);
         let mut reply = Reply::Refused(Refusal::HistoryFull);
         self.site.answer(&none, &event, &mut self.sent, &mut reply)?;

@@ -29,7 +29,7 @@ fn replay_alone(
     let (_, end) = count_lines(bytes);
     let mut reader = FromBytes::new(&bytes[..end]);
     let mut buffers = Buffers::new(alloc);
-    let bank = BankName::none(alloc);
+    let bank = BankName::none();
     let (opened, _number) = open_site::<FromBytes, AllEvents>(
         alloc,
         &mut buffers,

@@ -54,7 +54,7 @@ fn reason_of_entry<M: Records>(alloc: Global, node: &Node<M>, line: &[u8]) -> Op
 
 /// The site whose entry is on a line, if it is an entry and memory suffices to read it.
 fn site_of(alloc: Global, config: &Config, line: &[u8]) -> Option<u8> {
-    let mut id = RequestId::none(alloc);
+    let mut id = RequestId::none();
     let mut entry = Entry {
         event: Event::Pass(0),
         reply: Reply::Taken(0),

@@ -1,5 +1,5 @@
 //! A site over a file of the operating system.
-ghost use Rattle.std.specs.Prelude.{◌≡◌, ◌≢◌, ◌⊎◌, ◌≤◌, [], Err, IfErr, IfOk, IfSome, None, string_bytes, true};
+ghost use Rattle.std.specs.Prelude.{◌≡◌, ◌⊎◌, ◌≤◌, Err, IfOk, IfSome, None, string_bytes, true};
 ghost use Rattle.std.specs.Process.{exit_status};
 ghost use Rattle.rb_lines.specs.declared.limits.TheConstants.{MOST_READS};
 ghost use Rattle.rb_run_site.specs.declared.fault.SiteFault.TheVariants.{Read as NotRead};
@@ -125,32 +125,16 @@ fn most_resent(resend: Option<u32>) -> usize
     }
 }
 
-/// The bank of this name, or one without a name, which needs no memory.
-fn bank_named(alloc: Global, name: Option<&str>) -> Result<BankName, AllocError>
+/// The bank of this name, or one without a name.
+fn bank_named(name: Option<&str>) -> BankName
     requires { IfSome name (λ name. is_id name.now ≡ true) }
-    ensures bank { IfOk result (λ bank. bank ≡ bank_name_of name.entry) }
-    ensures named { IfErr result (λ _. bank_name_of name.entry ≢ []) }
+    ensures { result ≡ bank_name_of name.entry }
 {
-    let mut bank = BankName::none(alloc);
+    let mut bank = BankName::none();
     if let Some(name) = name {
-        bank.set(name)?;
+        bank.set(name);
     }
-    Ok(bank)
-}
-
-/// There was no memory for the bank's name, so the journal isn't opened.
-fn without_memory(rt: &HostRuntime, journal: &str) -> RanOnDisk
-    ensures none { result.disk ≡ None }
-    ensures ended { result.ended ≡ Err SiteFault.OutOfMemory }
-    ensures status { IsEndOfSite result.ended (exit_status result.code) }
-{
-    let ended = Err(SiteFault::OutOfMemory);
-    let code = end_of_site(rt, journal, ended, None);
-    RanOnDisk {
-        disk: None,
-        ended,
-        code,
-    }
+    bank
 }
 
 /// Runs a site of this bank that records the events of `M`, as `run_on_disk` does.
@@ -219,9 +203,7 @@ pub fn run_on_disk<S: Source>(
     ensures read { result.ended ≡ Err NotRead → (S.failed reader.new ≡ true) ⊎ (S.calls reader.new ≡ MOST_READS) }
     ensures calls { S.calls reader.new ≤ MOST_READS }
 {
-    let Ok(bank) = bank_named(rt.alloc(), bank) else {
-        return without_memory(rt, journal);
-    };
+    let bank = bank_named(bank);
     match recorded {
         Record::Changes => run_recording::<S, Changes>(
             rt, reader, me, journal, is_new, resend, bank,

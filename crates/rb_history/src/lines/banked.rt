@@ -68,6 +68,6 @@ pub fn read_event_to(
     if is_receipt(&event) && !bank.as_bytes().is_empty() {
         return Ok(None);
     }
-    id.set(text)?;
+    id.set(text);
     Ok(Some(event))
 }

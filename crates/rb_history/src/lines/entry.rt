@@ -78,7 +78,7 @@ pub fn read_asked_entry(
         let site = put_spelled(alloc, config, line, entry, id)?;
         return Ok((site, false));
     };
-    id.set(text)?;
+    id.set(text);
     Ok((site, true))
 }
 
@@ -95,7 +95,7 @@ pub fn read_entry(
 {
     match parse_asked_entry(alloc, config, line, entry) {
         Some((_id, site)) => Ok(site),
-        None => put_spelled(alloc, config, line, entry, &mut RequestId::none(alloc)),
+        None => put_spelled(alloc, config, line, entry, &mut RequestId::none()),
     }
 }
 

@@ -36,7 +36,7 @@ pub fn append_migrated(
         event: Event::Pass(0),
         reply: Reply::Taken(0),
     };
-    let mut id = RequestId::none(alloc);
+    let mut id = RequestId::none();
     let (site, _written) = read_asked_entry(alloc, config, line, &mut entry, &mut id)?;
     Ok(append_asked_line(out, written, site, &id, &entry)?)
 }

@@ -18,7 +18,10 @@ pub fn put_id(value: &Value, id: &mut RequestId) -> Result<(), LineFault>
 {
     let member = value.get(key!(id)).ok_or(LineFault::Bad)?;
     match member.as_str() {
-        Some(text) if is_id(text) => Ok(id.set(text)?),
+        Some(text) if is_id(text) => {
+            id.set(text);
+            Ok(())
+        }
         _ => Err(LineFault::Bad),
     }
 }

@@ -12,15 +12,15 @@ use Rattle.rb_node.proofs.Index.{index_unchanging}
 use Rattle.rb_node.proofs.Recorded.{with-none}
 use Rattle.rb_node.proofs.Requests.{IsNotedAs, next_seen, same_site, still_keeps}
 use Rattle.rb_node.proofs.asked_site.AskedSite.record_unchanging.Goals as goal
-use Rattle.rb_node.proofs.asked_site.AskedSite.record_unchanging.Goals.{After-drop-no_id-inside}
+use Rattle.rb_node.proofs.asked_site.AskedSite.record_unchanging.Goals.{After-note_entry}
 
 -- the site without its ids, as clients see it
-the_site : (c : After-drop-no_id-inside) → without_ids c.args.self.now ≡ c.self.inside.site
+the_site : (c : After-note_entry) → without_ids c.args.self.now ≡ c.self.inside.site
 the_site c = ap (λ (v : SeenAsked). without_ids v) (sym c.self.view_is)
     ∙ same_site c.self.inside.site (map entry_erased c.self.inside.asked.items) (by_bytes c.self.inside.by_id.entries) c.self.invariant.0
 
 -- the event was noted without an id
-the_noted : (c : After-drop-no_id-inside) → IsNotedAs c.self.inside.site c.record_unchanging.new.self
+the_noted : (c : After-note_entry) → IsNotedAs c.self.inside.site c.record_unchanging.new.self
     (map entry_erased c.self.inside.asked.items) (map entry_erased c.note_entry.new.asked.items) (by_bytes c.self.inside.by_id.entries)
     (by_bytes c.self.inside.by_id.entries) [] c.args.event.now c.args.reply.now
 the_noted c = record {
