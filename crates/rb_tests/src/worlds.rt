@@ -6,7 +6,7 @@ ghost use Rattle.rb_site.specs.Worlds.{IsCommand};
 
 use crate::checks::holds;
 use crate::rows::row_named;
-use rb_history::{LineFault, read_command, read_config, write_reply};
+use rb_history::{LineFault, open_command, read_config, write_reply};
 use rb_ledger::Ledger;
 use rb_money::{Config, Place};
 use rb_shadow::Shadow;
@@ -16,13 +16,14 @@ use rb_world::World;
 use std::alloc::{AllocError, Global};
 use std::test::Fail;
 
-/// The commands on the lines after the configuration's.
+/// The commands on the lines after the configuration's, read as the program reads a script's.
 fn commands(alloc: Global, config: &Config, script: &str) -> Result<Vec<WorldEvent>, LineFault>
     ensures { IfOk result (λ events. All IsCommand events.items) }
 {
     let mut events = Vec::new(alloc);
     for line in script.lines().skip(1) {
-        let event = read_command(alloc, config, line)?;
+        let mut event = WorldEvent::Deliver(0, 0);
+        open_command(alloc, config, line.as_bytes(), &mut event)?;
         match events.push(event) {
             Ok(()) => {}
             Err(_) => return Err(LineFault::OutOfMemory),

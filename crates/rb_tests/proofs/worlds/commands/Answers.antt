@@ -9,4 +9,4 @@ pub loop-line-preserved : goal.loop-line-preserved
 loop-line-preserved c =
     let P : List WorldEvent → Type 0 = λ es. All IsCommand es in
     subst P (sym c.in-Ok.ensures.items) (All-append IsCommand c.loop-line.events.items _ c.loop-line.invariant
-    (All-cons IsCommand _ [] c.in_ok-event.ensures.command (All-nil IsCommand)))
+    (All-cons IsCommand _ [] c.in_ok-open_command.ensures.command (All-nil IsCommand)))
